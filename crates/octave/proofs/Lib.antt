@@ -1,0 +1,2 @@
+pub mod Reciprocal
+pub mod Words

@@ -1,0 +1,5 @@
+pub mod Halves
+pub mod Shifts
+pub mod Bits
+pub mod Judged
+pub mod Shares

@@ -1,0 +1,7 @@
+pub mod Unique
+pub mod Signed
+pub mod Floor
+pub mod Biased
+pub mod Scale
+pub mod Root
+pub mod Quotient
