@@ -1,0 +1,6 @@
+pub mod Rows
+pub mod Ticks
+pub mod Outcome
+pub mod Ready
+pub mod Worked
+pub mod Currents

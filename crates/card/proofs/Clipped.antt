@@ -1,0 +1,62 @@
+-- The clipped numbers of a record one by one, and what clipping makes sure of m_Lf.
+use mathlib.Core.Path.{_≡_, refl, ap, _∙_}
+use mathlib.Core.Bool.{Bool, true, false, _&&_}
+use mathlib.Core.List.{List, [], _∷_, _++_}
+use Prim.Native.Nat.{ℕ, zero, suc, _<_}
+use native.Mathlib.Omega.{arith}
+use native.Mathlib.Decide.{ℕ-discrete}
+use lib.Dec.{T}
+use lib.ListN.{length, getD, length-append, List·getD-append}
+use lib.Seq.{getD-at}
+use lib.Ieee.{nan, ofBits}
+use lib.Ieee.Positive.{positive, positive-finite}
+use lib.Ieee.Scale.{finite}
+use Rattle.card.specs.Record.{width, numberAt, finiteUp}
+use Rattle.card.specs.Limits.{tenth}
+use Rattle.card.specs.Clip.{clippedAt, clippedUp}
+use Rattle.card.specs.Judge.{GoodMlf}
+use Rattle.card.proofs.Range.{holds}
+use Rattle.card.proofs.Raise.{Raised, raised}
+
+pub and-true : (a b : Bool) → a && b ≡ true → (a ≡ true) × (b ≡ true)
+and-true true b e = (refl, e)
+and-true false b e = let z : _≡_ {A = ℕ} 0 1 = cc in absurd (omega arith)
+
+-- each number is finite where all are
+pub each-finite : (s : List ℕ) (n i : ℕ) → i < n → finiteUp s n ≡ true → finite (numberAt s i) ≡ true
+unfolding finiteUp
+each-finite s zero i h e = absurd (omega arith)
+each-finite s (suc n) i h e = of (ℕ-discrete i n) (λ l. each-finite s n i l (and-true (finiteUp s n) _ e .0))
+  where
+    of : Dec (i ≡ n) → (i < n → finite (numberAt s i) ≡ true) → finite (numberAt s i) ≡ true
+    of (yes d) g = ap (λ (k : ℕ). finite (numberAt s k)) d ∙ and-true (finiteUp s n) _ e .1
+    of (no d) g = g (omega arith)
+
+long : (s : List ℕ) (n : ℕ) → length (clippedUp s n) ≡ n
+unfolding clippedUp
+long s zero = refl
+long s (suc n) = let h = long s n in length-append (clippedUp s n) (clippedAt s n ∷ []) ∙ omega arith
+
+pub each-clipped : (s : List ℕ) (n i : ℕ) → i < n → getD (clippedUp s n) i nan ≡ clippedAt s i
+unfolding clippedUp
+each-clipped s zero i h = absurd (omega arith)
+each-clipped s (suc n) i h = of (ℕ-discrete i n) (λ l. each-clipped s n i l)
+  where
+    of : Dec (i ≡ n) → (i < n → getD (clippedUp s n) i nan ≡ clippedAt s i) → getD (clippedUp s n ++ (clippedAt s n ∷ [])) i nan ≡ clippedAt s i
+    of (yes d) g = rw d (getD-at (clippedUp s n) (clippedAt s n) [] nan n (long s n))
+    of (no d) g = List·getD-append (clippedUp s n) (clippedAt s n ∷ []) nan i (omega (arith, long s n)) ∙ g (omega arith)
+
+-- 0.1 is above zero
+tenth-positive : T (positive tenth)
+unfolding ofBits
+tenth-positive = tt
+
+mlf-raised : (s : List ℕ) → finiteUp s width ≡ true → Raised tenth (clippedAt s 6)
+unfolding clippedAt
+mlf-raised s f = raised tenth (numberAt s 6) tenth-positive (holds (each-finite s width 6 (omega arith) f))
+
+pub good-mlf : (s : List ℕ) → finiteUp s width ≡ true → GoodMlf (clippedUp s width)
+good-mlf s f =
+    let e = each-clipped s width 6 (omega arith) in
+    let r = mlf-raised s f in
+    record { number = rw e (positive-finite (clippedAt s 6) (r .number)); least = rw e (r .reached) }

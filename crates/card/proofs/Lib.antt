@@ -1,0 +1,10 @@
+pub mod Turn
+pub mod Whole
+pub mod Range
+pub mod Raise
+pub mod Clipped
+pub mod After
+pub mod Chain
+pub mod Sure
+pub mod Signs
+pub mod Unsigned

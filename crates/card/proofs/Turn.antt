@@ -1,0 +1,137 @@
+-- One turn of the clipping loop, over plain values.
+use mathlib.Core.Path.{_≡_, refl, sym, ap, ap₂, _∙_}
+use mathlib.Core.Bool.{Bool, true, false, cond, _&&_}
+use mathlib.Core.List.{List, [], _∷_, _++_}
+use Prim.Native.Nat.{ℕ, zero, suc, _+_, _*_, _^_, _≤_, _<_}
+use native.Mathlib.Nat.{pow-suc}
+use native.Mathlib.Numerals.{add-one}
+use native.Mathlib.Omega.{arith}
+use native.Mathlib.Decide.{ℕ-discrete}
+use lib.ListN.{length, take, set, length-set}
+use lib.Seq.{take-all, take-suc-set}
+use lib.Pow.{pow-mono}
+use lib.Ieee.{Float, ne}
+use lib.Ieee.Scale.{finite}
+use Rattle.float.specs.declared.Number.{Number}
+use Rattle.float.specs.declared.Number.the-variants.{Real, Nothing}
+use Rattle.float.specs.Word.{wordAt, numberIf, numberOf}
+use Rattle.card.specs.declared.Answer.the-variants as answer
+use Rattle.card.specs.declared.limits.Rule.{Rule}
+use Rattle.card.specs.Record.{width, numberAt, finiteUp}
+use Rattle.card.specs.Limits.{ruleOf, clipTo}
+use Rattle.card.specs.Clip.{clippedAt, clippedUp, maskUp, clipAt6}
+
+-- ---- what a word was read as
+real-if : (b : Bool) (x y : Float) → numberIf b y ≡ Real x → (b ≡ true) × (x ≡ y)
+real-if true x y e = (refl, cc)
+real-if false x y e = let z : _≡_ {A = ℕ} 0 1 = cc in absurd (omega arith)
+
+nothing-if : (b : Bool) (y : Float) → numberIf b y ≡ Nothing → b ≡ false
+nothing-if true y e = let z : _≡_ {A = ℕ} 0 1 = cc in absurd (omega arith)
+nothing-if false y e = refl
+
+module _ (s : List ℕ) (i w : ℕ) (n : Number) (ew : w ≡ wordAt s (8 * i)) (en : n ≡ numberOf w) where
+  read-at : numberIf (finite (numberAt s i)) (numberAt s i) ≡ n
+  read-at = ap numberOf (sym ew) ∙ sym en
+
+  pub is-real : (x : Float) → n ≡ Real x → (finite (numberAt s i) ≡ true) × (x ≡ numberAt s i)
+  is-real x e = real-if (finite (numberAt s i)) x (numberAt s i) (read-at ∙ e)
+
+  pub is-nothing : n ≡ Nothing → finite (numberAt s i) ≡ false
+  is-nothing e = nothing-if (finite (numberAt s i)) (numberAt s i) (read-at ∙ e)
+
+pub clipped-is : (s : List ℕ) (i : ℕ) (r : Rule) (x y : Float) → r ≡ ruleOf i → x ≡ numberAt s i → y ≡ clipTo r x → y ≡ clippedAt s i
+unfolding clippedAt
+clipped-is s i r x y er ex ey = ey ∙ ap₂ clipTo er ex
+
+-- ---- the recursions, one further
+finite-none : (s : List ℕ) → finiteUp s 0 ≡ true
+unfolding finiteUp
+finite-none s = refl
+
+finite-more : (s : List ℕ) (i : ℕ) → finiteUp s (suc i) ≡ finiteUp s i && finite (numberAt s i)
+unfolding finiteUp
+finite-more s i = refl
+
+numbers-none : (s : List ℕ) → clippedUp s 0 ≡ []
+unfolding clippedUp
+numbers-none s = refl
+
+numbers-more : (s : List ℕ) (i : ℕ) → clippedUp s (suc i) ≡ clippedUp s i ++ (clippedAt s i ∷ [])
+unfolding clippedUp
+numbers-more s i = refl
+
+mask-none : (s : List ℕ) → maskUp s 0 ≡ 0
+unfolding maskUp
+mask-none s = refl
+
+mask-more : (s : List ℕ) (i : ℕ) → maskUp s (suc i) ≡ maskUp s i + cond (ne (numberAt s i) (clippedAt s i)) (2 ^ i) 0
+unfolding maskUp
+mask-more s i = refl
+
+and-false : (b : Bool) → b && false ≡ false
+and-false true = refl
+and-false false = refl
+
+-- one number that is not finite is enough
+pub not-finite : (s : List ℕ) (n i : ℕ) → i < n → finite (numberAt s i) ≡ false → finiteUp s n ≡ false
+not-finite s zero i h e = absurd (omega arith)
+not-finite s (suc n) i h e = of (ℕ-discrete i n) (λ l. not-finite s n i l e)
+  where
+    of : Dec (i ≡ n) → (i < n → finiteUp s n ≡ false) → finiteUp s (suc n) ≡ false
+    of (yes d) g =
+        finite-more s n ∙ ap (λ (b : Bool). finiteUp s n && b) (ap (λ (k : ℕ). finite (numberAt s k)) (sym d) ∙ e) ∙ and-false (finiteUp s n)
+    of (no d) g = finite-more s n ∙ ap (λ (b : Bool). b && finite (numberAt s n)) (g (omega arith))
+
+-- ---- the loop's invariant
+pub record Passed (s : List ℕ) (numbers : List Float) (mask bit i : ℕ) : Type 0 where
+  pub few : i ≤ width
+  pub long : length numbers ≡ width
+  pub good : finiteUp s i ≡ true
+  pub done : take i numbers ≡ clippedUp s i
+  pub bits : mask ≡ maskUp s i
+  pub power : bit ≡ 2 ^ i
+  pub under : mask < bit
+
+pub at-most : {s : List ℕ} {numbers : List Float} {mask bit i : ℕ} → Passed s numbers mask bit i → bit ≤ 2 ^ width
+at-most p = omega (arith, p .power, pow-mono (p .few))
+
+pub start : (s : List ℕ) (numbers : List Float) → length numbers ≡ width → Passed s numbers 0 1 0
+start s numbers h = record {
+  few = omega arith;
+  long = h;
+  good = finite-none s;
+  done = sym (numbers-none s);
+  bits = sym (mask-none s);
+  power = refl;
+  under = omega arith;
+}
+
+cond-le : (b : Bool) (n : ℕ) → cond b n 0 ≤ n
+cond-le true n = omega arith
+cond-le false n = omega arith
+
+module _ (s : List ℕ) (numbers : List Float) (mask bit i : ℕ) (p : Passed s numbers mask bit i) (h : i < width) (x y : Float) (w : ℕ) (ew : w ≡ cond (ne x y) bit 0) where
+  pub small : w ≤ bit
+  small = let l = cond-le (ne x y) bit in omega arith
+
+  module _ (f : finite (numberAt s i) ≡ true) (ex : x ≡ numberAt s i) (ey : y ≡ clippedAt s i) where
+    more : Passed s (set numbers i y) (mask + w) (bit * 2) (suc i)
+    more = record {
+      few = omega arith;
+      long = length-set numbers i y ∙ p .long;
+      good = finite-more s i ∙ ap₂ _&&_ (p .good) f;
+      done = take-suc-set numbers i y (omega (arith, p .long)) ∙ ap₂ (λ (l : List Float) (v : Float). l ++ (v ∷ [])) (p .done) ey ∙ sym (numbers-more s i);
+      bits = ap₂ _+_ (p .bits) (ew ∙ cc (ex, ey, p .power)) ∙ sym (mask-more s i);
+      power = ap (λ (n : ℕ). n * 2) (p .power) ∙ sym (pow-suc 2 i);
+      under = omega (arith, small, p .under);
+    }
+
+    pub turn : Passed s (set numbers i y) (mask + w) (bit * 2) (i + 1)
+    turn = rw add-one more
+
+pub finished : (s : List ℕ) (numbers : List Float) (mask bit i : ℕ) → Passed s numbers mask bit i → width ≤ i → record { answer = answer.Taken; numbers = numbers; mask = mask } ≡ clipAt6 (finiteUp s width) s
+finished s numbers mask bit i p h =
+    let e : i ≡ width = omega (arith, p .few) in
+    let q : Passed s numbers mask bit width = rw e at p in
+    rw (q .good) (ap₂ (λ (l : List Float) (m : ℕ). record { answer = answer.Taken; numbers = l; mask = m }) (sym (take-all width numbers (omega (arith, q .long))) ∙ q .done) (q .bits))

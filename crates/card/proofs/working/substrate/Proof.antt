@@ -1,0 +1,12 @@
+-- `card::working::substrate` meets its contract.
+use Rattle.card.proofs.working.substrate.Statement.{statement}
+use Rattle.card.proofs.working.substrate.Tie as tie
+
+returns : tie.Need-returns
+returns c = rw (c .if1 .taken)
+
+returns-2 : tie.Need-returns-2
+returns-2 c = rw (c .if1 .left)
+
+pub substrate-spec : {M : Type 1} → statement M
+substrate-spec = tie.close (tie.spec returns returns-2)

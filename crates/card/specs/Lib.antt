@@ -1,0 +1,9 @@
+pub mod Record
+pub mod Limits
+pub mod Clip
+pub mod Work
+pub mod Sign
+pub mod Octave
+pub mod Judge
+pub mod Unique
+pub mod Told

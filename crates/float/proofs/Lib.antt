@@ -1,0 +1,6 @@
+pub mod Bytes
+pub mod Words
+pub mod Difference
+pub mod Digits
+pub mod Units
+pub mod Kept

@@ -1,0 +1,99 @@
+// The floats of a record: a word of eight bytes, the number that its bits stand for, and a number cut to 31 binary digits.
+ghost use mathlib.Core.Path.{_≡_};
+ghost use Prim.Native.Nat.{_<_, _^_};
+ghost use lib.ListN.{getD};
+ghost use mathlib.Core.Bool.{false};
+ghost use lib.IntN.{negsuc};
+ghost use lib.Ieee.{fin};
+ghost use lib.Ieee.Scale.{finite};
+ghost use Rattle.float.specs.Word.{wordAt, numberOf};
+ghost use Rattle.float.specs.Split.{splitOf};
+
+// What the bits of a word stand for. Nothing: an infinity, or no number.
+pub enum Number {
+    Real(f64),
+    Nothing,
+}
+
+// The number a * 2^(up - 2048), where 2^30 <= a < 2^31 or a is 0.
+pub struct Split {
+    pub a: u32,
+    pub up: u16,
+}
+
+// The byte at i, and 0 past the end.
+fn byte(s: &[u8], i: usize) -> u64
+    ensures { λ r. ⌜ (r ≡ getD (now (s .entry)) i 0) × (r < 256) ⌝ }
+{
+    if i < s.len() { s[i] as u64 } else { 0 }
+}
+
+// The word in the eight bytes from `at` on, the lowest byte first.
+pub fn word(s: &[u8], at: usize) -> u64
+    ensures { λ r. ⌜ r ≡ wordAt (now (s .entry)) at ⌝ }
+{
+    if s.len() <= at {
+        return 0;
+    }
+    let t = &s[at..];
+    let mut sum: u64 = 0;
+    let mut i: usize = 8;
+    while 0 < i {
+        i -= 1;
+        sum = sum * 256 + byte(t, i);
+    }
+    sum
+}
+
+// An exponent's field of all ones marks an infinity or a NaN: judged on the bits, as no comparison tells a NaN.
+pub fn read(w: u64) -> Number
+    ensures { λ r. ⌜ r ≡ numberOf w ⌝ }
+{
+    if w % 9223372036854775808 / 4503599627370496 == 2047 {
+        Number::Nothing
+    } else {
+        Number::Real(f64::from_bits(w))
+    }
+}
+
+// Whether x is neither infinite nor a NaN.
+pub fn is_finite(x: f64) -> bool
+    ensures { λ r. ⌜ r ≡ finite x ⌝ }
+{
+    let over = 1.0 / 0.0;
+    if x < over { -over < x } else { false }
+}
+
+// The size of x, its leading 31 digits kept.
+pub fn cut(x: f64) -> Split
+    ensures { λ r. ⌜ r ≡ splitOf x ⌝ }
+{
+    if is_finite(x) {
+        let bits = f64::to_bits(x);
+        let field = bits % 9223372036854775808 / 4503599627370496;
+        let digits = bits % 4503599627370496;
+        if field == 0 {
+            return cut_small(digits);
+        }
+        return Split {
+            a: ((4503599627370496 + digits) / 4194304) as u32,
+            up: (field + 995) as u16,
+        };
+    }
+    Split { a: 0, up: 2048 }
+}
+
+// n units of 2^-1074, n of at most 52 digits: a zero or a subnormal number.
+fn cut_small(n: u64) -> Split
+    requires { ⌜ n < 2 ^ 52 ⌝ }
+    ensures { λ r. ⌜ r ≡ splitOf (fin false n (negsuc 1073)) ⌝ }
+{
+    if n == 0 {
+        return Split { a: 0, up: 2048 };
+    }
+    let size = (64 - u64::leading_zeros(n)) as u64;
+    Split {
+        a: ((n << (53 - size)) / 4194304) as u32,
+        up: (size + 943) as u16,
+    }
+}
