@@ -1,0 +1,11 @@
+pub mod Finding
+pub mod Goods
+pub mod Buffers
+pub mod Demands
+pub mod Names
+pub mod Offers
+pub mod Round
+pub mod Seen
+pub mod Shape
+pub mod Stores
+pub mod Ways

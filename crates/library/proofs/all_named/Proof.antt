@@ -1,0 +1,63 @@
+-- `library::all_named` meets its contract: the names passed are well-formed, so those left decide.
+use mathlib.Core.Path.{refl, sym, _∙_}
+use lib.ListN.{length}
+use lib.Seq.{length-take-le}
+use Rattle.name.proofs.Laws.{and-true, and-false}
+use Rattle.library.specs.Directory.{allNamed}
+use Rattle.library.proofs.Names.{shorter, Walk, walk-end, walk-here, walk-on}
+use borrow.Author.Needs.{needs}
+use Rattle.library.proofs.all_named.Statement.{statement}
+use Rattle.library.proofs.all_named.Tie as tie
+
+abbrev Inv-loop : tie.InvT-loop
+Inv-loop d t₀ t = Walk allNamed d t
+
+abbrev μ-loop : tie.MeasureT-loop
+μ-loop d t₀ t = length t
+
+loop-holds : tie.Need-loop-holds Inv-loop μ-loop
+loop-holds c = record { so-far = refl }
+
+slice-aggregate-is-well-formed : tie.Need-slice-aggregate-is-well-formed Inv-loop μ-loop
+slice-aggregate-is-well-formed c = sym (length-take-le 16 (c .before .before .loop .t .now) (c .before .loop-test .taken))
+
+is-well-formed-requires : tie.Need-is-well-formed-requires Inv-loop μ-loop
+is-well-formed-requires c κs = search needs
+
+sub-t : tie.Need-sub-t Inv-loop μ-loop
+sub-t c = search needs
+
+part-t-start : tie.Need-part-t-start Inv-loop μ-loop
+part-t-start c = search needs
+
+part-t-end : tie.Need-part-t-end Inv-loop μ-loop
+part-t-end c = search needs
+
+loop-less : tie.Need-loop-less Inv-loop μ-loop
+loop-less c = shorter (c .before .before .before .before .before .loop .t .now) (c .before .before .before .before .loop-test .taken)
+
+loop-again : tie.Need-loop-again Inv-loop μ-loop
+loop-again c = walk-on (c .before .before .before .before .before .loop .inv) (c .before .before .before .before .loop-test .taken) (and-true (sym (c .before .before .is-well-formed .ensures) ∙ c .before .if1 .taken))
+
+returns : tie.Need-returns Inv-loop μ-loop
+returns c = sym (walk-here (c .before .before .before .before .loop .inv) (c .before .before .before .loop-test .taken) ∙ and-false (sym (c .before .is-well-formed .ensures) ∙ c .if1 .left) _)
+
+returns-2 : tie.Need-returns-2 Inv-loop μ-loop
+returns-2 c = sym (walk-end (c .before .loop .inv) (c .loop-test .left))
+
+pub all-named-spec : {M : Type 1} → statement M
+all-named-spec =
+    tie.close
+    (tie.spec
+    Inv-loop
+    μ-loop
+    loop-holds
+    slice-aggregate-is-well-formed
+    is-well-formed-requires
+    sub-t
+    part-t-start
+    part-t-end
+    loop-less
+    loop-again
+    returns
+    returns-2)

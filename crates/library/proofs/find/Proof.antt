@@ -1,0 +1,72 @@
+-- `library::find` meets its contract: the part between the place and the end of the located record.
+use mathlib.Core.Path.{_≡_, sym, ap, _∙_}
+use Prim.Native.Nat.{ℕ, _+_, _≤_}
+use native.Mathlib.Nat.{add-sub-cancel-left}
+use native.Mathlib.Omega.{arith}
+use lib.ListN.{length, take, drop}
+use Rattle.library.specs.Answers.{given, toldAt, locating, handed, standing}
+use Rattle.library.proofs.Ways.{located-within}
+use borrow.Author.Needs.{needs}
+use Rattle.library.proofs.find.Statement.{statement}
+use Rattle.library.proofs.find.Tie as tie
+
+located : (c : tie.After-at) → let a = c .before .before .before .before .before .args in locating (a .library .now) (a .name .now) ≡ given (c .at .given .0 .0, c .at .given .0 .1 .0)
+located c = sym (c .before .before .locate .ensures) ∙ ap toldAt (c .at .given .1)
+
+inside : (c : tie.After-at) → c .at .given .0 .0 + c .at .given .0 .1 .0 ≤ length (c .before .before .before .before .before .args .library .now)
+inside c = located-within (c .before .before .before .before .before .args .library .now) (c .before .before .before .before .before .args .name .now) (located c)
+
+locate-requires : tie.Need-locate-requires
+locate-requires c κs = search needs
+
+enum-known-at : tie.Need-enum-known-at
+enum-known-at c = search needs
+
+add-result : tie.Need-add-result
+add-result c = omega (arith, inside (c .before))
+
+sub-result : tie.Need-sub-result
+sub-result c = search needs
+
+part-result-start : tie.Need-part-result-start
+part-result-start c = search needs
+
+part-result-end : tie.Need-part-result-end
+part-result-end c = omega (arith, inside (c .before))
+
+enum-told : tie.Need-enum-told
+enum-told c = search needs
+
+slice-aggregate-result : tie.Need-slice-aggregate-result
+slice-aggregate-result c = search needs
+
+returns : tie.Need-returns
+returns c =
+    let l = c .before .before .before .before .before .before .before .args .library in
+    let at = c .before .before .at .given .0 .0 in
+    let e = located (c .before .before) in
+    record {
+      bytes = ap (λ (n : ℕ). take n (drop at (l .now))) (add-sub-cancel-left at (c .before .before .at .given .0 .1 .0)) ∙ sym (ap (λ t. handed t (l .now)) e);
+      place = sym (ap (λ t. standing t l) e);
+    }
+
+returns-2 : tie.Need-returns-2
+returns-2 c =
+    let l = c .before .before .before .before .before .before .args .library in
+    let e = sym (c .before .before .before .locate .ensures) ∙ ap toldAt (c .before .enum-told .given .1) in
+    record { bytes = sym (ap (λ t. handed t (l .now)) e); place = sym (ap (λ t. standing t l) e) }
+
+pub find-spec : {M : Type 1} → statement M
+find-spec =
+    tie.close
+    (tie.spec
+    locate-requires
+    enum-known-at
+    add-result
+    sub-result
+    part-result-start
+    part-result-end
+    enum-told
+    slice-aggregate-result
+    returns
+    returns-2)

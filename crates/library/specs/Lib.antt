@@ -1,0 +1,4 @@
+pub mod Directory
+pub mod Format
+pub mod Answers
+pub mod Unique

@@ -1,0 +1,105 @@
+// Names of cards: sixteen bytes with their padding, or as they are asked for, without it. Every function takes any slice.
+ghost use mathlib.Core.Path.{_≡_};
+ghost use lib.ListN.{length, take};
+ghost use Rattle.name.specs.Name.{mark, run, zeros, wellFormed, asked, padded, same};
+
+// Whether a name may hold the byte.
+fn marks(b: u8) -> bool
+    ensures { λ r. ⌜ r ≡ mark b ⌝ }
+{
+    if b < 0x21 {
+        return false;
+    }
+    b <= 0x7e
+}
+
+// The count of leading bytes that are all allowed in a name.
+fn leading(s: &[u8]) -> usize
+    ensures { λ r. ⌜ r ≡ run (now (s .entry)) ⌝ }
+{
+    let mut i = 0;
+    while i < s.len() {
+        if marks(s[i]) {
+            i += 1;
+        } else {
+            return i;
+        }
+    }
+    i
+}
+
+// Whether there are only zero bytes.
+fn blank(s: &[u8]) -> bool
+    ensures { λ r. ⌜ r ≡ zeros (now (s .entry)) ⌝ }
+{
+    let mut i = 0;
+    while i < s.len() {
+        if s[i] != 0 {
+            return false;
+        }
+        i += 1;
+    }
+    true
+}
+
+// Whether the bytes are a name with its padding.
+pub fn is_well_formed(s: &[u8]) -> bool
+    ensures { λ r. ⌜ r ≡ wellFormed (now (s .entry)) ⌝ }
+{
+    if s.len() != 16 {
+        return false;
+    }
+    let k = leading(s);
+    if k == 0 {
+        return false;
+    }
+    blank(&s[k..])
+}
+
+// Whether the bytes are a name without padding.
+pub fn is_asked(x: &[u8]) -> bool
+    ensures { λ r. ⌜ r ≡ asked (now (x .entry)) ⌝ }
+{
+    if x.len() == 0 {
+        return false;
+    }
+    if 16 < x.len() {
+        return false;
+    }
+    leading(x) == x.len()
+}
+
+// How many bytes of x a name has room for.
+fn taken(x: &[u8]) -> usize
+    ensures { λ r. ⌜ r ≡ length (take 16 (now (x .entry))) ⌝ }
+{
+    if x.len() < 16 { x.len() } else { 16 }
+}
+
+// The name with its padding; of more than sixteen bytes the first sixteen.
+pub fn pad(x: &[u8]) -> [u8; 16]
+    ensures { λ r. ⌜ r ≡ padded (now (x .entry)) ⌝ }
+{
+    let n = taken(x);
+    let mut held = [0u8; 16];
+    let mut i = 0;
+    while i < n {
+        held[i] = x[i];
+        i += 1;
+    }
+    held
+}
+
+// Whether two padded names are one, as two words each.
+pub fn is_same(a: &[u8; 16], b: &[u8; 16]) -> bool
+    ensures { λ r. ⌜ r ≡ same (now (a .entry)) (now (b .entry)) ⌝ }
+{
+    let low = bytes_le::u64_at(a, 0);
+    let high = bytes_le::u64_at(a, 8);
+    let other_low = bytes_le::u64_at(b, 0);
+    let other_high = bytes_le::u64_at(b, 8);
+    if low != other_low {
+        return false;
+    }
+    high == other_high
+}
