@@ -2,7 +2,7 @@
 use mathlib.Core.Path.{_≡_}
 use mathlib.Core.List.{List}
 use Prim.Native.Nat.{ℕ}
-use Rattle.float.specs.Unique.{unique-by-equation}
+use Rattle.refusal.specs.Unique.{unique-by-equation}
 use Rattle.card.specs.declared.Clipping.{Clipping}
 use Rattle.card.specs.declared.Judged.{Judged}
 use Rattle.card.specs.Clip.{clipOf}

@@ -1,3 +1,2 @@
 pub mod Word
 pub mod Split
-pub mod Unique

@@ -1,4 +1,3 @@
-pub mod Unique
 pub mod Signed
 pub mod Floor
 pub mod Biased

@@ -1,0 +1,211 @@
+-- Totals as branches are given to them: each node gets what its definition says, and no sum leaves the machine's signed numbers.
+use mathlib.Core.Path.{_≡_, refl, sym, ap, _∙_, subst}
+use mathlib.Core.Bool.{Bool, true, false, cond}
+use mathlib.Core.List.{List, [], _∷_}
+use mathlib.Core.Logic.{_⊎_, inl, inr}
+use Prim.Native.Nat.{ℕ, zero, suc, _+_, _*_, _^_, _≤_, _<_, zero-le}
+use native.Mathlib.Nat.{le-of-lt, suc-mul}
+use native.Mathlib.Numerals.{add-one}
+use native.Mathlib.Omega.{arith}
+use lib.Dec.{eqb}
+use lib.ListN.{length, getD, set, length-set, List·getD-eq-default}
+use lib.Seq.{getD-set-same, getD-set-other}
+use lib.IntN.{ℤ, pos, negsuc, natAbs, negℤ, _+ℤ_, _-ℤ_, +ℤ-idl, +ℤ-idr, +ℤ-assoc, +ℤ-comm, negℤ-+ℤ, negℤ-negℤ}
+use borrow.Author.Tests.{eqb-true, eqb-false}
+use mir.Syntax.{w64}
+use mir.Val.{SFits, toZ, ofZ}
+use mir.ValLaws.{toZ-ofZ}
+use Rattle.whole.specs.Biased.{below-or-not}
+use Rattle.branch.specs.Rows.{rowsFor}
+use Rattle.board.specs.Desk.{atNode, rowsGive}
+use Rattle.board.specs.Parts.{More, Within, Room, Wired, ends, endsGive, fromsOf, tosOf}
+use Rattle.board.proofs.Totals.{abs-add, abs-neg, abs-ends}
+
+-- ---- what the machine holds of a small number is the number
+
+abbrev pub held : ℤ → ℤ
+held z = toZ w64 (ofZ w64 z)
+
+pub fits : (z : ℤ) → natAbs z < 2 ^ 63 → SFits w64 z
+fits (pos n) h = record { sfits = h }
+fits (negsuc n) h = record { sfits = le-of-lt h }
+
+pub held-is : (z : ℤ) → natAbs z < 2 ^ 63 → held z ≡ z
+held-is z h = toZ-ofZ w64 z (fits z h)
+
+-- ---- more at one node
+
+at-one : (l : List ℤ) (m : ℕ) (x : ℤ) (n : ℕ) → m < length l → getD (set l m (getD l m (pos 0) +ℤ x)) n (pos 0) ≡ getD l n (pos 0) +ℤ atNode m n x
+at-one l m x n h = go (eqb m n) refl
+  where
+    go : (t : Bool) → eqb m n ≡ t → getD (set l m (getD l m (pos 0) +ℤ x)) n (pos 0) ≡ getD l n (pos 0) +ℤ cond t x (pos 0)
+    go true e = let same = eqb-true m n e in rw (← same) (getD-set-same l m _ (pos 0) h)
+    go false e = getD-set-other l m n _ (pos 0) (λ q. eqb-false m n e (sym q)) ∙ sym (+ℤ-idr _)
+
+turned : (t : Bool) (x : ℤ) → cond t (negℤ x) (pos 0) ≡ negℤ (cond t x (pos 0))
+turned true x = refl
+turned false x = refl
+
+-- ---- a branch
+
+-- asked of a branch
+abbrev pub Fair : List ℤ → ℕ → ℕ → ℤ → Type 0
+Fair l f t x = (f < 32) × (t < 32) × Room (900 * 2 ^ 53) l × (natAbs x ≤ 2 ^ 53)
+
+abs-at : (m n : ℕ) (x : ℤ) → natAbs (atNode m n x) ≤ natAbs x
+abs-at m n x = go (eqb m n)
+  where
+    go : (t : Bool) → natAbs (cond t x (pos 0)) ≤ natAbs x
+    go true = omega arith
+    go false = zero-le
+
+module _ (l : List ℤ) (f t : ℕ) (x : ℤ) (p : Fair l f t x) where
+  long : length l ≡ 32
+  long = p .2 .long
+
+  x-is : held x ≡ x
+  x-is = let b = p .3 in held-is x (omega arith)
+
+  from-is : held (getD l f (pos 0)) ≡ getD l f (pos 0)
+  from-is = let b = p .2 .within f in held-is (getD l f (pos 0)) (omega arith)
+
+  small-sum : natAbs (getD l f (pos 0) +ℤ x) < 2 ^ 63
+  small-sum = let a = p .2 .within f in let b = p .3 in omega (arith, abs-add (getD l f (pos 0)) x)
+
+  pub room-from : SFits w64 (held (getD l f (pos 0)) +ℤ held x)
+  room-from = rw (from-is, x-is) (fits _ small-sum)
+
+  -- the totals with x more at the first end
+  abbrev once : List ℤ
+  once = set l f (held (held (getD l f (pos 0)) +ℤ held x))
+
+  once-is : once ≡ set l f (getD l f (pos 0) +ℤ x)
+  once-is = rw (from-is, x-is, held-is _ small-sum)
+
+  once-at : (n : ℕ) → getD once n (pos 0) ≡ getD l n (pos 0) +ℤ atNode f n x
+  once-at n = rw once-is (at-one l f x n (rw long (p .0)))
+
+  small-once : natAbs (getD once t (pos 0)) ≤ 901 * 2 ^ 53
+  small-once =
+      let a = p .2 .within t in
+      let b = p .3 in
+      let d = abs-at f t x in rw (once-at t) (omega (arith, abs-add (getD l t (pos 0)) (atNode f t x)))
+
+  to-is : held (getD once t (pos 0)) ≡ getD once t (pos 0)
+  to-is = let b = small-once in held-is (getD once t (pos 0)) (omega arith)
+
+  small-less : natAbs (getD once t (pos 0) -ℤ x) < 2 ^ 63
+  small-less =
+      let a = small-once in
+      let b = p .3 in
+      let d = abs-neg x in omega (arith, abs-add (getD once t (pos 0)) (negℤ x))
+
+  pub room-to : SFits w64 (held (getD once t (pos 0)) -ℤ held x)
+  room-to = subst (λ (z : ℤ). SFits w64 (z -ℤ held x)) (sym to-is) (subst (λ (z : ℤ). SFits w64 (getD once t (pos 0) -ℤ z)) (sym x-is) (fits _ small-less))
+
+  abbrev twice : List ℤ
+  twice = set once t (held (held (getD once t (pos 0)) -ℤ held x))
+
+  twice-is : twice ≡ set once t (getD once t (pos 0) +ℤ negℤ x)
+  twice-is = ap (λ (z : ℤ). set once t z) (ap (λ (z : ℤ). held (z -ℤ held x)) to-is ∙ ap (λ (z : ℤ). held (getD once t (pos 0) -ℤ z)) x-is ∙ held-is _ small-less)
+
+  once-long : length once ≡ 32
+  once-long = length-set l f _ ∙ long
+
+  pub branch-gives : More l twice (ends f t x)
+  branch-gives =
+      record {
+        long = length-set once t _ ∙ once-long;
+        at = λ n h. ap (λ (m : List ℤ). getD m n (pos 0)) twice-is ∙ at-one once t (negℤ x) n (rw once-long (p .1))
+            ∙ ap (λ (z : ℤ). z +ℤ atNode t n (negℤ x)) (once-at n)
+            ∙ +ℤ-assoc (getD l n (pos 0)) (atNode f n x) (atNode t n (negℤ x))
+            ∙ ap (λ (z : ℤ). getD l n (pos 0) +ℤ (atNode f n x +ℤ z)) (turned (eqb t n) x);
+      }
+
+-- ---- all branches
+
+ends-small : (froms tos : List ℕ) (ticks : List ℤ) → Within (2 ^ 53) ticks → (k n : ℕ) → natAbs (endsGive froms tos ticks k n) ≤ k * 2 ^ 53
+unfolding endsGive
+ends-small froms tos ticks w zero n = zero-le
+ends-small froms tos ticks w (suc k) n =
+    let a = ends-small froms tos ticks w k n in
+    let x = getD ticks k (pos 0) in
+    let b = w .within k in
+    let e = abs-ends (eqb (getD froms k 0) n) (eqb (getD tos k 0) n) x in
+    let s = abs-add (endsGive froms tos ticks k n) (ends (getD froms k 0) (getD tos k 0) x n) in
+    rw (suc-mul k (2 ^ 53)) (omega arith)
+
+pub room-more : {a m : ℕ} {l₀ l : List ℤ} {f : ℕ → ℤ} → Room a l₀ → More l₀ l f → ((n : ℕ) → natAbs (f n) ≤ m) → Room (a + m) l
+room-more {a} {m} {l₀} {l} {f} w more small = record { long = more .long; within = λ n. go n (below-or-not n 32) }
+  where
+    go : (n : ℕ) → (n < 32) ⊎ (32 ≤ n) → natAbs (getD l n (pos 0)) ≤ a + m
+    go n (inl h) =
+        let s = abs-add (getD l₀ n (pos 0)) (f n) in
+        let u = w .within n in
+        let v = small n in rw (more .at n h) (omega arith)
+    go n (inr h) = rw (List·getD-eq-default l (pos 0) {n = n} (rw (more .long) h)) zero-le
+
+pub room-less : {a m : ℕ} {l : List ℤ} → a ≤ m → Room a l → Room m l
+room-less h w = record { long = w .long; within = λ n. let u = w .within n in omega arith }
+
+module _ (froms tos : List ℕ) (ticks : List ℤ) where
+  pub ends-none : (l : List ℤ) → length l ≡ 32 → More l l (endsGive froms tos ticks 0)
+  unfolding endsGive
+  ends-none l h = record { long = h; at = λ n k. sym (+ℤ-idr (getD l n (pos 0))) }
+
+  pub ends-more : {l₀ l l′ : List ℤ} (k : ℕ) (x : ℤ) → More l₀ l (endsGive froms tos ticks k) → x ≡ getD ticks k (pos 0) → More l l′ (ends (getD froms k 0) (getD tos k 0) x) → More l₀ l′ (endsGive froms tos ticks (k + 1))
+  unfolding endsGive
+  ends-more {l₀} k x p e q =
+      record {
+        long = q .long;
+        at = λ n h. rw add-one (q .at n h ∙ ap (λ (z : ℤ). z +ℤ ends (getD froms k 0) (getD tos k 0) x n) (p .at n h) ∙ +ℤ-assoc (getD l₀ n (pos 0)) (endsGive froms tos ticks k n) (ends (getD froms k 0) (getD tos k 0) x n)
+            ∙ ap (λ (z : ℤ). getD l₀ n (pos 0) +ℤ (endsGive froms tos ticks k n +ℤ ends (getD froms k 0) (getD tos k 0) z n)) e);
+      }
+
+  -- there is room for one more branch
+  pub fair-next : {l₀ l : List ℤ} (k : ℕ) (x : ℤ) → Wired froms → Wired tos → Room (880 * 2 ^ 53) l₀ → Within (2 ^ 53) ticks → k < 7 → x ≡ getD ticks k (pos 0) → More l₀ l (endsGive froms tos ticks k) → Fair l (getD froms k 0) (getD tos k 0) x
+  fair-next k x u v w s h e more =
+      let b = s .within k in
+      (u .wired k, v .wired k, room-less (omega arith) (room-more w more (ends-small froms tos ticks s k)), rw e b)
+
+-- ---- the seven of a transistor
+
+-- a branch turned about takes what it gave
+turned-ends : (a b : ℤ) → b -ℤ a ≡ negℤ (a -ℤ b)
+turned-ends a b = +ℤ-comm b (negℤ a) ∙ ap (λ (z : ℤ). negℤ a +ℤ z) (sym (negℤ-negℤ b)) ∙ sym (negℤ-+ℤ a (negℤ b))
+
+pub ends-turned : (froms tos : List ℕ) (ticks : List ℤ) (k n : ℕ) → endsGive tos froms ticks k n ≡ negℤ (endsGive froms tos ticks k n)
+unfolding endsGive
+ends-turned froms tos ticks zero n = refl
+ends-turned froms tos ticks (suc k) n =
+    let x = getD ticks k (pos 0) in
+    ap (λ (z : ℤ). z +ℤ ends (getD tos k 0) (getD froms k 0) x n) (ends-turned froms tos ticks k n)
+    ∙ ap (λ (z : ℤ). negℤ (endsGive froms tos ticks k n) +ℤ z) (turned-ends (atNode (getD froms k 0) n x) (atNode (getD tos k 0) n x))
+    ∙ sym (negℤ-+ℤ (endsGive froms tos ticks k n) (ends (getD froms k 0) (getD tos k 0) x n))
+
+-- a list of seven is its seven elements
+pub seven : {A : Type 0} (d : A) (l : List A) → length l ≡ 7 → l ≡ getD l 0 d ∷ getD l 1 d ∷ getD l 2 d ∷ getD l 3 d ∷ getD l 4 d ∷ getD l 5 d ∷ getD l 6 d ∷ []
+seven d [] h = absurd (omega arith)
+seven d (a ∷ []) h = absurd (omega arith)
+seven d (a ∷ b ∷ []) h = absurd (omega arith)
+seven d (a ∷ b ∷ c ∷ []) h = absurd (omega arith)
+seven d (a ∷ b ∷ c ∷ e ∷ []) h = absurd (omega arith)
+seven d (a ∷ b ∷ c ∷ e ∷ f ∷ []) h = absurd (omega arith)
+seven d (a ∷ b ∷ c ∷ e ∷ f ∷ g ∷ []) h = absurd (omega arith)
+seven d (a ∷ b ∷ c ∷ e ∷ f ∷ g ∷ i ∷ []) h = refl
+seven d (a ∷ b ∷ c ∷ e ∷ f ∷ g ∷ i ∷ j ∷ l) h = absurd (omega arith)
+
+seven-sum : (a b c d e f g : ℤ) → ((((((pos 0 +ℤ a) +ℤ b) +ℤ c) +ℤ d) +ℤ e) +ℤ f) +ℤ g ≡ a +ℤ (b +ℤ (c +ℤ (d +ℤ (e +ℤ (f +ℤ (g +ℤ pos 0))))))
+seven-sum a b c d e f g = simp (+ℤ-assoc, +ℤ-idl, +ℤ-idr)
+
+-- the branches by their ends are those of the rows, whatever EXSUB is
+rows-of-seven : (exsub : Bool) (nodes : List ℕ) (a b c d e f g : ℤ) (n : ℕ) → endsGive (fromsOf nodes) (tosOf nodes) (a ∷ b ∷ c ∷ d ∷ e ∷ f ∷ g ∷ []) 7 n ≡ rowsGive (rowsFor exsub) nodes (a ∷ b ∷ c ∷ d ∷ e ∷ f ∷ g ∷ []) n
+unfolding endsGive rowsGive
+rows-of-seven exsub nodes a b c d e f g n =
+    let at : ℕ → ℕ = λ (k : ℕ). getD nodes k 0 in
+    seven-sum (ends (at 4) (at 0) a n) (ends (at 2) (at 0) b n) (ends (at 1) (at 0) c n) (ends (at 2) (at 0) d n) (ends (at 1) (at 5) e n) (ends (at 1) (at 6) f n) (ends (at 6) (at 3) g n)
+
+pub ends-are-rows : (exsub : Bool) (nodes : List ℕ) (ticks : List ℤ) (n : ℕ) → length ticks ≡ 7 → endsGive (fromsOf nodes) (tosOf nodes) ticks 7 n ≡ rowsGive (rowsFor exsub) nodes ticks n
+ends-are-rows exsub nodes ticks n h =
+    let e = seven (pos 0) ticks h in
+    subst (λ (l : List ℤ). endsGive (fromsOf nodes) (tosOf nodes) l 7 n ≡ rowsGive (rowsFor exsub) nodes l n) (sym e) (rows-of-seven exsub nodes _ _ _ _ _ _ _ n)

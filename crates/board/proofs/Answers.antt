@@ -1,0 +1,149 @@
+-- Where the tests of a call lead: for each way through them, the answer and the board that its definition gives.
+use mathlib.Core.Path.{_≡_, refl, _∙_, subst}
+use mathlib.Core.Bool.{Bool, true, false, cond}
+use mathlib.Core.List.{List}
+use Prim.Native.Nat.{ℕ, _+_, _≤_, _<_}
+use native.Mathlib.Omega.{arith}
+use lib.Dec.{eqb, ltb}
+use lib.ListN.{getD, set}
+use lib.IntN.{ℤ, pos, natAbs}
+use borrow.Author.Tests.{ne-eqb, le-leb, lt-leb, lt-ltb, le-ltb, ltb-true}
+use Rattle.refusal.specs.declared.Refusal.{Refusal}
+use Rattle.refusal.specs.declared.Refusal.the-variants.{Malformed, BadName, NameNotHeld, NoRoom, Unknown, OutOfRange, CardInUse, NumbersUsedUp}
+use Rattle.name.specs.Name.{asked, padded}
+use Rattle.card.specs.declared.WorkedCard.{WorkedCard}
+use Rattle.card.specs.declared.Judged.the-variants as judged
+use Rattle.card.specs.Judge.{judgeOf}
+use Rattle.card.specs.Record.{rightLength}
+use Rattle.branch.specs.declared.Ready.{Ready}
+use Rattle.branch.specs.Ready.{readyOf, lowered}
+use Rattle.board.specs.declared.Card.{Card}
+use Rattle.board.specs.declared.Transistor.{Transistor}
+use Rattle.board.specs.declared.Board.{Board}
+use Rattle.board.specs.declared.Answer.the-variants.{Issue, Done, Node, Refused}
+use Rattle.board.specs.Verdict.{nodesMost, cardsMost, transistorsMost, Found, none, some, issueOf, offNode, loadVerdict, withdrawVerdict, lookVerdict, nodeVerdict}
+use Rattle.board.specs.Desk.{anyOf}
+use Rattle.board.specs.Model.{first, isCard, isTransistor, cardPlace, transistorPlace, foundAt, emptyCard, refuse, freeCard, withCards, loadedOf, withdrawnOf, standsOn, highestAt, lookedOf, showedOf}
+use Rattle.board.specs.Parts.{nodeOf, placeOr}
+use Rattle.board.proofs.Verdicts.{on-node}
+
+-- ---- places and nodes as numbers
+
+-- a place found lies below the number of places
+abbrev Below : ℕ → Found ℕ → Type 0
+Below most none = Unit {0}
+Below most (some i) = i < most
+
+below : (most i : ℕ) (t : Bool) → Below most (cond t none (foundAt most i))
+below most i true = tt
+below most i false = go (ltb i most) refl
+  where
+    go : (u : Bool) → ltb i most ≡ u → Below most (cond u (some i) none)
+    go true e = ltb-true i most e
+    go false e = tt
+
+-- so that its number tells whether there was one
+not-there : (most i : ℕ) (t : Bool) → most ≤ placeOr most (cond t none (foundAt most i)) → cond t none (foundAt most i) ≡ none
+not-there most i t h = go (cond t none (foundAt most i)) (below most i t) h
+  where
+    go : (f : Found ℕ) → Below most f → most ≤ placeOr most f → f ≡ none
+    go none b k = refl
+    go (some j) b k = absurd (omega arith)
+
+pub no-card-there : (n : ℕ) (cards : List Card) → cardsMost ≤ placeOr cardsMost (cardPlace n cards) → cardPlace n cards ≡ none
+no-card-there n cards h = not-there cardsMost (first (isCard n) cards) (eqb n 0) h
+
+pub no-transistor-there : (n : ℕ) (ts : List Transistor) → transistorsMost ≤ placeOr transistorsMost (transistorPlace n ts) → transistorPlace n ts ≡ none
+no-transistor-there n ts h = not-there transistorsMost (first (isTransistor n) ts) (eqb n 0) h
+
+pub is-there : (most : ℕ) (f : Found ℕ) → placeOr most f < most → f ≡ some (placeOr most f)
+is-there most none h = absurd (omega arith)
+is-there most (some i) h = refl
+
+-- a caller's node in range, and out of it
+pub off-board : (z : ℤ) → nodesMost ≤ nodeOf z → offNode z ≡ true
+off-board z h = go (offNode z) refl h
+  where
+    go : (t : Bool) → offNode z ≡ t → nodesMost ≤ cond t nodesMost (natAbs z) → offNode z ≡ true
+    go true e k = e
+    go false e k = let o = on-node z e in absurd (omega arith)
+
+pub on-board : (z : ℤ) → nodeOf z < nodesMost → (offNode z ≡ false) × (nodeOf z ≡ natAbs z)
+on-board z h = go (offNode z) refl h
+  where
+    go : (t : Bool) → offNode z ≡ t → cond t nodesMost (natAbs z) < nodesMost → (offNode z ≡ false) × (cond t nodesMost (natAbs z) ≡ natAbs z)
+    go true e k = absurd (omega arith)
+    go false e k = (e, refl)
+
+-- ---- reading a node
+
+module _ (b : Board) (z : ℤ) where
+  pub show-off : nodesMost ≤ nodeOf z → refuse b OutOfRange ≡ showedOf b z
+  unfolding showedOf nodeVerdict
+  show-off h = rw (off-board z h)
+
+  pub shows-it : (n : ℕ) (v t : ℤ) → n ≡ nodeOf z → n < nodesMost → v ≡ lowered (getD (b .volts) n 0) → t ≡ getD (b .totals) n (pos 0) → record { board = b; answer = Node v t } ≡ showedOf b z
+  unfolding showedOf nodeVerdict
+  shows-it n v t e h p q =
+      let o = on-board z (subst (λ (k : ℕ). k < nodesMost) e h) in
+      let same : n ≡ natAbs z = e ∙ o .1 in rw (o .0, p, q, same)
+
+-- ---- looking a name up
+
+module _ (b : Board) (name : List ℕ) where
+  pub look-malformed : asked name ≡ false → refuse b BadName ≡ lookedOf b name
+  unfolding lookedOf lookVerdict
+  look-malformed e = rw e
+
+  pub look-not-held : asked name ≡ true → highestAt (padded name) (b .cards) ≡ 0 → refuse b NameNotHeld ≡ lookedOf b name
+  unfolding lookedOf lookVerdict
+  look-not-held e h = rw (e, h)
+
+  pub looks-up : (n : ℕ) → asked name ≡ true → n ≡ highestAt (padded name) (b .cards) → (n ≡ 0 → ⊥) → record { board = b; answer = Issue n } ≡ lookedOf b name
+  unfolding lookedOf lookVerdict
+  looks-up n e h z = rw (e, ← h, ne-eqb n 0 z)
+
+-- ---- withdrawing a card
+
+module _ (b : Board) (z : ℤ) where
+  pub withdraw-unknown : cardPlace (issueOf z) (b .cards) ≡ none → refuse b Unknown ≡ withdrawnOf b z
+  unfolding withdrawnOf withdrawVerdict
+  withdraw-unknown e = rw e
+
+  pub withdraw-in-use : (i : ℕ) → cardPlace (issueOf z) (b .cards) ≡ some i → anyOf (standsOn (issueOf z)) (b .transistors) ≡ true → refuse b CardInUse ≡ withdrawnOf b z
+  unfolding withdrawnOf withdrawVerdict
+  withdraw-in-use i e u = rw (e, u)
+
+  pub withdraws-it : (i : ℕ) → cardPlace (issueOf z) (b .cards) ≡ some i → anyOf (standsOn (issueOf z)) (b .transistors) ≡ false → record { board = withCards b (set (b .cards) i emptyCard) (b .next); answer = Done } ≡ withdrawnOf b z
+  unfolding withdrawnOf withdrawVerdict
+  withdraws-it i e u = rw (e, u)
+
+-- ---- loading a card
+
+module _ (b : Board) (name bytes : List ℕ) where
+  pub load-malformed : rightLength bytes ≡ false → refuse b Malformed ≡ loadedOf b name bytes
+  unfolding loadedOf loadVerdict
+  load-malformed e = rw e
+
+  module _ (l : rightLength bytes ≡ true) where
+    pub load-bad-name : asked name ≡ false → refuse b BadName ≡ loadedOf b name bytes
+    unfolding loadedOf loadVerdict
+    load-bad-name e = rw (l, e)
+
+    module _ (e : asked name ≡ true) where
+      pub load-judged : (f : Refusal) → judgeOf bytes ≡ judged.Refused f → refuse b f ≡ loadedOf b name bytes
+      unfolding loadedOf loadVerdict
+      load-judged f j = rw (l, e, j)
+
+      module _ (w : WorkedCard) (j : judgeOf bytes ≡ judged.Card w) where
+        pub load-no-room : cardsMost ≤ freeCard (b .cards) → refuse b NoRoom ≡ loadedOf b name bytes
+        unfolding loadedOf loadVerdict
+        load-no-room h = rw (l, e, j, le-leb _ _ h)
+
+        pub load-used-up : freeCard (b .cards) < cardsMost → 65535 < b .next → refuse b NumbersUsedUp ≡ loadedOf b name bytes
+        unfolding loadedOf loadVerdict
+        load-used-up h k = rw (l, e, j, lt-leb _ _ h, lt-ltb _ _ k)
+
+        pub loads-it : (i : ℕ) (held : List ℕ) (ready : Ready) → i ≡ freeCard (b .cards) → i < cardsMost → b .next ≤ 65535 → held ≡ padded name → ready ≡ readyOf w → record { board = withCards b (set (b .cards) i (record { issue = b .next; name = held; ready = ready })) (b .next + 1); answer = Issue (b .next) } ≡ loadedOf b name bytes
+        unfolding loadedOf loadVerdict
+        loads-it i held ready p h k q r = rw (l, e, j, ← p, lt-leb _ _ h, le-ltb _ _ k, q, r) (rw p)

@@ -1,0 +1,95 @@
+-- `place` puts a transistor at the first free place, and settles that place alone.
+use mathlib.Core.Path.{_≡_, ap, _∙_}
+use native.Mathlib.Omega.{arith}
+use lib.ListN.{length}
+use borrow.Author.Needs.{needs}
+use mir.Syntax.{w64}
+use mir.ValLaws.{toZ-ofZ}
+use Rattle.board.specs.Verdict.{issueOf}
+use Rattle.board.proofs.Reaches.{after-place}
+use Rattle.board.proofs.Changes.{place-stops, free-below, number-below, seat-below, settling-place, place-over, places-it}
+use Rattle.board.proofs.Board.place.Statement.{statement}
+use Rattle.board.proofs.Board.place.Tie as tie
+
+number : (c : tie.After-issue-of) → c .issue-of .result ≡ issueOf (c .before .args .card)
+number c = c .issue-of .ensures ∙ ap issueOf (toZ-ofZ w64 (c .before .args .card) (c .before .fits .card))
+
+seven : (c : tie.Start) → length (c .args .nodes) ≡ 7
+seven c = search needs
+
+issue-of-requires : tie.Need-issue-of-requires
+issue-of-requires c κs = search needs
+
+nodes-of-requires : tie.Need-nodes-of-requires
+nodes-of-requires c κs = search needs
+
+may-place-requires : tie.Need-may-place-requires
+may-place-requires c κs = search needs
+
+enum-known-way : tie.Need-enum-known-way
+enum-known-way c = search needs
+
+refused-requires : tie.Need-refused-requires
+refused-requires c κs = search needs
+
+enum-known-way-2 : tie.Need-enum-known-way-2
+enum-known-way-2 c = search needs
+
+mul-c : tie.Need-mul-c
+mul-c c = let h = seat-below (c .before .before .before .before .before .before .before .before .pre) (c .before .before .before .before .before .before .before .before .args .card) (c .before .before .before .before .before .before .before .before .args .nodes) _ _ (number (c .before .before .before .before .before .before .before)) ((c .before .before .before .before .before .before .nodes-of .ensures)) ((c .before .before .before .may-place .ensures)) _ _ ((c .before .way2 .given .1)) in omega arith
+
+array-copy-out-c : tie.Need-array-copy-out-c
+array-copy-out-c c = seat-below (c .before .before .before .before .before .before .before .before .pre) (c .before .before .before .before .before .before .before .before .args .card) (c .before .before .before .before .before .before .before .before .args .nodes) _ _ (number (c .before .before .before .before .before .before .before)) ((c .before .before .before .before .before .before .nodes-of .ensures)) ((c .before .before .before .may-place .ensures)) _ _ ((c .before .way2 .given .1))
+
+cast-t27 : tie.Need-cast-t27
+cast-t27 c = let h = seat-below (c .before .before .before .before .before .before .before .before .before .pre) (c .before .before .before .before .before .before .before .before .before .args .card) (c .before .before .before .before .before .before .before .before .before .args .nodes) _ _ (number (c .before .before .before .before .before .before .before .before)) ((c .before .before .before .before .before .before .before .nodes-of .ensures)) ((c .before .before .before .before .may-place .ensures)) _ _ ((c .before .before .way2 .given .1)) in search needs
+
+mul-new : tie.Need-mul-new
+mul-new c = let h = free-below (c .before .before .before .before .before .before .before .before .before .pre) (c .before .before .before .before .before .before .before .before .before .args .card) (c .before .before .before .before .before .before .before .before .before .args .nodes) _ _ (number (c .before .before .before .before .before .before .before .before)) ((c .before .before .before .before .before .before .before .nodes-of .ensures)) ((c .before .before .before .before .may-place .ensures)) _ _ ((c .before .before .way2 .given .1)) in omega arith
+
+array-set-from-new : tie.Need-array-set-from-new
+array-set-from-new c = free-below (c .before .before .before .before .before .before .before .before .before .pre) (c .before .before .before .before .before .before .before .before .before .args .card) (c .before .before .before .before .before .before .before .before .before .args .nodes) _ _ (number (c .before .before .before .before .before .before .before .before)) ((c .before .before .before .before .before .before .before .nodes-of .ensures)) ((c .before .before .before .before .may-place .ensures)) _ _ ((c .before .before .way2 .given .1))
+
+only-requires : tie.Need-only-requires
+only-requires c κs = search needs
+
+settle-requires : tie.Need-settle-requires
+settle-requires c κs = settling-place (c .before .before .before .before .before .before .before .before .before .before .before .before .before .before .before .pre) (c .before .before .before .before .before .before .before .before .before .before .before .before .before .before .before .args .card) (c .before .before .before .before .before .before .before .before .before .before .before .before .before .before .before .args .nodes) _ _ (number (c .before .before .before .before .before .before .before .before .before .before .before .before .before .before)) ((c .before .before .before .before .before .before .before .before .before .before .before .before .before .nodes-of .ensures)) ((c .before .before .before .before .before .before .before .before .before .before .may-place .ensures)) _ _ ((c .before .before .before .before .before .before .before .before .way2 .given .1)) _ ((c .before .before .before .before .before .only .ensures))
+
+refused-requires-2 : tie.Need-refused-requires-2
+refused-requires-2 c κs = search needs
+
+returns : tie.Need-returns
+returns c = after-place (c .before .before .before .before .before .before .before .before .before .before .before .before .before .before .before .before .before .before .pre) _ _ (seven (c .before .before .before .before .before .before .before .before .before .before .before .before .before .before .before .before .before .before)) (c .refused2 .ensures ∙ place-over (c .before .before .before .before .before .before .before .before .before .before .before .before .before .before .before .before .before .before .pre) (c .before .before .before .before .before .before .before .before .before .before .before .before .before .before .before .before .before .before .args .card) (c .before .before .before .before .before .before .before .before .before .before .before .before .before .before .before .before .before .before .args .nodes) _ _ (number (c .before .before .before .before .before .before .before .before .before .before .before .before .before .before .before .before .before)) ((c .before .before .before .before .before .before .before .before .before .before .before .before .before .before .before .before .nodes-of .ensures)) ((c .before .before .before .before .before .before .before .before .before .before .before .before .before .may-place .ensures)) _ _ ((c .before .before .before .before .before .before .before .before .before .before .before .way2 .given .1)) _ ((c .before .before .settle .ensures)) (c .before .if1 .taken))
+
+add-self : tie.Need-add-self
+add-self c = let h = number-below (c .before .before .before .before .before .before .before .before .before .before .before .before .before .before .before .before .before .before .pre) (c .before .before .before .before .before .before .before .before .before .before .before .before .before .before .before .before .before .before .args .card) (c .before .before .before .before .before .before .before .before .before .before .before .before .before .before .before .before .before .before .args .nodes) _ _ (number (c .before .before .before .before .before .before .before .before .before .before .before .before .before .before .before .before .before)) ((c .before .before .before .before .before .before .before .before .before .before .before .before .before .before .before .before .nodes-of .ensures)) ((c .before .before .before .before .before .before .before .before .before .before .before .before .before .may-place .ensures)) _ _ ((c .before .before .before .before .before .before .before .before .before .before .before .way2 .given .1)) in omega arith
+
+returns-2 : tie.Need-returns-2
+returns-2 c = after-place (c .before .before .before .before .before .before .before .before .before .pre) _ _ (seven (c .before .before .before .before .before .before .before .before .before)) (c .refused .ensures ∙ place-stops (c .before .before .before .before .before .before .before .before .before .pre) (c .before .before .before .before .before .before .before .before .before .args .card) (c .before .before .before .before .before .before .before .before .before .args .nodes) _ _ (number (c .before .before .before .before .before .before .before .before)) ((c .before .before .before .before .before .before .before .nodes-of .ensures)) ((c .before .before .before .before .may-place .ensures)) _ ((c .before .before .way .given .1)))
+
+returns-3 : tie.Need-returns-3
+returns-3 c = after-place (c .before .before .before .before .before .before .before .before .before .before .before .before .before .before .before .before .before .before .pre) _ _ (seven (c .before .before .before .before .before .before .before .before .before .before .before .before .before .before .before .before .before .before)) (places-it (c .before .before .before .before .before .before .before .before .before .before .before .before .before .before .before .before .before .before .pre) (c .before .before .before .before .before .before .before .before .before .before .before .before .before .before .before .before .before .before .args .card) (c .before .before .before .before .before .before .before .before .before .before .before .before .before .before .before .before .before .before .args .nodes) _ _ (number (c .before .before .before .before .before .before .before .before .before .before .before .before .before .before .before .before .before)) ((c .before .before .before .before .before .before .before .before .before .before .before .before .before .before .before .before .nodes-of .ensures)) ((c .before .before .before .before .before .before .before .before .before .before .before .before .before .may-place .ensures)) _ _ ((c .before .before .before .before .before .before .before .before .before .before .before .way2 .given .1)) _ ((c .before .before .settle .ensures)) (c .before .if1 .left))
+
+pub place-spec : {M : Type 1} → statement M
+place-spec =
+    tie.close
+    (tie.spec
+    issue-of-requires
+    nodes-of-requires
+    may-place-requires
+    enum-known-way
+    refused-requires
+    enum-known-way-2
+    mul-c
+    array-copy-out-c
+    cast-t27
+    mul-new
+    array-set-from-new
+    only-requires
+    settle-requires
+    refused-requires-2
+    returns
+    add-self
+    returns-2
+    returns-3)

@@ -1,0 +1,219 @@
+-- The desk by its own bookkeeping: the cards held, the transistors standing, each with the very card it was placed with, the voltages and the next issue number.
+-- No place, no array and no stored total is known here.
+use mathlib.Core.Path.{_≡_}
+use mathlib.Core.Bool.{Bool, true, false, cond, not, _||_}
+use mathlib.Core.List.{List, [], _∷_, map}
+use Prim.Native.Nat.{ℕ, zero, suc, _+_}
+use lib.Dec.{eqb, leb, ltb}
+use lib.ListN.{getD, set, replicate, length}
+use lib.IntN.{ℤ, pos, natAbs, _+ℤ_, _-ℤ_}
+use Rattle.refusal.specs.declared.Refusal.{Refusal}
+use Rattle.name.specs.Name.{padded, same}
+use Rattle.card.specs.declared.WorkedCard.{WorkedCard}
+use Rattle.branch.specs.declared.Over.{Over}
+use Rattle.branch.specs.declared.Over.the-variants.{Within, Ticks, Injection}
+use Rattle.branch.specs.Rows.{Row, rowsFor}
+use Rattle.branch.specs.Ticks.{seatOf}
+use Rattle.branch.specs.Outcome.{outcomeOf}
+use Rattle.board.specs.Verdict.{nodesMost, cardsMost, transistorsMost, issuesMost, Found, none, some, Verdict, no, yes, issueOf, loadVerdict, placeVerdict, moveVerdict, liftVerdict, withdrawVerdict, lookVerdict, nodeVerdict}
+
+pub record Held : Type 0 where
+  pub issue : ℕ
+  pub name : List ℕ
+  pub worked : WorkedCard
+
+pub record Standing : Type 0 where
+  pub issue : ℕ
+  pub card : ℕ
+  pub worked : WorkedCard
+  pub nodes : List ℕ
+
+pub record Desk : Type 0 where
+  pub cards : List Held
+  pub standing : List Standing
+  pub volts : List ℤ
+  pub next : ℕ
+
+pub data Call : Type 0 where
+  load : List ℕ → List ℕ → Call
+  place : ℤ → (nodes : List ℤ) → length nodes ≡ 7 → Call
+  move : ℤ → ℤ → Call
+  lift : ℤ → Call
+  withdraw : ℤ → Call
+  lookUp : List ℕ → Call
+  node : ℤ → Call
+
+pub data Reply : Type 0 where
+  issued : ℕ → Reply
+  done : Reply
+  shows : ℤ → ℤ → Reply
+  refused : Refusal → Reply
+
+pub record Step : Type 0 where
+  pub reply : Reply
+  pub desk : Desk
+
+-- ---- what a transistor does at given voltages
+
+-- the voltages of its seven roles
+abbrev pub rolesAt : List ℤ → List ℕ → List ℤ
+rolesAt volts nodes = map (λ (n : ℕ). getD volts n (pos 0)) nodes
+
+abbrev pub isOver : Over → Bool
+isOver Within = false
+isOver (Ticks k) = true
+isOver (Injection k) = true
+
+unfoldable pub overloads : WorkedCard → List ℕ → List ℤ → Bool
+overloads c nodes volts = isOver (outcomeOf c (rolesAt volts nodes) .over)
+
+-- x at the node m, nothing at any other
+abbrev pub atNode : ℕ → ℕ → ℤ → ℤ
+atNode m n x = cond (eqb m n) x (pos 0)
+
+-- what the branches give to node n: each its ticks to its from-node, and as much less to its to-node
+unfoldable pub rowsGive : List Row → List ℕ → List ℤ → ℕ → ℤ
+rowsGive [] nodes ticks n = pos 0
+rowsGive (r ∷ rs) nodes [] n = pos 0
+rowsGive (r ∷ rs) nodes (x ∷ xs) n =
+    (atNode (getD nodes (seatOf (r .from)) 0) n x -ℤ atNode (getD nodes (seatOf (r .to)) 0) n x) +ℤ rowsGive rs nodes xs n
+
+-- what a transistor adds to node n
+unfoldable pub flow : WorkedCard → List ℕ → List ℤ → ℕ → ℤ
+unfolding rowsGive
+flow c nodes volts n = rowsGive (rowsFor (c .exsub)) nodes (outcomeOf c (rolesAt volts nodes) .ticks) n
+
+unfoldable pub sumOver : {A : Type 0} → (A → ℤ) → List A → ℤ
+sumOver f [] = pos 0
+sumOver f (a ∷ rest) = f a +ℤ sumOver f rest
+
+-- a node's total: the sum over the transistors standing
+unfoldable pub total : Desk → ℕ → ℤ
+unfolding sumOver
+total d n = sumOver (λ (t : Standing). flow (t .worked) (t .nodes) (d .volts) n) (d .standing)
+
+-- ---- looking through what is there
+
+abbrev pub ifTrue : {A : Type 0} → Bool → A → Found A → Found A
+ifTrue true a next = some a
+ifTrue false a next = next
+
+unfoldable pub firstWith : {A : Type 0} → (A → Bool) → List A → Found A
+firstWith p [] = none
+firstWith p (a ∷ rest) = ifTrue (p a) a (firstWith p rest)
+
+unfoldable pub anyOf : {A : Type 0} → (A → Bool) → List A → Bool
+anyOf p [] = false
+anyOf p (a ∷ rest) = p a || anyOf p rest
+
+abbrev pub keepIf : {A : Type 0} → Bool → A → List A → List A
+keepIf true a rest = a ∷ rest
+keepIf false a rest = rest
+
+-- those of another key
+unfoldable pub without : {A : Type 0} → (A → ℕ) → ℕ → List A → List A
+without key n [] = []
+without key n (a ∷ rest) = keepIf (not (eqb (key a) n)) a (without key n rest)
+
+abbrev pub larger : ℕ → ℕ → ℕ
+larger m n = cond (ltb m n) n m
+
+-- the highest issue among the cards of a name; 0 where there is none
+unfoldable pub highest : List ℕ → List Held → ℕ
+highest name [] = 0
+highest name (h ∷ hs) = larger (cond (same (h .name) name) (h .issue) 0) (highest name hs)
+
+-- ---- the calls, one clause each
+
+abbrev pub refuse : Desk → Refusal → Step
+refuse d f = record { reply = refused f; desk = d }
+
+-- a new card
+abbrev pub loaded : Desk → List ℕ → Verdict WorkedCard → Step
+loaded d name (no f) = refuse d f
+loaded d name (yes c) =
+    record {
+      reply = issued (d .next);
+      desk = record { cards = record { issue = d .next; name = padded name; worked = c } ∷ d .cards; standing = d .standing; volts = d .volts; next = suc (d .next) };
+    }
+
+-- a new transistor, which keeps the card as it is now
+abbrev pub placed : Desk → List ℤ → Verdict Held → Step
+placed d nodes (no f) = refuse d f
+placed d nodes (yes h) =
+    record {
+      reply = issued (d .next);
+      desk = record { cards = d .cards; standing = record { issue = d .next; card = h .issue; worked = h .worked; nodes = map natAbs nodes } ∷ d .standing; volts = d .volts; next = suc (d .next) };
+    }
+
+abbrev pub moved : Desk → ℤ → Verdict ℕ → Step
+moved d v (no f) = refuse d f
+moved d v (yes n) = record { reply = done; desk = record { cards = d .cards; standing = d .standing; volts = set (d .volts) n v; next = d .next } }
+
+abbrev pub lifted : Desk → Verdict Standing → Step
+lifted d (no f) = refuse d f
+lifted d (yes t) = record { reply = done; desk = record { cards = d .cards; standing = without (λ (u : Standing). u .issue) (t .issue) (d .standing); volts = d .volts; next = d .next } }
+
+abbrev pub withdrawn : Desk → Verdict Held → Step
+withdrawn d (no f) = refuse d f
+withdrawn d (yes h) = record { reply = done; desk = record { cards = without (λ (u : Held). u .issue) (h .issue) (d .cards); standing = d .standing; volts = d .volts; next = d .next } }
+
+abbrev pub looked : Desk → Verdict ℕ → Step
+looked d (no f) = refuse d f
+looked d (yes n) = record { reply = issued n; desk = d }
+
+abbrev pub showed : Desk → Verdict ℕ → Step
+showed d (no f) = refuse d f
+showed d (yes n) = record { reply = shows (getD (d .volts) n (pos 0)) (total d n); desk = d }
+
+-- some transistor that stands would overload at these voltages
+abbrev pub someOverloads : Desk → List ℤ → Bool
+someOverloads d volts = anyOf (λ (t : Standing). overloads (t .worked) (t .nodes) volts) (d .standing)
+
+abbrev pub usedUp : ℕ → Bool
+usedUp next = ltb issuesMost next
+
+abbrev pub heldAs : ℕ → List Held → Found Held
+heldAs n cards = firstWith (λ (h : Held). eqb (h .issue) n) cards
+
+abbrev pub standsAs : ℕ → List Standing → Found Standing
+standsAs n ts = firstWith (λ (t : Standing). eqb (t .issue) n) ts
+
+-- the verdict on each call
+abbrev pub mayLoad : Desk → List ℕ → List ℕ → Verdict WorkedCard
+mayLoad d name bytes = loadVerdict name bytes (leb cardsMost (length (d .cards))) (usedUp (d .next))
+
+abbrev pub mayPlace : Desk → ℤ → List ℤ → Verdict Held
+mayPlace d card nodes =
+    placeVerdict (heldAs (issueOf card) (d .cards)) (λ (h : Held). h .worked) (λ (h : Held). overloads (h .worked) (map natAbs nodes) (d .volts)) nodes (leb transistorsMost (length (d .standing))) (usedUp (d .next))
+
+abbrev pub mayMove : Desk → ℤ → ℤ → Verdict ℕ
+mayMove d n v = moveVerdict n v (someOverloads d (set (d .volts) (natAbs n) v))
+
+abbrev pub mayLift : Desk → ℤ → Verdict Standing
+mayLift d n = liftVerdict (standsAs (issueOf n) (d .standing))
+
+abbrev pub mayWithdraw : Desk → ℤ → Verdict Held
+mayWithdraw d n = withdrawVerdict (heldAs (issueOf n) (d .cards)) (λ (h : Held). anyOf (λ (t : Standing). eqb (t .card) (h .issue)) (d .standing))
+
+abbrev pub mayLookUp : Desk → List ℕ → Verdict ℕ
+mayLookUp d name = lookVerdict name (highest (padded name) (d .cards))
+
+unfoldable pub step : Desk → Call → Step
+step d (load name bytes) = loaded d name (mayLoad d name bytes)
+step d (place card nodes seven) = placed d nodes (mayPlace d card nodes)
+step d (move n v) = moved d v (mayMove d n v)
+step d (lift n) = lifted d (mayLift d n)
+step d (withdraw n) = withdrawn d (mayWithdraw d n)
+step d (lookUp name) = looked d (mayLookUp d name)
+step d (node n) = showed d (nodeVerdict n)
+
+-- a fresh desk
+unfoldable pub freshDesk : Desk
+freshDesk = record { cards = []; standing = []; volts = replicate nodesMost (pos 0); next = 1 }
+
+-- the desk after calls, the last one first in the list
+unfoldable pub after : List Call → Desk
+unfolding freshDesk step
+after [] = freshDesk
+after (c ∷ cs) = step (after cs) c .desk

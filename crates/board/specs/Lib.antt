@@ -1,0 +1,9 @@
+pub mod Verdict
+pub mod Desk
+pub mod Perm
+pub mod Model
+pub mod Stands
+pub mod Parts
+pub mod Settle
+pub mod Placing
+pub mod Unique

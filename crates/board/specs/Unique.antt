@@ -1,0 +1,38 @@
+-- One input has one result: whatever two boards and answers a method's promise allows are the same.
+use mathlib.Core.Path.{_≡_}
+use mathlib.Core.List.{List}
+use Prim.Native.Nat.{ℕ}
+use lib.IntN.{ℤ}
+use Rattle.whole.specs.Unique.{unique-by-equation}
+use Rattle.board.specs.declared.Board.{Board}
+use Rattle.board.specs.declared.Answered.{Answered}
+use Rattle.board.specs.Model.{freshBoard, loadedOf, placedOf, movedOf, liftedOf, withdrawnOf, lookedOf, showedOf, Reached}
+
+-- what a method promises of its result, both clauses: the answer and board of its definition, and that calls leave that board
+abbrev pub Allows : Answered → Answered → Type 0
+Allows e r = (r ≡ e) × Reached (r .board)
+
+pub unique-fresh : {r s : Board} → (r ≡ freshBoard) × Reached r → (s ≡ freshBoard) × Reached s → r ≡ s
+unique-fresh p q = unique-by-equation (p .0) (q .0)
+
+module _ (b : Board) {r s : Answered} where
+  pub unique-load : (name bytes : List ℕ) → Allows (loadedOf b name bytes) r → Allows (loadedOf b name bytes) s → r ≡ s
+  unique-load name bytes p q = unique-by-equation (p .0) (q .0)
+
+  pub unique-place : (card : ℤ) (nodes : List ℤ) → Allows (placedOf b card nodes) r → Allows (placedOf b card nodes) s → r ≡ s
+  unique-place card nodes p q = unique-by-equation (p .0) (q .0)
+
+  pub unique-move : (node microvolts : ℤ) → Allows (movedOf b node microvolts) r → Allows (movedOf b node microvolts) s → r ≡ s
+  unique-move node microvolts p q = unique-by-equation (p .0) (q .0)
+
+  pub unique-lift : (transistor : ℤ) → Allows (liftedOf b transistor) r → Allows (liftedOf b transistor) s → r ≡ s
+  unique-lift transistor p q = unique-by-equation (p .0) (q .0)
+
+  pub unique-withdraw : (card : ℤ) → Allows (withdrawnOf b card) r → Allows (withdrawnOf b card) s → r ≡ s
+  unique-withdraw card p q = unique-by-equation (p .0) (q .0)
+
+  pub unique-look : (name : List ℕ) → Allows (lookedOf b name) r → Allows (lookedOf b name) s → r ≡ s
+  unique-look name p q = unique-by-equation (p .0) (q .0)
+
+  pub unique-node : (node : ℤ) → Allows (showedOf b node) r → Allows (showedOf b node) s → r ≡ s
+  unique-node node p q = unique-by-equation (p .0) (q .0)

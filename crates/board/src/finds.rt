@@ -1,0 +1,110 @@
+// Looking through the places of cards and transistors. A place whose issue is 0 is empty.
+ghost use mathlib.Core.Path.{_≡_};
+ghost use mathlib.Core.Bool.{cond};
+ghost use Rattle.name.specs.Name.{same};
+ghost use Rattle.board.specs.Verdict.{cardsMost, transistorsMost};
+ghost use Rattle.board.specs.Desk.{anyOf, larger};
+ghost use Rattle.board.specs.Model.{first, isCard, isTransistor, cardPlace, transistorPlace, standsOn, highestAt};
+ghost use Rattle.board.specs.Parts.{placeOr};
+use crate::Board;
+use crate::Card;
+use crate::Transistor;
+
+pub(crate) fn find_card(cards: [Card; Board::CARDS], n: u32) -> usize
+    ensures { λ r. ⌜ r ≡ first (isCard n) cards ⌝ }
+{
+    for i in 0..Board::CARDS {
+        let c = cards[i];
+        if c.issue == n {
+            return i;
+        }
+    }
+    Board::CARDS
+}
+
+pub(crate) fn find_transistor(ts: [Transistor; Board::TRANSISTORS], n: u32) -> usize
+    ensures { λ r. ⌜ r ≡ first (isTransistor n) ts ⌝ }
+{
+    for i in 0..Board::TRANSISTORS {
+        let t = ts[i];
+        if t.issue == n {
+            return i;
+        }
+    }
+    Board::TRANSISTORS
+}
+
+// The place of an issue number, or the number of places.
+pub(crate) fn card_at(cards: [Card; Board::CARDS], n: u32) -> usize
+    ensures { λ r. ⌜ r ≡ placeOr cardsMost (cardPlace n cards) ⌝ }
+{
+    if n == 0 {
+        return Board::CARDS;
+    }
+    find_card(cards, n)
+}
+
+pub(crate) fn transistor_at(ts: [Transistor; Board::TRANSISTORS], n: u32) -> usize
+    ensures { λ r. ⌜ r ≡ placeOr transistorsMost (transistorPlace n ts) ⌝ }
+{
+    if n == 0 {
+        return Board::TRANSISTORS;
+    }
+    find_transistor(ts, n)
+}
+
+// Whether a transistor stands on the card.
+fn is_on(t: Transistor, n: u32) -> bool
+    ensures { λ r. ⌜ r ≡ standsOn n t ⌝ }
+{
+    if t.issue == 0 {
+        return false;
+    }
+    t.card == n
+}
+
+pub(crate) fn any_on(ts: [Transistor; Board::TRANSISTORS], n: u32) -> bool
+    ensures { λ r. ⌜ r ≡ anyOf (standsOn n) ts ⌝ }
+{
+    for i in 0..Board::TRANSISTORS {
+        let t = ts[i];
+        if is_on(t, n) {
+            return true;
+        }
+    }
+    false
+}
+
+// The card's issue where it has the name, else 0.
+fn issue_if(c: Card, name: &[u8; 16]) -> u32
+    ensures { λ r. ⌜ r ≡ cond (same (c .name) (now (name .entry))) (c .issue) 0 ⌝ }
+{
+    let own = c.name;
+    if name::is_same(&own, name) {
+        c.issue
+    } else {
+        0
+    }
+}
+
+fn larger_of(a: u32, b: u32) -> u32
+    ensures { λ r. ⌜ r ≡ larger a b ⌝ }
+{
+    if a < b { b } else { a }
+}
+
+// The highest issue among the cards of a name.
+pub(crate) fn highest(cards: [Card; Board::CARDS], name: &[u8; 16]) -> u32
+    ensures { λ r. ⌜ r ≡ highestAt (now (name .entry)) cards ⌝ }
+{
+    let mut best: u32 = 0;
+    let mut i = Board::CARDS;
+    while 0 < i {
+        i -= 1;
+        let c = cards[i];
+        let n = issue_if(c, name);
+        let m = larger_of(n, best);
+        best = m;
+    }
+    best
+}

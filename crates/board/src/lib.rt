@@ -1,0 +1,357 @@
+// The board: cards, transistors, voltages and node totals, handed from call to call by value.
+// Each method asks that calls from a fresh board left the board as it is, and gives the answer with the next board, which is such a board again.
+ghost use mathlib.Core.Path.{_≡_};
+ghost use Rattle.board.specs.Model.{noReady, emptyCard, emptyTransistor, freshBoard, refuse, loadedOf, placedOf, movedOf, liftedOf, withdrawnOf, lookedOf, showedOf, Reached};
+
+mod finds; // finds.rt: looking through the places
+mod given; // given.rt: the caller's numbers
+mod rules; // rules.rt: placing's tests
+mod sets; // sets.rt: sets of places
+mod sums; // sums.rt: what branches give to the totals
+mod worker; // worker.rt: the totals anew where something changed
+
+use branch::Ready;
+use card::Judged;
+use card::WorkedCard;
+use float::Split;
+use octave::Octave;
+use refusal::Refusal;
+use rules::Way;
+
+pub struct Card {
+    pub issue: u32,
+    pub name: [u8; 16],
+    pub ready: Ready,
+}
+
+// It keeps the place of its card beside the card's issue number.
+pub struct Transistor {
+    pub issue: u32,
+    pub card: u32,
+    pub seat: u32,
+    pub nodes: [u8; 7],
+}
+
+pub struct Board {
+    pub cards: [Card; Board::CARDS],
+    pub transistors: [Transistor; Board::TRANSISTORS],
+    // microvolts, raised so that none is negative
+    pub volts: [u32; Board::NODES],
+    pub totals: [i64; Board::NODES],
+    pub next: u32,
+}
+
+pub enum Answer {
+    Issue(u32),
+    Done,
+    Node(i64, i64),
+    Refused(Refusal),
+}
+
+pub struct Answered {
+    pub board: Board,
+    pub answer: Answer,
+}
+
+// The issue numbers.
+const ISSUES: u32 = 65535;
+
+fn no_ready() -> Ready
+    ensures { λ r. ⌜ r ≡ noReady ⌝ }
+{
+    let none = Split { a: 0, up: 0 };
+    let octave = Octave {
+        w: 0,
+        high: 0,
+        low: 0,
+        base: 0,
+        add: 0,
+    };
+    let card = WorkedCard {
+        sn: none,
+        bulk: none,
+        side: none,
+        nonideal: none,
+        ex: none,
+        sub: none,
+        sf: none,
+        rex: none,
+        rsub: none,
+        octave: 0,
+        second: 0,
+        exsub: false,
+        direct: false,
+    };
+    Ready {
+        card,
+        plain: octave,
+        second: octave,
+        bulk: 0,
+        side: 0,
+        nonideal: 0,
+        ex: 0,
+        sub: 0,
+        sf: 0,
+    }
+}
+
+// What stands at an empty place.
+fn no_card() -> Card
+    ensures { λ r. ⌜ r ≡ emptyCard ⌝ }
+{
+    let ready = no_ready();
+    Card {
+        issue: 0,
+        name: [0u8; 16],
+        ready,
+    }
+}
+
+fn no_transistor() -> Transistor
+    ensures { λ r. ⌜ r ≡ emptyTransistor ⌝ }
+{
+    Transistor {
+        issue: 0,
+        card: 0,
+        seat: 0,
+        nodes: [0u8; 7],
+    }
+}
+
+fn refused(b: Board, f: Refusal) -> Answered
+    ensures { λ r. ⌜ r ≡ refuse b f ⌝ }
+{
+    Answered {
+        board: b,
+        answer: Answer::Refused(f),
+    }
+}
+
+impl Board {
+    pub const NODES: usize = 32;
+
+    pub const CARDS: usize = 16;
+
+    pub const TRANSISTORS: usize = 64;
+
+    pub fn fresh() -> Board
+        ensures { λ r. ⌜ r ≡ freshBoard ⌝ }
+        ensures { λ r. ⌜ Reached r ⌝ }
+    {
+        let card = no_card();
+        let t = no_transistor();
+        Board {
+            cards: [card; Board::CARDS],
+            transistors: [t; Board::TRANSISTORS],
+            volts: [2500000u32; Board::NODES],
+            totals: [0i64; Board::NODES],
+            next: 1,
+        }
+    }
+
+    pub fn load(mut self, name: &[u8], bytes: &[u8]) -> Answered
+        requires { ⌜ Reached self ⌝ }
+        ensures { λ r. ⌜ r ≡ loadedOf self (now (name .entry)) (now (bytes .entry)) ⌝ }
+        ensures { λ r. ⌜ Reached (r .board) ⌝ }
+    {
+        if !card::right_length(bytes) {
+            return refused(self, Refusal::Malformed);
+        }
+        if !name::is_asked(name) {
+            return refused(self, Refusal::BadName);
+        }
+        let judged = card::judge(bytes);
+        match judged {
+            Judged::Refused(f) => refused(self, f),
+            Judged::Card(worked) => {
+                let cards = self.cards;
+                let i = finds::find_card(cards, 0);
+                if Board::CARDS <= i {
+                    return refused(self, Refusal::NoRoom);
+                }
+                let issue = self.next;
+                if ISSUES < issue {
+                    return refused(self, Refusal::NumbersUsedUp);
+                }
+                let held = name::pad(name);
+                let ready = branch::prepare(worked);
+                let c = Card {
+                    issue,
+                    name: held,
+                    ready,
+                };
+                self.cards[i] = c;
+                self.next = issue + 1;
+                Answered {
+                    board: self,
+                    answer: Answer::Issue(issue),
+                }
+            }
+        }
+    }
+
+    pub fn place(mut self, card: i64, nodes: [i64; 7]) -> Answered
+        requires { ⌜ Reached self ⌝ }
+        ensures { λ r. ⌜ r ≡ placedOf self card nodes ⌝ }
+        ensures { λ r. ⌜ Reached (r .board) ⌝ }
+    {
+        let n = given::issue_of(card);
+        let on = given::nodes_of(nodes);
+        let cards = self.cards;
+        let old = self.transistors;
+        let issue = self.next;
+        let way = rules::may_place(cards, old, issue, n, on);
+        match way {
+            Way::Stop(f) => refused(self, f),
+            Way::Go(seat, free) => {
+                let c = cards[seat];
+                let t = Transistor {
+                    issue,
+                    card: c.issue,
+                    seat: seat as u32,
+                    nodes: on,
+                };
+                let mut new = old;
+                new[free] = t;
+                let set = sets::only(free);
+                let volts = self.volts;
+                let totals = self.totals;
+                let s = worker::settle(cards, old, new, &volts, &volts, &set, totals);
+                if s.over {
+                    return refused(self, Refusal::Overload);
+                }
+                let after = s.totals;
+                self.transistors = new;
+                self.totals = after;
+                self.next = issue + 1;
+                Answered {
+                    board: self,
+                    answer: Answer::Issue(issue),
+                }
+            }
+        }
+    }
+
+    pub fn move_to(mut self, node: i64, microvolts: i64) -> Answered
+        requires { ⌜ Reached self ⌝ }
+        ensures { λ r. ⌜ r ≡ movedOf self node microvolts ⌝ }
+        ensures { λ r. ⌜ Reached (r .board) ⌝ }
+    {
+        let k = given::node_of(node);
+        let n = k as usize;
+        if Board::NODES <= n {
+            return refused(self, Refusal::OutOfRange);
+        }
+        let v = given::raised_of(microvolts);
+        if 5000000 < v {
+            return refused(self, Refusal::OutOfRange);
+        }
+        let was = self.volts;
+        let mut volts = was;
+        volts[n] = v;
+        let ts = self.transistors;
+        let set = sets::naming(ts, k);
+        let cards = self.cards;
+        let totals = self.totals;
+        let s = worker::settle(cards, ts, ts, &was, &volts, &set, totals);
+        if s.over {
+            return refused(self, Refusal::Overload);
+        }
+        let after = s.totals;
+        self.volts = volts;
+        self.totals = after;
+        Answered {
+            board: self,
+            answer: Answer::Done,
+        }
+    }
+
+    pub fn lift(mut self, transistor: i64) -> Answered
+        requires { ⌜ Reached self ⌝ }
+        ensures { λ r. ⌜ r ≡ liftedOf self transistor ⌝ }
+        ensures { λ r. ⌜ Reached (r .board) ⌝ }
+    {
+        let n = given::issue_of(transistor);
+        let old = self.transistors;
+        let i = finds::transistor_at(old, n);
+        if Board::TRANSISTORS <= i {
+            return refused(self, Refusal::Unknown);
+        }
+        let t = no_transistor();
+        let mut new = old;
+        new[i] = t;
+        let set = sets::only(i);
+        let cards = self.cards;
+        let volts = self.volts;
+        let totals = self.totals;
+        let s = worker::settle(cards, old, new, &volts, &volts, &set, totals);
+        let after = s.totals;
+        self.transistors = new;
+        self.totals = after;
+        Answered {
+            board: self,
+            answer: Answer::Done,
+        }
+    }
+
+    pub fn withdraw(mut self, card: i64) -> Answered
+        requires { ⌜ Reached self ⌝ }
+        ensures { λ r. ⌜ r ≡ withdrawnOf self card ⌝ }
+        ensures { λ r. ⌜ Reached (r .board) ⌝ }
+    {
+        let n = given::issue_of(card);
+        let cards = self.cards;
+        let i = finds::card_at(cards, n);
+        if Board::CARDS <= i {
+            return refused(self, Refusal::Unknown);
+        }
+        let ts = self.transistors;
+        if finds::any_on(ts, n) {
+            return refused(self, Refusal::CardInUse);
+        }
+        let c = no_card();
+        self.cards[i] = c;
+        Answered {
+            board: self,
+            answer: Answer::Done,
+        }
+    }
+
+    pub fn look_up(self, name: &[u8]) -> Answered
+        requires { ⌜ Reached self ⌝ }
+        ensures { λ r. ⌜ r ≡ lookedOf self (now (name .entry)) ⌝ }
+        ensures { λ r. ⌜ Reached (r .board) ⌝ }
+    {
+        if !name::is_asked(name) {
+            return refused(self, Refusal::BadName);
+        }
+        let asked = name::pad(name);
+        let cards = self.cards;
+        let n = finds::highest(cards, &asked);
+        if n == 0 {
+            return refused(self, Refusal::NameNotHeld);
+        }
+        Answered {
+            board: self,
+            answer: Answer::Issue(n),
+        }
+    }
+
+    pub fn read_node(self, node: i64) -> Answered
+        requires { ⌜ Reached self ⌝ }
+        ensures { λ r. ⌜ r ≡ showedOf self node ⌝ }
+        ensures { λ r. ⌜ Reached (r .board) ⌝ }
+    {
+        let n = given::node_of(node) as usize;
+        if Board::NODES <= n {
+            return refused(self, Refusal::OutOfRange);
+        }
+        let v = self.volts[n];
+        let t = self.totals[n];
+        let volts = given::lowered_of(v);
+        Answered {
+            board: self,
+            answer: Answer::Node(volts, t),
+        }
+    }
+}
