@@ -1,0 +1,97 @@
+-- The worked cases that are proved, as one list. Each works a value from the very definitions that the contracts cite; `paper-agrees` in proofs/ is the theorem.
+use mathlib.Core.List.{List, [], _∷_}
+use Prim.Native.Nat.{ℕ}
+use lib.ListN.{getD, take}
+use lib.IntN.{ℤ, pos, negsuc}
+use lib.Ieee.{nan, binary64, toBits}
+use Rattle.float.specs.declared.Split.{Split}
+use Rattle.card.specs.declared.Judged.{Judged}
+use Rattle.card.specs.declared.Judged.the-variants.{Card, Refused}
+use Rattle.card.specs.declared.Clipping.{Clipping}
+use Rattle.card.specs.Clip.{clipOf}
+use Rattle.card.specs.Judge.{judgeOf}
+use Rattle.octave.specs.Table.{entryOf}
+use Rattle.branch.specs.declared.Over.{Over}
+use Rattle.branch.specs.declared.Over.the-variants.{Within, Ticks, Injection}
+use Rattle.branch.specs.Outcome.{outcomeOf}
+use Rattle.board.specs.declared.Board.{Board}
+use Rattle.board.specs.Model.{freshBoard, loadedOf, placedOf, movedOf}
+use Rattle.paper.specs.Words.{one, two, four, minus-zero, two-to-minus-40, two-to-minus-38, wordsOf, recordOf}
+
+-- the paper's card
+abbrev pub theCard : List ℕ
+theCard = wordsOf two-to-minus-40 one 0 one
+
+-- ---- ways of working
+
+-- row k, from 1, of a judged card, with the base at v microvolts and every other role at 0
+abbrev pub ticksAt : Judged → ℕ → ℤ → List ℤ
+ticksAt (Refused f) k v = []
+ticksAt (Card c) k v = getD (outcomeOf c (pos 0 ∷ v ∷ v ∷ pos 0 ∷ pos 0 ∷ pos 0 ∷ pos 0 ∷ []) .ticks) k (pos 0) ∷ []
+
+-- the ideal value 2^-40 with less-one is row 2 of the paper's card
+unfoldable pub ideal : ℤ → List ℤ
+unfolding recordOf judgeOf outcomeOf
+ideal v = ticksAt (judgeOf (recordOf theCard)) 1 v
+
+unfoldable pub five : ℤ → List ℤ
+unfolding recordOf judgeOf outcomeOf
+five v = ticksAt (judgeOf (recordOf (wordsOf two-to-minus-38 two-to-minus-38 0 four))) 4 v
+
+-- what overloads: nothing, or a row by its T or by its ratio
+abbrev pub overNumbers : Over → List ℤ
+overNumbers Within = []
+overNumbers (Ticks k) = pos 15 ∷ pos k ∷ []
+overNumbers (Injection k) = pos 18 ∷ pos k ∷ []
+
+-- the paper's card with this a * 2^b in place of sN, at 0 microvolts throughout
+abbrev pub withSn : Split → Judged → List ℤ
+withSn s (Refused f) = []
+withSn s (Card c) =
+    overNumbers
+    (outcomeOf
+    (record { sn = s; bulk = c .bulk; side = c .side; nonideal = c .nonideal; ex = c .ex; sub = c .sub; sf = c .sf; rex = c .rex; rsub = c .rsub; octave = c .octave; second = c .second; exsub = c .exsub; direct = c .direct })
+    (pos 0 ∷ pos 0 ∷ pos 0 ∷ pos 0 ∷ pos 0 ∷ pos 0 ∷ pos 0 ∷ [])
+    .over)
+
+-- the mask of a clipping, and the bits of its number i
+abbrev pub clipShows : ℕ → Clipping → List ℤ
+clipShows i c = pos (c .mask) ∷ pos (toBits binary64 (getD (c .numbers) i nan)) ∷ []
+
+-- the paper's board: the card loaded as a1, one transistor placed, nodes 1 and 2 moved to 16,000 microvolts
+unfoldable pub theBoard : Board
+unfolding freshBoard recordOf loadedOf placedOf movedOf
+theBoard =
+    let loaded = loadedOf freshBoard (0x61 ∷ 0x31 ∷ []) (recordOf theCard) .board in
+    let placed = placedOf loaded (pos 1) (pos 0 ∷ pos 1 ∷ pos 1 ∷ pos 2 ∷ pos 2 ∷ pos 2 ∷ pos 3 ∷ []) .board in
+    movedOf (movedOf placed (pos 1) (pos 16000) .board) (pos 2) (pos 16000) .board
+
+-- ---- the table
+
+pub record Case : Type 0 where
+  pub worked : List ℤ
+  pub paper : List ℤ
+
+-- totals of nodes 0 to 3
+unfoldable pub boardCase : Case
+unfolding theBoard
+boardCase = record { worked = take 4 (theBoard .totals); paper = negsuc 2047 ∷ pos 1024 ∷ pos 1024 ∷ pos 0 ∷ [] }
+
+unfoldable pub cases : List Case
+unfolding entryOf ideal five recordOf judgeOf outcomeOf clipOf boardCase
+cases =
+    boardCase
+    ∷ record { worked = pos (entryOf 0) ∷ pos (entryOf 32) ∷ pos (entryOf 64) ∷ []; paper = pos 1073741824 ∷ pos 1518500249 ∷ pos 2147483648 ∷ [] }
+    ∷ record { worked = ideal (pos 0); paper = pos 0 ∷ [] }
+    ∷ record { worked = ideal (pos 16000); paper = pos 1024 ∷ [] }
+    ∷ record { worked = ideal (negsuc 15999); paper = negsuc 511 ∷ [] }
+    ∷ record { worked = ideal (pos 8000); paper = pos 424 ∷ [] }
+    ∷ record { worked = ideal (pos 1); paper = pos 0 ∷ [] }
+    ∷ record { worked = ideal (negsuc 0); paper = negsuc 0 ∷ [] }
+    ∷ record { worked = five (pos 16000); paper = pos 512 ∷ [] }
+    ∷ record { worked = five (negsuc 15999); paper = negsuc 373 ∷ [] }
+    ∷ record { worked = withSn (record { a = 1073741825; up = 2021 }) (judgeOf (recordOf theCard)); paper = pos 15 ∷ pos 1 ∷ [] }
+    ∷ record { worked = clipShows 4 (clipOf (recordOf (wordsOf two-to-minus-40 one two one))); paper = pos 16 ∷ pos one ∷ [] }
+    ∷ record { worked = clipShows 4 (clipOf (recordOf (wordsOf two-to-minus-40 one one one))); paper = pos 0 ∷ pos one ∷ [] }
+    ∷ record { worked = clipShows 1 (clipOf (recordOf (wordsOf minus-zero one 0 one))); paper = pos 0 ∷ pos 0 ∷ [] }
+    ∷ []

@@ -1,0 +1,129 @@
+// Works the cases that the proved table leaves out, and a few that it has. Each line has the case, the value worked and the paper's value.
+ghost use Rattle.board.specs.Model.{Reached};
+
+mod records; // records.rt: the cards of the cases, as bytes
+mod shown; // shown.rt: a line of output
+
+use board::Answer;
+use board::Answered;
+use board::Board;
+use branch::Reply;
+use branch::Told;
+
+// The refusal's number; 0 where there is none.
+fn told_number(t: Told) -> i64 {
+    match t {
+        Told::Given => 0,
+        Told::Refused(f) => refusal::number(f) as i64,
+    }
+}
+
+// The reply for a record with the base at v microvolts and every other role at 0.
+fn at_base(bytes: [u8; 128], v: i64) -> Reply {
+    branch::currents(&bytes, 0, v, v, 0, 0, 0, 0)
+}
+
+fn refusal_at(bytes: [u8; 128], v: i64) -> i64 {
+    let r = at_base(bytes, v);
+    let t = r.told;
+    told_number(t)
+}
+
+// Row 5 at v microvolts.
+fn fifth(bytes: [u8; 128], v: i64) -> i64 {
+    let r = at_base(bytes, v);
+    r.ticks[4]
+}
+
+fn mask_of(bytes: [u8; 128]) -> i64 {
+    let c = card::clip(&bytes);
+    c.mask as i64
+}
+
+// An answer as a number: what was issued, a node's ticks, or 0.
+fn answer_number(a: Answer) -> i64 {
+    match a {
+        Answer::Issue(n) => n as i64,
+        Answer::Done => 0,
+        Answer::Node(_, ticks) => ticks,
+        Answer::Refused(f) => refusal::number(f) as i64,
+    }
+}
+
+// A node's total.
+fn total(b: Board, n: i64) -> i64
+    requires { ⌜ Reached b ⌝ }
+{
+    let r = b.read_node(n);
+    let a = r.answer;
+    answer_number(a)
+}
+
+fn show_totals(b: Board, what: &[u8], a: i64, c: i64, d: i64, e: i64)
+    requires { ⌜ Reached b ⌝ }
+{
+    shown::line(what, b" node 0", total(b, 0), a);
+    shown::line(what, b" node 1", total(b, 1), c);
+    shown::line(what, b" node 2", total(b, 2), d);
+    shown::line(what, b" node 3", total(b, 3), e);
+}
+
+// The paper's transistor on nodes 0 to 3.
+fn stand(b: Board) -> Answered
+    requires { ⌜ Reached b ⌝ }
+    ensures { λ r. ⌜ Reached (r .board) ⌝ }
+{
+    b.place(1, [0, 1, 1, 2, 2, 2, 3])
+}
+
+fn run_board() {
+    let loaded = Board::fresh().load(b"a1", &records::paper());
+    let card = loaded.answer;
+    shown::line(b"load", b"", answer_number(card), 1);
+    let first = stand(loaded.board);
+    let placed = first.answer;
+    shown::line(b"place", b"", answer_number(placed), 2);
+    let one = first.board.move_to(1, 16000);
+    let two = one.board.move_to(2, 16000);
+    let gone = two.board.lift(2);
+    show_totals(gone.board, b"lifted", 0, 0, 0, 0);
+    let again = stand(gone.board);
+    let anew = again.answer;
+    shown::line(b"place again", b"", answer_number(anew), 3);
+    show_totals(again.board, b"again", -2048, 1024, 1024, 0);
+}
+
+fn wide(x: u32) -> i64 {
+    x as i64
+}
+
+// Three entries of the table.
+fn run_table() {
+    let t = octave::table();
+    shown::line(b"t_0", b"", wide(t[0]), 1073741824);
+    shown::line(b"t_32", b"", wide(t[32]), 1518500249);
+    shown::line(b"t_64", b"", wide(t[64]), 2147483648);
+}
+
+fn main() {
+    run_table();
+    shown::line(
+        b"position at -1 uV",
+        b"",
+        octave::position(-1, 16000000),
+        -5,
+    );
+    shown::line(b"branch 5 at 0 uV", b"", fifth(records::five(), 0), 0);
+    shown::line(b"sN = 8 A at 0 uV", b"", refusal_at(records::eight(), 0), 0);
+    shown::line(b"XI_B1 = 1 mask", b"", mask_of(records::xi_one()), 0);
+    shown::line(b"I_s = -0 mask", b"", mask_of(records::is_minus_zero()), 0);
+    shown::line(b"2500000 uV", b"", refusal_at(records::none(), 2500000), 0);
+    shown::line(b"2500001 uV", b"", refusal_at(records::none(), 2500001), 13);
+    shown::line(
+        b"octave 9999999",
+        b"",
+        refusal_at(records::low_octave(), 0),
+        9,
+    );
+    run_board();
+}
