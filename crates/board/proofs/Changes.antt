@@ -17,7 +17,8 @@ use Rattle.board.specs.declared.Answer.the-variants.{Issue, Done}
 use Rattle.board.specs.declared.worker.Settled.{Settled}
 use Rattle.board.specs.declared.rules.Way.{Way}
 use Rattle.board.specs.declared.rules.Way.the-variants.{Go, Stop}
-use Rattle.board.specs.Verdict.{nodesMost, transistorsMost, none, some, Verdict, yes, issueOf, offNode, offVolts, moveVerdict, liftVerdict, placeVerdict}
+use Rattle.board.specs.Verdict.{nodesMost, transistorsMost, none, some, Verdict, yes, issueOf, offNode, moveVerdict, liftVerdict, placeVerdict}
+use Rattle.branch.specs.Currents.{offVolts}
 use Rattle.board.specs.Desk.{overloads, anyOf, usedUp}
 use Rattle.board.specs.Model.{cardPlace, transistorPlace, emptyTransistor, noCard, workedAt, placeOverloads, voltsOf, refuse, freeTransistor, placedOf, mayPlace, movedOf, liftedOf, Reached}
 use Rattle.board.specs.Parts.{nodeOf, raisedOr, standsAt, onlyAt}

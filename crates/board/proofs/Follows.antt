@@ -15,11 +15,13 @@ use Rattle.name.specs.Name.{padded, same}
 use Rattle.card.specs.declared.WorkedCard.{WorkedCard}
 use Rattle.branch.specs.Ready.{readyOf, lowered, raised, reach}
 use Rattle.branch.proofs.Laws.{ready-card}
+use Rattle.branch.proofs.Levels.{kept}
 use Rattle.board.specs.declared.Card.{Card}
 use Rattle.board.specs.declared.Transistor.{Transistor}
 use Rattle.board.specs.declared.Board.{Board}
 use Rattle.board.specs.declared.Answered.{Answered}
-use Rattle.board.specs.Verdict.{nodesMost, cardsMost, transistorsMost, issuesMost, Found, none, some, Verdict, no, yes, unless, issueOf, offNode, offVolts, loadVerdict, placeVerdict, moveVerdict, liftVerdict, withdrawVerdict, lookVerdict, nodeVerdict}
+use Rattle.board.specs.Verdict.{nodesMost, cardsMost, transistorsMost, issuesMost, Found, none, some, Verdict, no, yes, unless, issueOf, offNode, loadVerdict, placeVerdict, moveVerdict, liftVerdict, withdrawVerdict, lookVerdict, nodeVerdict}
+use Rattle.branch.specs.Currents.{offVolts}
 use Rattle.board.specs.Desk as desk
 use Rattle.board.specs.Desk.{Held, Standing, Desk, Step, Call, load, place, move, lift, withdraw, lookUp, node, overloads, sumOver, anyOf, firstWith, heldAs, standsAs, without, larger, highest, flow, total, someOverloads, step, freshDesk, after}
 use Rattle.board.specs.Model as board
@@ -60,10 +62,6 @@ module _ {A B : Type 0} (g : A → B) where
   map-withdraw (some a) inUse = sym (map-unless g (inUse (g a)) _ _)
 
 -- ---- where board and desk agree
-
-raised-back : (v : ℤ) → offVolts v ≡ false → lowered (raised v) ≡ v
-raised-back (pos n) e = rw (le-ltb (n + reach) reach (omega arith)) (ap pos (omega arith))
-raised-back (negsuc n) e = let h = ltb-false 2499999 n e in rw (lt-ltb (reach - suc n) reach (omega arith)) (ap negsuc (omega arith))
 
 map-set : {A B : Type 0} (f : A → B) (l : List A) (i : ℕ) (x : A) → map f (set l i x) ≡ set (map f l) i (f x)
 map-set f [] i x = refl
@@ -203,7 +201,7 @@ module _ (b : Board) (d : Desk) (g : Good b) (o : Orderly d) (s : Stands b d) wh
           }
 
   moved-volts : (v : ℤ) (k : ℕ) → offVolts v ≡ false → map lowered (set (b .volts) k (raised v)) ≡ set (d .volts) k v
-  moved-volts v k e = map-set lowered (b .volts) k (raised v) ∙ rw (raised-back v e, s .volts)
+  moved-volts v k e = map-set lowered (b .volts) k (raised v) ∙ rw (kept v e .is, s .volts)
 
   -- out of range both refuse before they look at what stands
   agree-move : (n v : ℤ) (t : Bool) → offVolts v ≡ t → board.mayMove b n v ≡ desk.mayMove d n v

@@ -12,10 +12,12 @@ use borrow.Author.Tests.{eqb-true, eqb-false, eq-eqb, ne-eqb, leb-false, ltb-fal
 use Rattle.card.specs.declared.WorkedCard.{WorkedCard}
 use Rattle.branch.specs.Ready.{readyOf, lowered, raised, reach, IsReady}
 use Rattle.branch.proofs.Laws.{made-ready}
+use Rattle.branch.proofs.Levels.{kept}
 use Rattle.board.specs.declared.Card.{Card}
 use Rattle.board.specs.declared.Transistor.{Transistor}
 use Rattle.board.specs.declared.Board.{Board}
-use Rattle.board.specs.Verdict.{nodesMost, cardsMost, transistorsMost, Found, none, some, Verdict, no, yes, issueOf, offNode, offVolts, someOff, loadVerdict, placeVerdict, moveVerdict, liftVerdict, withdrawVerdict, lookVerdict, nodeVerdict}
+use Rattle.board.specs.Verdict.{nodesMost, cardsMost, transistorsMost, Found, none, some, Verdict, no, yes, issueOf, offNode, someOff, loadVerdict, placeVerdict, moveVerdict, liftVerdict, withdrawVerdict, lookVerdict, nodeVerdict}
+use Rattle.branch.specs.Currents.{offVolts}
 use Rattle.board.specs.Desk.{Call, load, place, move, lift, withdraw, lookUp, node, overloads, flow, sumOver, anyOf, usedUp}
 use Rattle.board.specs.Model.{first, foundAt, isCard, isTransistor, cardPlace, transistorPlace, emptyCard, noCard, emptyTransistor, noTransistor, workedAt, placeGives, placeOverloads, totalsOf, freshBoard, voltsOf, freeCard, freeTransistor, settledAs, withCards, withTransistor, loaded, loadedOf, placed, placedOf, moved, movedOf, lifted, liftedOf, withdrawn, withdrawnOf, standsOn, looked, lookedOf, showed, showedOf, highestAt, mayLoad, mayPlace, mayMove, mayLift, mayWithdraw, mayLookUp, answered, boardAfter, Reached}
 use Rattle.board.proofs.Lists.{each-set, each-replicate, first-passes, found-is, none-of, sum-same, tabulate-same, tabulate-none, tabulate-long, stands}
@@ -172,12 +174,7 @@ on-nodes (z ∷ nodes) e k = go (offNode z) refl e k (λ p. on-nodes nodes p)
     go false p q (suc k) next = next q k
 
 pub raised-near : (v : ℤ) → offVolts v ≡ false → raised v ≤ 2 * reach
-raised-near (pos n) e = go (ltb 2500000 n) refl e
-  where
-    go : (t : Bool) → ltb 2500000 n ≡ t → t || false ≡ false → n + reach ≤ 2 * reach
-    go true p q = let z : _≡_ {A = ℕ} 0 1 = cc in absurd (omega arith)
-    go false p q = let h = ltb-false 2500000 n p in omega arith
-raised-near (negsuc n) e = omega arith
+raised-near v e = kept v e .near
 
 -- ---- tests of a place that is not empty
 

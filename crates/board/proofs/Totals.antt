@@ -173,7 +173,7 @@ abs-ends true false x = rw (+ℤ-idr x) (le-refl _)
 abs-ends false true x = rw (+ℤ-idl (negℤ x)) (le-of-eq (abs-neg x))
 abs-ends false false x = zero-le
 
-pub small-rows : (rows : List Row) (nodes : List ℕ) (ticks : List ℤ) (n most : ℕ) → ((k : ℕ) → natAbs (getD ticks k (pos 0)) ≤ most) → natAbs (rowsGive rows nodes ticks n) ≤ length rows * most
+small-rows : (rows : List Row) (nodes : List ℕ) (ticks : List ℤ) (n most : ℕ) → ((k : ℕ) → natAbs (getD ticks k (pos 0)) ≤ most) → natAbs (rowsGive rows nodes ticks n) ≤ length rows * most
 unfolding rowsGive
 small-rows [] nodes ticks n most h = zero-le
 small-rows (r ∷ rs) nodes [] n most h = zero-le

@@ -14,7 +14,8 @@ use Rattle.card.specs.Record.{rightLength}
 use Rattle.name.specs.Name.{asked}
 use lib.Dec.{leb, ltb}
 use borrow.Author.Tests.{leb-false}
-use Rattle.board.specs.Verdict.{nodesMost, Found, none, some, Verdict, no, yes, unless, afterwards, judgedCard, loadVerdict, placeVerdict, moveVerdict, liftVerdict, withdrawVerdict, lookVerdict, nodeVerdict, offNode, offVolts, someOff, apart}
+use Rattle.board.specs.Verdict.{nodesMost, Found, none, some, Verdict, no, yes, unless, afterwards, judgedCard, loadVerdict, placeVerdict, moveVerdict, liftVerdict, withdrawVerdict, lookVerdict, nodeVerdict, offNode, someOff, apart}
+use Rattle.branch.specs.Currents.{offVolts}
 
 -- a test that a taken call went through
 passes : {A : Type 0} (t : Bool) (f : Refusal) (v : Verdict A) {a : A} → unless t f v ≡ yes a → (t ≡ false) × (v ≡ yes a)

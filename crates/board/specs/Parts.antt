@@ -9,7 +9,8 @@ use lib.IntN.{ℤ, pos, natAbs, negℤ, _+ℤ_, _-ℤ_}
 use Rattle.branch.specs.Ready.{raised}
 use Rattle.board.specs.declared.Card.{Card}
 use Rattle.board.specs.declared.Transistor.{Transistor}
-use Rattle.board.specs.Verdict.{nodesMost, cardsMost, transistorsMost, Found, none, some, offNode, offVolts}
+use Rattle.board.specs.Verdict.{nodesMost, cardsMost, transistorsMost, Found, none, some, offNode}
+use Rattle.branch.specs.Currents.{offVolts}
 use Rattle.board.specs.Desk.{overloads, flow, anyOf, atNode}
 
 -- ---- numbers of the caller

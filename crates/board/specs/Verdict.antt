@@ -10,6 +10,7 @@ use Rattle.refusal.specs.declared.Refusal.{Refusal}
 use Rattle.refusal.specs.declared.Refusal.the-variants.{Malformed, BadName, NameNotHeld, NoRoom, Unknown, OutOfRange, SplitCollector, Overload, CardInUse, NumbersUsedUp}
 use Rattle.name.specs.Name.{asked}
 use Rattle.card.specs.declared.WorkedCard.{WorkedCard}
+use Rattle.branch.specs.Currents.{offVolts}
 use Rattle.card.specs.declared.Judged.{Judged}
 use Rattle.card.specs.declared.Judged.the-variants as judged
 use Rattle.card.specs.Judge.{judgeOf}
@@ -27,10 +28,6 @@ transistorsMost = 64
 
 abbrev pub issuesMost : ℕ
 issuesMost = 65535
-
--- microvolts
-abbrev pub voltsMost : ℕ
-voltsMost = 2500000
 
 -- what was looked for, if it is there
 pub data Found (A : Type 0) : Type 0 where
@@ -52,12 +49,9 @@ abbrev pub issueOf : ℤ → ℕ
 issueOf (pos n) = cond (leb n issuesMost) n 0
 issueOf (negsuc n) = 0
 
--- a node number on the board, and a voltage in range
+-- a node number that is not on the board
 abbrev pub offNode : ℤ → Bool
 offNode n = ltZ n (pos 0) || leZ (pos nodesMost) n
-
-abbrev pub offVolts : ℤ → Bool
-offVolts v = ltZ (pos voltsMost) v || ltZ v (negsuc 2499999)
 
 abbrev pub someOff : List ℤ → Bool
 someOff [] = false

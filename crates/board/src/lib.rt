@@ -53,9 +53,15 @@ pub struct Answered {
     pub answer: Answer,
 }
 
-// The issue numbers.
+// The last issue number.
 const ISSUES: u32 = 65535;
 
+// No volts, and the highest voltage, both raised.
+const ZERO: u32 = 2500000;
+
+const HIGHEST: u32 = 5000000;
+
+// A prepared card of zeros.
 fn no_ready() -> Ready
     ensures { λ r. ⌜ r ≡ noReady ⌝ }
 {
@@ -118,6 +124,7 @@ fn no_transistor() -> Transistor
     }
 }
 
+// The board as it was.
 fn refused(b: Board, f: Refusal) -> Answered
     ensures { λ r. ⌜ r ≡ refuse b f ⌝ }
 {
@@ -134,6 +141,7 @@ impl Board {
 
     pub const TRANSISTORS: usize = 64;
 
+    // No cards, no transistors, and every voltage and total 0.
     pub fn fresh() -> Board
         ensures { λ r. ⌜ r ≡ freshBoard ⌝ }
         ensures { λ r. ⌜ Reached r ⌝ }
@@ -143,12 +151,13 @@ impl Board {
         Board {
             cards: [card; Board::CARDS],
             transistors: [t; Board::TRANSISTORS],
-            volts: [2500000u32; Board::NODES],
+            volts: [ZERO; Board::NODES],
             totals: [0i64; Board::NODES],
             next: 1,
         }
     }
 
+    // A card under a name: 1, 2, 6 to 10, 11, 17. It gets the next issue number.
     pub fn load(mut self, name: &[u8], bytes: &[u8]) -> Answered
         requires { ⌜ Reached self ⌝ }
         ensures { λ r. ⌜ r ≡ loadedOf self (now (name .entry)) (now (bytes .entry)) ⌝ }
@@ -164,7 +173,7 @@ impl Board {
         match judged {
             Judged::Refused(f) => refused(self, f),
             Judged::Card(worked) => {
-                let cards = self.cards;
+                let mut cards = self.cards;
                 let i = finds::find_card(cards, 0);
                 if Board::CARDS <= i {
                     return refused(self, Refusal::NoRoom);
@@ -180,7 +189,8 @@ impl Board {
                     name: held,
                     ready,
                 };
-                self.cards[i] = c;
+                cards[i] = c;
+                self.cards = cards;
                 self.next = issue + 1;
                 Answered {
                     board: self,
@@ -190,6 +200,7 @@ impl Board {
         }
     }
 
+    // A transistor on a card, by its issue number, and on the nodes of E1, B1, B2, C1, C2, C4, S: 12, 13, 14, 11, 17, 15.
     pub fn place(mut self, card: i64, nodes: [i64; 7]) -> Answered
         requires { ⌜ Reached self ⌝ }
         ensures { λ r. ⌜ r ≡ placedOf self card nodes ⌝ }
@@ -204,6 +215,7 @@ impl Board {
         match way {
             Way::Stop(f) => refused(self, f),
             Way::Go(seat, free) => {
+                let following = issue + 1;
                 let c = cards[seat];
                 let t = Transistor {
                     issue,
@@ -223,7 +235,7 @@ impl Board {
                 let after = s.totals;
                 self.transistors = new;
                 self.totals = after;
-                self.next = issue + 1;
+                self.next = following;
                 Answered {
                     board: self,
                     answer: Answer::Issue(issue),
@@ -232,6 +244,7 @@ impl Board {
         }
     }
 
+    // A node's voltage: 13, then 15 where some transistor would overload.
     pub fn move_to(mut self, node: i64, microvolts: i64) -> Answered
         requires { ⌜ Reached self ⌝ }
         ensures { λ r. ⌜ r ≡ movedOf self node microvolts ⌝ }
@@ -243,7 +256,7 @@ impl Board {
             return refused(self, Refusal::OutOfRange);
         }
         let v = given::raised_of(microvolts);
-        if 5000000 < v {
+        if HIGHEST < v {
             return refused(self, Refusal::OutOfRange);
         }
         let was = self.volts;
@@ -266,6 +279,7 @@ impl Board {
         }
     }
 
+    // A transistor taken off, by its issue number: 12.
     pub fn lift(mut self, transistor: i64) -> Answered
         requires { ⌜ Reached self ⌝ }
         ensures { λ r. ⌜ r ≡ liftedOf self transistor ⌝ }
@@ -294,13 +308,14 @@ impl Board {
         }
     }
 
+    // A card given back, by its issue number: 12, 16.
     pub fn withdraw(mut self, card: i64) -> Answered
         requires { ⌜ Reached self ⌝ }
         ensures { λ r. ⌜ r ≡ withdrawnOf self card ⌝ }
         ensures { λ r. ⌜ Reached (r .board) ⌝ }
     {
         let n = given::issue_of(card);
-        let cards = self.cards;
+        let mut cards = self.cards;
         let i = finds::card_at(cards, n);
         if Board::CARDS <= i {
             return refused(self, Refusal::Unknown);
@@ -310,13 +325,15 @@ impl Board {
             return refused(self, Refusal::CardInUse);
         }
         let c = no_card();
-        self.cards[i] = c;
+        cards[i] = c;
+        self.cards = cards;
         Answered {
             board: self,
             answer: Answer::Done,
         }
     }
 
+    // The highest issue number among the cards of a name: 2, 4.
     pub fn look_up(self, name: &[u8]) -> Answered
         requires { ⌜ Reached self ⌝ }
         ensures { λ r. ⌜ r ≡ lookedOf self (now (name .entry)) ⌝ }
@@ -337,6 +354,7 @@ impl Board {
         }
     }
 
+    // A node's voltage in microvolts, and its total in ticks: 13.
     pub fn read_node(self, node: i64) -> Answered
         requires { ⌜ Reached self ⌝ }
         ensures { λ r. ⌜ r ≡ showedOf self node ⌝ }
@@ -346,8 +364,10 @@ impl Board {
         if Board::NODES <= n {
             return refused(self, Refusal::OutOfRange);
         }
-        let v = self.volts[n];
-        let t = self.totals[n];
+        let raised = self.volts;
+        let totals = self.totals;
+        let v = raised[n];
+        let t = totals[n];
         let volts = given::lowered_of(v);
         Answered {
             board: self,

@@ -6,7 +6,7 @@ use mathlib.Core.List.{List, [], _∷_, map}
 use Prim.Native.Nat.{ℕ, zero, suc, _+_, _-_, _*_, _^_, _≤_, _<_, zero-le}
 use native.Mathlib.Nat.{le-trans, le-refl}
 use native.Mathlib.Omega.{arith}
-use lib.Dec.{ltb}
+use lib.Dec.{ltb, lit≤}
 use lib.ListN.{getD, length, replicate, length-replicate}
 use lib.IntN.{ℤ, pos, negsuc, natAbs, subℕ}
 use borrow.Author.Tests.{ltb-false}
@@ -14,14 +14,15 @@ use Rattle.whole.specs.Biased.{below-or-not, sub-up, sub-down}
 use Rattle.whole.specs.Quotient.{quotient-small}
 use Rattle.card.specs.declared.WorkedCard.{WorkedCard}
 use Rattle.card.specs.declared.Judged.the-variants.{Card}
-use Rattle.card.specs.Judge.{judgeOf}
+use Rattle.card.specs.Judge.{judgeOf, IsWorked}
 use Rattle.card.proofs.Sure.{judged-is-worked}
 use Rattle.branch.specs.declared.Over.{Over}
 use Rattle.branch.specs.declared.Over.the-variants.{Within, Ticks, Injection}
 use Rattle.branch.specs.Rows.{Role, Share, unit, root, Row, rowsFor}
 use Rattle.branch.specs.Ticks.{biasOf, tickOf, ratioOf, shareAt, sumShares, dividedBy, rowTicks}
 use Rattle.branch.specs.Outcome.{tickLimit, ratioLimit, someAbove, ticksIn, ratiosIn, firstOver, outcomeAt, outcomeOf}
-use Rattle.branch.specs.Ready.{readyOf, IsReady}
+use Rattle.octave.specs.Table.{entries}
+use Rattle.branch.specs.Ready.{readyOf, IsReady, reach, Askable}
 use Rattle.branch.proofs.Dividing.{root-for}
 use Rattle.branch.proofs.Outcomes.{Fine, fine, first-off}
 
@@ -122,3 +123,14 @@ outcome-small c v (Injection k) e = zeros (2 ^ 53) 7
 pub ticks-small : (c : WorkedCard) (v : List ℤ) (k : ℕ) → natAbs (getD (outcomeOf c v .ticks) k (pos 0)) ≤ 2 ^ 53
 unfolding outcomeOf
 ticks-small c v k = each (2 ^ 53) (outcomeOf c v .ticks) (outcome-small c (biasOf v) (firstOver c (biasOf v) 1 (rowsFor (c .exsub))) refl) k
+
+-- ---- what `work_out` asks can be met: by any worked card, with every voltage 0
+
+none-raised : (n k : ℕ) → getD (replicate n reach) k 0 ≤ 2 * reach
+none-raised zero k = lit≤ tt
+none-raised (suc n) zero = lit≤ tt
+none-raised (suc n) (suc k) = none-raised n k
+
+pub askable : (c : WorkedCard) → IsWorked c → Askable entries (readyOf c) (replicate 7 reach)
+unfolding readyOf
+askable c h = record { table-is = refl; ready = record { worked = h; is = refl }; raised = record { seven = refl; near = none-raised 7 } }

@@ -50,7 +50,7 @@ pub record Leveled (v : ℤ) (x : ℕ) : Type 0 where
   pub is : lowered x ≡ v
   pub near : x ≤ 2 * reach
 
-kept : (v : ℤ) → offVolts v ≡ false → Leveled v (raised v)
+pub kept : (v : ℤ) → offVolts v ≡ false → Leveled v (raised v)
 kept (pos n) e = record { on = e; is = sub-up (n + reach) reach (omega arith) ∙ ap pos (omega arith); near = let h = pos-near e in omega arith }
   where
     pos-near : offVolts (pos n) ≡ false → n ≤ 2500000

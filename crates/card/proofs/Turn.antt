@@ -14,7 +14,8 @@ use lib.Ieee.{Float, ne}
 use lib.Ieee.Scale.{finite}
 use Rattle.float.specs.declared.Number.{Number}
 use Rattle.float.specs.declared.Number.the-variants.{Real, Nothing}
-use Rattle.float.specs.Word.{wordAt, numberIf, numberOf}
+use Rattle.bytes_le.specs.Le.{leAt}
+use Rattle.float.specs.Word.{numberIf, numberOf}
 use Rattle.card.specs.declared.Answer.the-variants as answer
 use Rattle.card.specs.declared.limits.Rule.{Rule}
 use Rattle.card.specs.Record.{width, numberAt, finiteUp}
@@ -30,7 +31,7 @@ nothing-if : (b : Bool) (y : Float) → numberIf b y ≡ Nothing → b ≡ false
 nothing-if true y e = let z : _≡_ {A = ℕ} 0 1 = cc in absurd (omega arith)
 nothing-if false y e = refl
 
-module _ (s : List ℕ) (i w : ℕ) (n : Number) (ew : w ≡ wordAt s (8 * i)) (en : n ≡ numberOf w) where
+module _ (s : List ℕ) (i w : ℕ) (n : Number) (ew : w ≡ leAt 8 s (8 * i)) (en : n ≡ numberOf w) where
   read-at : numberIf (finite (numberAt s i)) (numberAt s i) ≡ n
   read-at = ap numberOf (sym ew) ∙ sym en
 

@@ -6,7 +6,7 @@ use lib.Dec.{eqb}
 use lib.ListN.{length}
 use lib.Ieee.{Float, binary64, ofBits}
 use lib.Ieee.Scale.{finite}
-use Rattle.float.specs.Word.{wordAt}
+use Rattle.bytes_le.specs.Le.{leAt}
 
 -- the words of a record
 abbrev pub width : ℕ
@@ -17,7 +17,7 @@ rightLength s = eqb (length s) (8 * width)
 
 -- number i, as its word has it
 abbrev pub numberAt : List ℕ → ℕ → Float
-numberAt s i = ofBits binary64 (wordAt s (8 * i))
+numberAt s i = ofBits binary64 (leAt 8 s (8 * i))
 
 -- whether each of the first n numbers is finite
 unfoldable pub finiteUp : List ℕ → ℕ → Bool

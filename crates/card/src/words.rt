@@ -36,7 +36,7 @@ pub(crate) fn clip_all(bytes: &[u8]) -> Clipping
     let mut bit: u32 = 1;
     let mut i: usize = 0;
     while i < WIDTH {
-        let Number::Real(x) = float::read(float::word(bytes, 8 * i)) else {
+        let Number::Real(x) = float::read(bytes_le::u64_at(bytes, 8 * i)) else {
             return refused(Refusal::NotFinite);
         };
         let y = limits::apply(limits::rule_of(i), x);

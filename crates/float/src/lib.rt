@@ -1,12 +1,11 @@
-// The floats of a record: a word of eight bytes, the number that its bits stand for, and a number cut to 31 binary digits.
+// The floats of a record: the number that a word's bits stand for, and a number cut to 31 binary digits.
 ghost use mathlib.Core.Path.{_≡_};
 ghost use Prim.Native.Nat.{_<_, _^_};
-ghost use lib.ListN.{getD};
 ghost use mathlib.Core.Bool.{false};
 ghost use lib.IntN.{negsuc};
 ghost use lib.Ieee.{fin};
 ghost use lib.Ieee.Scale.{finite};
-ghost use Rattle.float.specs.Word.{wordAt, numberOf};
+ghost use Rattle.float.specs.Word.{numberOf};
 ghost use Rattle.float.specs.Split.{splitOf};
 
 // What the bits of a word stand for. Nothing: an infinity, or no number.
@@ -19,30 +18,6 @@ pub enum Number {
 pub struct Split {
     pub a: u32,
     pub up: u16,
-}
-
-// The byte at i, and 0 past the end.
-fn byte(s: &[u8], i: usize) -> u64
-    ensures { λ r. ⌜ (r ≡ getD (now (s .entry)) i 0) × (r < 256) ⌝ }
-{
-    if i < s.len() { s[i] as u64 } else { 0 }
-}
-
-// The word in the eight bytes from `at` on, the lowest byte first.
-pub fn word(s: &[u8], at: usize) -> u64
-    ensures { λ r. ⌜ r ≡ wordAt (now (s .entry)) at ⌝ }
-{
-    if s.len() <= at {
-        return 0;
-    }
-    let t = &s[at..];
-    let mut sum: u64 = 0;
-    let mut i: usize = 8;
-    while 0 < i {
-        i -= 1;
-        sum = sum * 256 + byte(t, i);
-    }
-    sum
 }
 
 // An exponent's field of all ones marks an infinity or a NaN: judged on the bits, as no comparison tells a NaN.

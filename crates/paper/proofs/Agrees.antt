@@ -4,7 +4,7 @@ use mathlib.Core.Bool.{false, true, not}
 use mathlib.Core.List.{List, [], _∷_, map}
 use Prim.Native.Nat.{ℕ}
 use lib.Dec.{leb}
-use lib.ListN.{take}
+use lib.ListN.{take, replicate}
 use lib.IntN.{ℤ, pos, negsuc}
 use lib.Ieee.{ofBits, toBits, lt, eq, ne, le, whole, mul, div, sub, toUnsigned, size}
 use Rattle.refusal.specs.declared.Refusal.the-variants.{Malformed, BadName, NoRoom, NumbersUsedUp}
@@ -14,13 +14,15 @@ use Rattle.card.specs.declared.Judged.{Judged}
 use Rattle.card.specs.declared.Judged.the-variants.{Card}
 use Rattle.card.specs.Record.{finiteUp, rightLength}
 use Rattle.card.specs.Clip.{clippedUp, clippedAt, maskUp}
-use Rattle.card.specs.Judge.{judgeOf}
+use Rattle.card.specs.Judge.{judgeOf, IsWorked}
+use Rattle.card.proofs.Sure.{judged-is-worked}
 use Rattle.name.specs.Name.{asked, padded}
 use Rattle.whole.specs.Root.{rootBits, rootOf}
 use Rattle.octave.specs.Table.{entries, entryOf}
 use Rattle.branch.specs.Ticks.{expOf}
 use Rattle.branch.specs.Outcome.{outcomeOf}
-use Rattle.branch.specs.Ready.{readyOf}
+use Rattle.branch.specs.Ready.{readyOf, reach, Askable}
+use Rattle.branch.proofs.Laws.{askable}
 use Rattle.board.specs.declared.Board.{Board}
 use Rattle.board.specs.Verdict.{cardsMost, unless, afterwards, judgedCard, loadVerdict, placeVerdict, moveVerdict}
 use Rattle.board.specs.Desk.{overloads, rowsGive, flow, sumOver, anyOf, usedUp}
@@ -88,3 +90,11 @@ other-rows = refl
 pub paper-agrees : map (λ (c : Case). c .worked) cases ≡ map (λ (c : Case). c .paper) cases
 unfolding cases
 paper-agrees = ap₂ (λ (l : List ℤ) (ls : List (List ℤ)). l ∷ ls) board-row other-rows
+
+-- ---- what the inner functions ask can be met: by the paper's card
+
+pub worked-card : IsWorked worked
+worked-card = judged-is-worked (recordOf theCard) worked card-is
+
+pub askable-card : Askable entries (readyOf worked) (replicate 7 reach)
+askable-card = askable worked worked-card

@@ -60,15 +60,15 @@ module _ (x t k : ℕ) (s : Turn x t k) (h : 0 < k) where
   pub squared : (t + bit (k - 1)) * (t + bit (k - 1)) ≤ 18446744065119617025
   squared = mul-le-mul small small
 
-  pub set : (t + bit (k - 1)) * (t + bit (k - 1)) ≤ x → Turn x (t + bit (k - 1)) (k - 1)
-  set l = record {
+  pub taken : (t + bit (k - 1)) * (t + bit (k - 1)) ≤ x → Turn x (t + bit (k - 1)) (k - 1)
+  taken l = record {
     same = rw is (rw (le-leb ((t + 2 ^ (k - 1)) * (t + 2 ^ (k - 1))) x (rw is at l)) at turned);
     room = omega (arith, is, twice, s);
     few = omega (arith, s);
   }
 
-  pub unset : x < (t + bit (k - 1)) * (t + bit (k - 1)) → Turn x t (k - 1)
-  unset l = record {
+  pub passed : x < (t + bit (k - 1)) * (t + bit (k - 1)) → Turn x t (k - 1)
+  passed l = record {
     same = rw (lt-leb ((t + 2 ^ (k - 1)) * (t + 2 ^ (k - 1))) x (rw is at l)) at turned;
     room = omega (arith, is, twice, s);
     few = omega (arith, s);

@@ -1,6 +1,6 @@
 -- `bitwise` finds one bit of the root in each turn, as the definition does.
 use native.Mathlib.Omega.{arith}
-use Rattle.whole.proofs.Bits.{Turn, begun, ended, small, squared, set, unset}
+use Rattle.whole.proofs.Bits.{Turn, begun, ended, small, squared, taken, passed}
 use Rattle.whole.proofs.bitwise.Statement.{statement}
 use Rattle.whole.proofs.bitwise.Tie as tie
 
@@ -29,13 +29,13 @@ loop-less : tie.Need-loop-less Inv-loop μ-loop
 loop-less c = omega arith
 
 loop-again : tie.Need-loop-again Inv-loop μ-loop
-loop-again c = set _ _ (c .before .before .loop .k) (c .before .before .loop .inv) (c .before .loop-test .taken) (c .if1 .taken)
+loop-again c = taken _ _ (c .before .before .loop .k) (c .before .before .loop .inv) (c .before .loop-test .taken) (c .if1 .taken)
 
 loop-less-2 : tie.Need-loop-less-2 Inv-loop μ-loop
 loop-less-2 c = omega arith
 
 loop-again-2 : tie.Need-loop-again-2 Inv-loop μ-loop
-loop-again-2 c = unset _ _ (c .before .before .loop .k) (c .before .before .loop .inv) (c .before .loop-test .taken) (c .if1 .left)
+loop-again-2 c = passed _ _ (c .before .before .loop .k) (c .before .before .loop .inv) (c .before .loop-test .taken) (c .if1 .left)
 
 returns : tie.Need-returns Inv-loop μ-loop
 returns c = ended _ _ _ (c .before .loop .inv) (omega arith)

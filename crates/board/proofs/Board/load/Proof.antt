@@ -9,7 +9,6 @@ use Rattle.card.specs.declared.Judged.the-variants.{Card}
 use Rattle.card.specs.Judge.{judgeOf}
 use Rattle.card.specs.Record.{rightLength}
 use Rattle.card.proofs.Sure.{judged-is-worked}
-use Rattle.board.proofs.Good.{good}
 use Rattle.board.proofs.Reaches.{after-load}
 use Rattle.board.proofs.Answers.{load-malformed, load-bad-name, load-judged, load-no-room, load-used-up, loads-it}
 use Rattle.board.proofs.Board.load.Statement.{statement}
@@ -75,11 +74,11 @@ pad-requires c κs = search needs
 prepare-requires : tie.Need-prepare-requires
 prepare-requires c κs = judged-is-worked _ _ (is-card (c .before .before .before .before .before .before))
 
-mul-c : tie.Need-mul-c
-mul-c c = search needs
+mul-cards : tie.Need-mul-cards
+mul-cards c = search needs
 
-element-set-from-c : tie.Need-element-set-from-c
-element-set-from-c c = let h = good ((c .before .before .before .before .before .before .before .before .before .before .before .before .before .before .before .before .pre)) .cards-long in search needs
+array-set-from-cards : tie.Need-array-set-from-cards
+array-set-from-cards c = search needs
 
 add-self : tie.Need-add-self
 add-self c = search needs
@@ -111,8 +110,8 @@ load-spec =
     returns-4
     pad-requires
     prepare-requires
-    mul-c
-    element-set-from-c
+    mul-cards
+    array-set-from-cards
     add-self
     returns-5
     returns-6)

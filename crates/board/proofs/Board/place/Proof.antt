@@ -35,14 +35,17 @@ refused-requires c κs = search needs
 enum-known-way-2 : tie.Need-enum-known-way-2
 enum-known-way-2 c = search needs
 
+add-following : tie.Need-add-following
+add-following c = let h = number-below (c .before .before .before .before .before .before .before .before .pre) (c .before .before .before .before .before .before .before .before .args .card) (c .before .before .before .before .before .before .before .before .args .nodes) _ _ (number (c .before .before .before .before .before .before .before)) ((c .before .before .before .before .before .before .nodes-of .ensures)) ((c .before .before .before .may-place .ensures)) _ _ ((c .before .way2 .given .1)) in omega arith
+
 mul-c : tie.Need-mul-c
 mul-c c = let h = seat-below (c .before .before .before .before .before .before .before .before .pre) (c .before .before .before .before .before .before .before .before .args .card) (c .before .before .before .before .before .before .before .before .args .nodes) _ _ (number (c .before .before .before .before .before .before .before)) ((c .before .before .before .before .before .before .nodes-of .ensures)) ((c .before .before .before .may-place .ensures)) _ _ ((c .before .way2 .given .1)) in omega arith
 
 array-copy-out-c : tie.Need-array-copy-out-c
 array-copy-out-c c = seat-below (c .before .before .before .before .before .before .before .before .pre) (c .before .before .before .before .before .before .before .before .args .card) (c .before .before .before .before .before .before .before .before .args .nodes) _ _ (number (c .before .before .before .before .before .before .before)) ((c .before .before .before .before .before .before .nodes-of .ensures)) ((c .before .before .before .may-place .ensures)) _ _ ((c .before .way2 .given .1))
 
-cast-t27 : tie.Need-cast-t27
-cast-t27 c = let h = seat-below (c .before .before .before .before .before .before .before .before .before .pre) (c .before .before .before .before .before .before .before .before .before .args .card) (c .before .before .before .before .before .before .before .before .before .args .nodes) _ _ (number (c .before .before .before .before .before .before .before .before)) ((c .before .before .before .before .before .before .before .nodes-of .ensures)) ((c .before .before .before .before .may-place .ensures)) _ _ ((c .before .before .way2 .given .1)) in search needs
+cast-t28 : tie.Need-cast-t28
+cast-t28 c = let h = seat-below (c .before .before .before .before .before .before .before .before .before .pre) (c .before .before .before .before .before .before .before .before .before .args .card) (c .before .before .before .before .before .before .before .before .before .args .nodes) _ _ (number (c .before .before .before .before .before .before .before .before)) ((c .before .before .before .before .before .before .before .nodes-of .ensures)) ((c .before .before .before .before .may-place .ensures)) _ _ ((c .before .before .way2 .given .1)) in search needs
 
 mul-new : tie.Need-mul-new
 mul-new c = let h = free-below (c .before .before .before .before .before .before .before .before .before .pre) (c .before .before .before .before .before .before .before .before .before .args .card) (c .before .before .before .before .before .before .before .before .before .args .nodes) _ _ (number (c .before .before .before .before .before .before .before .before)) ((c .before .before .before .before .before .before .before .nodes-of .ensures)) ((c .before .before .before .before .may-place .ensures)) _ _ ((c .before .before .way2 .given .1)) in omega arith
@@ -62,9 +65,6 @@ refused-requires-2 c κs = search needs
 returns : tie.Need-returns
 returns c = after-place (c .before .before .before .before .before .before .before .before .before .before .before .before .before .before .before .before .before .before .pre) _ _ (seven (c .before .before .before .before .before .before .before .before .before .before .before .before .before .before .before .before .before .before)) (c .refused2 .ensures ∙ place-over (c .before .before .before .before .before .before .before .before .before .before .before .before .before .before .before .before .before .before .pre) (c .before .before .before .before .before .before .before .before .before .before .before .before .before .before .before .before .before .before .args .card) (c .before .before .before .before .before .before .before .before .before .before .before .before .before .before .before .before .before .before .args .nodes) _ _ (number (c .before .before .before .before .before .before .before .before .before .before .before .before .before .before .before .before .before)) ((c .before .before .before .before .before .before .before .before .before .before .before .before .before .before .before .before .nodes-of .ensures)) ((c .before .before .before .before .before .before .before .before .before .before .before .before .before .may-place .ensures)) _ _ ((c .before .before .before .before .before .before .before .before .before .before .before .way2 .given .1)) _ ((c .before .before .settle .ensures)) (c .before .if1 .taken))
 
-add-self : tie.Need-add-self
-add-self c = let h = number-below (c .before .before .before .before .before .before .before .before .before .before .before .before .before .before .before .before .before .before .pre) (c .before .before .before .before .before .before .before .before .before .before .before .before .before .before .before .before .before .before .args .card) (c .before .before .before .before .before .before .before .before .before .before .before .before .before .before .before .before .before .before .args .nodes) _ _ (number (c .before .before .before .before .before .before .before .before .before .before .before .before .before .before .before .before .before)) ((c .before .before .before .before .before .before .before .before .before .before .before .before .before .before .before .before .nodes-of .ensures)) ((c .before .before .before .before .before .before .before .before .before .before .before .before .before .may-place .ensures)) _ _ ((c .before .before .before .before .before .before .before .before .before .before .before .way2 .given .1)) in omega arith
-
 returns-2 : tie.Need-returns-2
 returns-2 c = after-place (c .before .before .before .before .before .before .before .before .before .pre) _ _ (seven (c .before .before .before .before .before .before .before .before .before)) (c .refused .ensures ∙ place-stops (c .before .before .before .before .before .before .before .before .before .pre) (c .before .before .before .before .before .before .before .before .before .args .card) (c .before .before .before .before .before .before .before .before .before .args .nodes) _ _ (number (c .before .before .before .before .before .before .before .before)) ((c .before .before .before .before .before .before .before .nodes-of .ensures)) ((c .before .before .before .before .may-place .ensures)) _ ((c .before .before .way .given .1)))
 
@@ -81,15 +81,15 @@ place-spec =
     enum-known-way
     refused-requires
     enum-known-way-2
+    add-following
     mul-c
     array-copy-out-c
-    cast-t27
+    cast-t28
     mul-new
     array-set-from-new
     only-requires
     settle-requires
     refused-requires-2
     returns
-    add-self
     returns-2
     returns-3)

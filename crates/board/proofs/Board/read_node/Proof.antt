@@ -23,26 +23,26 @@ refused-requires : tie.Need-refused-requires
 refused-requires c κs = search needs
 
 returns : tie.Need-returns
-returns c = after-node (c .before .before .before .pre) (c .before .before .before .args .node) (c .refused .ensures ∙ show-off (c .before .before .before .args .t1) (c .before .before .before .args .node) (subst (λ (k : ℕ). 32 ≤ k) (number (c .before .before)) (c .before .if1 .taken)))
+returns c = after-node (c .before .before .before .pre) (c .before .before .before .args .node) (c .refused .ensures ∙ show-off (c .before .before .before .args .self) (c .before .before .before .args .node) (subst (λ (k : ℕ). 32 ≤ k) (number (c .before .before)) (c .before .if1 .taken)))
 
 mul-v : tie.Need-mul-v
 mul-v c = search needs
 
-element-copy-out-v : tie.Need-element-copy-out-v
-element-copy-out-v c = search needs
+array-read-v : tie.Need-array-read-v
+array-read-v c = search needs
 
 mul-t : tie.Need-mul-t
 mul-t c = search needs
 
-element-copy-out-t : tie.Need-element-copy-out-t
-element-copy-out-t c = search needs
+array-copy-out-t : tie.Need-array-copy-out-t
+array-copy-out-t c = search needs
 
 lowered-of-requires : tie.Need-lowered-of-requires
 lowered-of-requires c κs = search needs
 
 returns-2 : tie.Need-returns-2
 returns-2 c =
-    after-node (c .before .before .before .before .before .pre) (c .before .before .before .before .before .args .node) (shows-it (c .before .before .before .before .before .args .t1) (c .before .before .before .before .before .args .node) _ _ _ (number (c .before .before .before .before)) (c .before .before .before .if1 .left)
+    after-node (c .before .before .before .before .before .before .pre) (c .before .before .before .before .before .before .args .node) (shows-it (c .before .before .before .before .before .before .args .self) (c .before .before .before .before .before .before .args .node) _ _ _ (number (c .before .before .before .before .before)) (c .before .before .before .before .if1 .left)
     (toZ-ofZ w64 (c .lowered-of .result) (search needs) ∙ c .lowered-of .ensures) (search needs))
 
 pub read-node-spec : {M : Type 1} → statement M
@@ -54,8 +54,8 @@ read-node-spec =
     refused-requires
     returns
     mul-v
-    element-copy-out-v
+    array-read-v
     mul-t
-    element-copy-out-t
+    array-copy-out-t
     lowered-of-requires
     returns-2)

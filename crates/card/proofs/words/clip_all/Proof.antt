@@ -17,11 +17,11 @@ abbrev μ-loop : tie.MeasureT-loop
 loop-holds : tie.Need-loop-holds Inv-loop μ-loop
 loop-holds c = start _ _ refl
 
-mul-word : tie.Need-mul-word Inv-loop μ-loop
-mul-word c = search needs
+mul-u64-at : tie.Need-mul-u64-at Inv-loop μ-loop
+mul-u64-at c = search needs
 
-word-requires : tie.Need-word-requires Inv-loop μ-loop
-word-requires c κs = search needs
+u64-at-requires : tie.Need-u64-at-requires Inv-loop μ-loop
+u64-at-requires c κs = search needs
 
 read-requires : tie.Need-read-requires Inv-loop μ-loop
 read-requires c κs = search needs
@@ -38,11 +38,11 @@ refused-requires c κs = search needs
 returns : tie.Need-returns Inv-loop μ-loop
 returns c =
     let told = c .before in
-    let word = told .before .before .before in
-    let loop = word .before .before in
+    let got = told .before .before .before in
+    let loop = got .before .before in
     let s = loop .before .before .args .bytes .now in
-    let none = is-nothing s (loop .loop .i) _ _ (word .word .ensures) (told .before .before .read .ensures) (told .enum-told .given .1) in
-    c .refused .ensures ∙ rw (not-finite s width (loop .loop .i) (word .before .loop-test .taken) none)
+    let none = is-nothing s (loop .loop .i) _ _ (got .u64-at .ensures .value) (told .before .before .read .ensures) (told .enum-told .given .1) in
+    c .refused .ensures ∙ rw (not-finite s width (loop .loop .i) (got .before .loop-test .taken) none)
 
 rule-of-requires : tie.Need-rule-of-requires Inv-loop μ-loop
 rule-of-requires c κs = search needs
@@ -79,7 +79,7 @@ loop-again c =
     let in-loop = read .before .before in
     let l = in-loop .before .loop in
     let s = in-loop .before .before .before .args .bytes .now in
-    let real = is-real s (l .i) _ _ (read .before .word .ensures) (read .read .ensures) _ (c .before .before .before .before .x .given .1) in
+    let real = is-real s (l .i) _ _ (read .before .u64-at .ensures .value) (read .read .ensures) _ (c .before .before .before .before .x .given .1) in
     let y = clipped-is s (l .i) _ _ _ (c .before .before .rule-of .ensures) (real .1) (c .before .apply .ensures) in
     turn _ _ _ _ _ (l .inv) (in-loop .loop-test .taken) _ _ _ (c .weight .ensures) (real .0) (real .1) y
 
@@ -93,8 +93,8 @@ clip-all-spec =
     Inv-loop
     μ-loop
     loop-holds
-    mul-word
-    word-requires
+    mul-u64-at
+    u64-at-requires
     read-requires
     enum-known-x
     enum-told

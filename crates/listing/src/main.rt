@@ -1,0 +1,91 @@
+// Lists the cards of the library on standard input; or, given arguments, of each library that one of them names, in turn, where `-` names standard input.
+use libc::STDIN_FILENO;
+use libc::STDOUT_FILENO;
+use library::Reading;
+use sheet::Text;
+
+// The first n bytes.
+fn put(bytes: &[u8], n: usize) {
+    if n <= bytes.len() {
+        io::write_all(STDOUT_FILENO, &bytes[0..n]);
+    }
+}
+
+fn show(t: Text) {
+    let bytes = t.bytes;
+    put(&bytes, t.len);
+}
+
+fn list_card(library: &[u8], padded: &[u8]) {
+    let name = sheet::bare_name(padded);
+    let bytes = library::find(library, name);
+    show(sheet::listing_line(name, bytes));
+}
+
+// The cards of the first n names.
+fn list_cards(library: &[u8], names: &[u8], n: u32) {
+    let mut rest = names;
+    let mut left = n;
+    while 0 < left {
+        if rest.len() < 16 {
+            return;
+        }
+        list_card(library, &rest[0..16]);
+        rest = &rest[16..];
+        left -= 1;
+    }
+}
+
+fn list(library: &[u8]) {
+    let mut names = [0u8; 4096];
+    let mut words = [0u64; 4096];
+    match library::read(library, &mut names, &mut words) {
+        Reading::Cards(n) => {
+            show(sheet::label_line(b"cards", n as u64));
+            list_cards(library, &names, n);
+        }
+        Reading::Refused(f) => {
+            show(sheet::label_line(b"refused", refusal::number(f) as u64));
+        }
+    }
+}
+
+// At most one byte more than the longest library is read.
+fn list_input(fd: i32) {
+    let mut bytes = [0u8; 36881];
+    let n = io::read_full(fd, &mut bytes);
+    list(&bytes[..n]);
+}
+
+fn list_file(path: &[u8]) {
+    let fd = os::open_read(path);
+    if fd < 0 {
+        os::fail(path);
+        return;
+    }
+    list_input(fd);
+    libc::close(fd);
+}
+
+fn list_argument(i: usize) {
+    let mut path = io::buffer();
+    let n = os::arg(i, &mut path);
+    if n == 1 {
+        if path[0] == b'-' {
+            list_input(STDIN_FILENO);
+            return;
+        }
+    }
+    list_file(&path[..n]);
+}
+
+fn main() {
+    let count = os::arg_count();
+    if count < 2 {
+        list_input(STDIN_FILENO);
+        return;
+    }
+    for i in 1..count {
+        list_argument(i);
+    }
+}

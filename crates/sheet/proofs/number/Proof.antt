@@ -1,0 +1,46 @@
+-- `number` meets its contract: nothing, a minus sign first, or none.
+use borrow.Author.Needs.{needs}
+use Rattle.sheet.proofs.Numerals.{no-numeral, with-minus, without-minus}
+use Rattle.sheet.proofs.number.Tie as tie
+use Rattle.sheet.proofs.number.Statement.{statement}
+
+returns : tie.Need-returns
+returns c = no-numeral _ (c .if1 .taken)
+
+shared-slice-read-if2 : tie.Need-shared-slice-read-if2
+shared-slice-read-if2 c = search needs
+
+sub-read : tie.Need-sub-read
+sub-read c = search needs
+
+part-read-start : tie.Need-part-read-start
+part-read-start c = search needs
+
+part-read-end : tie.Need-part-read-end
+part-read-end c = search needs
+
+read-requires : tie.Need-read-requires
+read-requires c κs = search needs
+
+read-requires-2 : tie.Need-read-requires-2
+read-requires-2 c κs = search needs
+
+returns-2 : tie.Need-returns-2
+returns-2 c = with-minus _ (c .before .before .if2 .taken) (c .read .ensures)
+
+returns-3 : tie.Need-returns-3
+returns-3 c = without-minus _ (c .before .if2 .left) (c .read2 .ensures)
+
+pub number-spec : {M : Type 1} → statement M
+number-spec =
+    tie.close
+    (tie.spec
+    returns
+    shared-slice-read-if2
+    sub-read
+    part-read-start
+    part-read-end
+    read-requires
+    read-requires-2
+    returns-2
+    returns-3)

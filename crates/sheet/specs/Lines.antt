@@ -1,0 +1,49 @@
+-- The lines that are printed, each with the newline that ends it.
+use mathlib.Core.Bool.{cond, _&&_}
+use mathlib.Core.List.{List, [], _∷_, _++_}
+use Prim.Native.Nat.{ℕ}
+use lib.Dec.{eqb, leb}
+use lib.IntN.{ℤ}
+use Rattle.card.specs.Clip.{clipOf}
+use Rattle.card.specs.Judge.{judgeOf}
+use Rattle.card.specs.Told.{judgedNumber}
+use Rattle.sheet.specs.Digits.{hexDigits, decimalOf, signedDigits, ampereDigits}
+
+abbrev pub space : ℕ
+space = 32
+
+abbrev pub newline : ℕ
+newline = 10
+
+-- a word and a number
+unfoldable pub labelLine : List ℕ → ℕ → List ℕ
+labelLine label n = label ++ (space ∷ (decimalOf n ++ newline ∷ []))
+
+-- a name without its padding: what stands before the first zero
+unfoldable pub unpadded : List ℕ → List ℕ
+unpadded [] = []
+unpadded (b ∷ l) = cond (eqb b 0) [] (b ∷ unpadded l)
+
+-- the mask beside the number of a card: none where that is one of 6 to 10
+abbrev pub listedMask : ℕ → ℕ → ℕ
+listedMask number mask = cond (leb 6 number && leb number 10) 0 mask
+
+-- a card's name, which has no padding, its mask and its number
+abbrev pub cardLine : List ℕ → ℕ → ℕ → List ℕ
+cardLine name mask number = name ++ (space ∷ (hexDigits 4 (listedMask number mask) ++ (space ∷ (decimalOf number ++ newline ∷ []))))
+
+-- the listing of a card: the mask that clipping its record gives, and 0 or the number by which loading refuses it
+unfoldable pub listingLine : List ℕ → List ℕ → List ℕ
+listingLine name bytes = cardLine name (clipOf bytes .mask) (judgedNumber (judgeOf bytes))
+
+-- a node's number, its microvolts and its ticks
+unfoldable pub readingOf : ℕ → ℤ → ℤ → List ℕ
+readingOf node v ticks = decimalOf node ++ (space ∷ (signedDigits v ++ (space ∷ signedDigits ticks)))
+
+-- the answer to a node that is read: `node` before these
+unfoldable pub nodeLine : ℕ → ℤ → ℤ → List ℕ
+nodeLine node v ticks = (110 ∷ 111 ∷ 100 ∷ 101 ∷ space ∷ []) ++ (readingOf node v ticks ++ newline ∷ [])
+
+-- a line of the bias sheet: its current in amperes after these
+unfoldable pub sheetLine : ℕ → ℤ → ℤ → List ℕ
+sheetLine node v ticks = readingOf node v ticks ++ (space ∷ (ampereDigits ticks ++ newline ∷ []))

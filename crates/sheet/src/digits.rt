@@ -1,0 +1,120 @@
+// Numbers in digits, added to a text.
+ghost use mathlib.Core.Path.{_≡_};
+ghost use mathlib.Core.Bool.{_&&_};
+ghost use Prim.Native.Nat.{_<_, _≤_};
+ghost use lib.Dec.{ltb};
+ghost use Rattle.sheet.specs.Text.{Adds};
+ghost use Rattle.sheet.specs.Digits.{glyphOf, digitsOf, hexDigits, plainDigits, decimalOf, signOf, openedOf, signedDigits, picoOf, ampereDigits};
+use crate::Text;
+use crate::gather;
+use whole::Int;
+
+// A signed number: whether it is below zero, and its size.
+struct Opened {
+    below: bool,
+    size: u64,
+}
+
+// The digit of a value below sixteen, in lower case.
+fn glyph(d: u64) -> u8
+    requires { ⌜ d < 16 ⌝ }
+    ensures { λ r. ⌜ r ≡ glyphOf d ⌝ }
+{
+    if d < 10 { 48 + d as u8 } else { 87 + d as u8 }
+}
+
+// The k lowest digits of x, zeros in front too.
+fn spell(t: Text, x: u64, base: u64, k: usize) -> Text
+    requires { ⌜ (0 < base) × (base ≤ 16) ⌝ }
+    ensures { λ r. ⌜ Adds t (digitsOf base k x) r ⌝ }
+{
+    if k == 0 {
+        return t;
+    }
+    let high = spell(t, x / base, base, k - 1);
+    gather::push(high, glyph(x % base))
+}
+
+pub(crate) fn hex(t: Text, x: u64, k: usize) -> Text
+    ensures { λ r. ⌜ Adds t (hexDigits k x) r ⌝ }
+{
+    spell(t, x, 16, k)
+}
+
+// The decimal digits of x, which has at most k of them.
+fn plain(t: Text, x: u64, k: usize) -> Text
+    ensures { λ r. ⌜ Adds t (plainDigits k x) r ⌝ }
+{
+    if k == 0 {
+        return t;
+    }
+    if x < 10 {
+        return gather::push(t, glyph(x));
+    }
+    let high = plain(t, x / 10, k - 1);
+    gather::push(high, glyph(x % 10))
+}
+
+pub(crate) fn decimal(t: Text, x: u64) -> Text
+    ensures { λ r. ⌜ Adds t (decimalOf x) r ⌝ }
+{
+    plain(t, x, 20)
+}
+
+fn sign(t: Text, below: bool) -> Text
+    ensures { λ r. ⌜ Adds t (signOf below) r ⌝ }
+{
+    if below { gather::push(t, b'-') } else { t }
+}
+
+fn open(v: i64) -> Opened
+    ensures { λ r. ⌜ r ≡ openedOf v ⌝ }
+{
+    match whole::open(v) {
+        Int::Pos(n) => Opened {
+            below: false,
+            size: n,
+        },
+        Int::NegSuc(n) => Opened {
+            below: true,
+            size: n + 1,
+        },
+    }
+}
+
+pub(crate) fn signed(t: Text, v: i64) -> Text
+    ensures { λ r. ⌜ Adds t (signedDigits v) r ⌝ }
+{
+    let s = open(v);
+    decimal(sign(t, s.below), s.size)
+}
+
+// t ticks in whole picoamperes: four decimals of an ampere at a time.
+fn picoamperes(t: u64) -> u64
+    ensures { λ r. ⌜ r ≡ picoOf t ⌝ }
+{
+    let a = t % 1125899906842624 * 10000;
+    let b = a % 1125899906842624 * 10000;
+    let c = b % 1125899906842624 * 10000;
+    let high = t / 1125899906842624 * 10000 + a / 1125899906842624;
+    let low = b / 1125899906842624 * 10000 + c / 1125899906842624;
+    high * 100000000 + low
+}
+
+// Whether a current of p picoamperes is shown with a minus sign.
+fn shows_minus(below: bool, p: u64) -> bool
+    ensures { λ r. ⌜ r ≡ (below && ltb 0 p) ⌝ }
+{
+    if below { 0 < p } else { false }
+}
+
+pub(crate) fn amperes(t: Text, ticks: i64) -> Text
+    ensures { λ r. ⌜ Adds t (ampereDigits ticks) r ⌝ }
+{
+    let s = open(ticks);
+    let p = picoamperes(s.size);
+    let signed = sign(t, shows_minus(s.below, p));
+    let above = decimal(signed, p / 1000000000000);
+    let point = gather::push(above, b'.');
+    spell(point, p, 10, 12)
+}

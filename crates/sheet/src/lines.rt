@@ -1,0 +1,39 @@
+// What the lines are made of.
+ghost use mathlib.Core.Path.{_≡_};
+ghost use Rattle.card.specs.Judge.{judgeOf};
+ghost use Rattle.card.specs.Told.{judgedNumber};
+ghost use Rattle.sheet.specs.Text.{Adds};
+ghost use Rattle.sheet.specs.Lines.{listedMask, readingOf};
+use crate::Text;
+use crate::digits;
+use crate::gather;
+use card::Judged;
+
+// The number that loading gives of a record: 0 where it takes it.
+pub(crate) fn judged(bytes: &[u8]) -> u32
+    ensures { λ r. ⌜ r ≡ judgedNumber (judgeOf (now (bytes .entry))) ⌝ }
+{
+    match card::judge(bytes) {
+        Judged::Card(_) => 0,
+        Judged::Refused(f) => refusal::number(f),
+    }
+}
+
+// The mask that is listed beside a number.
+pub(crate) fn listed_mask(number: u32, mask: u32) -> u32
+    ensures { λ r. ⌜ r ≡ listedMask number mask ⌝ }
+{
+    match number {
+        6..=10 => 0,
+        _ => mask,
+    }
+}
+
+// A node, its microvolts and its ticks.
+pub(crate) fn reading(t: Text, node: u32, microvolts: i64, ticks: i64) -> Text
+    ensures { λ r. ⌜ Adds t (readingOf node microvolts ticks) r ⌝ }
+{
+    let numbered = gather::push(digits::decimal(t, node as u64), b' ');
+    let held = gather::push(digits::signed(numbered, microvolts), b' ');
+    digits::signed(held, ticks)
+}
