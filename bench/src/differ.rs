@@ -1,0 +1,162 @@
+//! A differential test: random libraries and scripts, good and damaged, through the built programs and through this implementation.
+
+use crate::protocol;
+use std::io::Write;
+use std::process::{Command, Stdio};
+
+/// A small generator of numbers that can be repeated.
+pub struct Dice(u64);
+
+impl Dice {
+    pub fn new(seed: u64) -> Self {
+        Dice(seed.wrapping_mul(0x9e37_79b9_7f4a_7c15) | 1)
+    }
+
+    fn roll(&mut self, n: u64) -> u64 {
+        self.0 ^= self.0 << 13;
+        self.0 ^= self.0 >> 7;
+        self.0 ^= self.0 << 17;
+        self.0 % n
+    }
+
+    fn one_of<'a, T>(&mut self, list: &'a [T]) -> &'a T {
+        &list[self.roll(list.len() as u64) as usize]
+    }
+}
+
+const PLAIN: [f64; 16] =
+    [1.0, 5.1e-18, 12e-3, 140.0, 0.18, 4.0e-16, 2.0, 4.0, 9e-18, -1.0, 60e-6, 0.0, 0.0, 0.0, 17_808_740.0, 504.0];
+
+/// A record: a plain card with some of its numbers moved, now and then to where they hurt.
+fn record(d: &mut Dice) -> Vec<u8> {
+    let mut x = PLAIN;
+    for _ in 0..d.roll(5) {
+        let i = d.roll(14) as usize;
+        x[i] *= 2f64.powi(d.roll(40) as i32 - 20);
+    }
+    if d.roll(3) == 0 {
+        x[13] = 1.0;
+    }
+    if d.roll(3) == 0 {
+        x[12] = 3.0;
+    }
+    if d.roll(5) == 0 {
+        let odd = [f64::NAN, f64::INFINITY, -0.0, 5e-324, 1e300, -1.0, 0.5, 0.0, 1e-13, 2.0, 503.0, 9_999_999.0, 50_000_001.0];
+        x[d.roll(16) as usize] = *d.one_of(&odd);
+    }
+    if d.roll(4) == 0 {
+        x[14] = 10_000_000.0 + d.roll(40_000_001) as f64;
+    }
+    x.map(f64::to_le_bytes).concat()
+}
+
+fn name(d: &mut Dice) -> Vec<u8> {
+    let most = if d.roll(20) == 0 { 18 } else { 4 };
+    let n = 1 + d.roll(most) as usize;
+    (0..n).map(|_| *d.one_of(b"abcxyz019~!_")).collect()
+}
+
+/// A library, damaged one time in three.
+fn library(d: &mut Dice) -> Vec<u8> {
+    let n = d.roll(6) as usize;
+    let names: Vec<Vec<u8>> = (0..n).map(|_| name(d)).collect();
+    let mut b = vec![1, 0, n as u8, 0, 16, 0, 0, 0];
+    b.extend((16 + 16 * n as u32).to_le_bytes());
+    b.extend((16 + 144 * n as u32).to_le_bytes());
+    for x in &names {
+        let mut padded = x.clone();
+        padded.resize(16, 0);
+        b.extend(&padded[..16]);
+    }
+    for _ in 0..n {
+        b.extend(record(d));
+    }
+    if d.roll(3) == 0 {
+        match d.roll(4) {
+            0 => b.truncate(d.roll(b.len() as u64 + 1) as usize),
+            1 => b.push(0),
+            _ => {
+                let at = d.roll((b.len() as u64).min(16 + 16 * n as u64)) as usize;
+                b[at] = b[at].wrapping_add(1 + d.roll(255) as u8);
+            }
+        }
+    }
+    b
+}
+
+fn number(d: &mut Dice, most: u64) -> String {
+    match d.roll(30) {
+        0 => "-1".into(),
+        1 => "99999999999999999999".into(),
+        2 => "-9223372036854775808".into(),
+        3 => "007".into(),
+        4 => "x".into(),
+        _ => d.roll(most + 1).to_string(),
+    }
+}
+
+fn script(d: &mut Dice) -> Vec<u8> {
+    let mut s = Vec::new();
+    let hex = |b: &[u8]| b.iter().map(|x| format!("{x:02x}")).collect::<String>();
+    for _ in 0..3 {
+        s.extend(format!("record {} {}\n", String::from_utf8(name(d)).unwrap(), hex(&record(d))).bytes());
+    }
+    for _ in 0..120 {
+        let line = match d.roll(14) {
+            0 => format!("record {} {}", String::from_utf8(name(d)).unwrap(), hex(&record(d))),
+            1 | 2 => {
+                let nodes: Vec<String> = (0..7).map(|_| number(d, 33)).collect();
+                format!("place {} {}", number(d, 20), nodes.join(" "))
+            }
+            3 => format!("place {} 0 1 1 2 2 2 3", number(d, 6)),
+            4..=7 => {
+                let v = *d.one_of(&[0, 16_000, 600_000, 650_000, 700_000, 1_500_000, 2_500_000, 2_500_001]);
+                let minus = if d.roll(4) == 0 { "-" } else { "" };
+                format!("move {} {minus}{v}", number(d, 32))
+            }
+            8 => format!("lift {}", number(d, 40)),
+            9 => format!("withdraw {}", number(d, 8)),
+            10 => format!("lookup {}", String::from_utf8(name(d)).unwrap()),
+            11 => format!("node {}", number(d, 33)),
+            12 => "sheet".into(),
+            _ => d.one_of(&["", "# a word", "  sheet ", "sheet 1", "move 1", "nothing", "record a 0g", "find a"]).to_string(),
+        };
+        s.extend(line.bytes());
+        s.push(b'\n');
+    }
+    s
+}
+
+fn piped(program: &[String], input: &[u8]) -> Vec<u8> {
+    let mut child = Command::new(&program[0])
+        .args(&program[1..])
+        .stdin(Stdio::piped())
+        .stdout(Stdio::piped())
+        .spawn()
+        .expect("the program runs");
+    let mut pipe = child.stdin.take().unwrap();
+    let input = input.to_vec();
+    let feeding = std::thread::spawn(move || pipe.write_all(&input));
+    let out = child.wait_with_output().unwrap().stdout;
+    let _ = feeding.join();
+    out
+}
+
+/// `desk` and `listing` are the words that run the two built programs.
+pub fn differ(rounds: u64, desk: &[String], listing: &[String]) {
+    let mut bad = 0;
+    for round in 1..=rounds {
+        let d = &mut Dice::new(round);
+        let l = library(d);
+        if piped(listing, &l) != protocol::listing(&l) {
+            bad += 1;
+            println!("listing differs in round {round}");
+        }
+        let s = script(d);
+        if piped(desk, &s) != protocol::Desk::new(|_| None).run(&s) {
+            bad += 1;
+            println!("desk differs in round {round}");
+        }
+    }
+    println!("{rounds} rounds, {bad} differences");
+}

@@ -1,0 +1,92 @@
+//! The card library: read, written and searched.
+
+pub fn well_formed(name: &[u8]) -> bool {
+    (1..=16).contains(&name.len()) && name.iter().all(|b| (0x21..=0x7e).contains(b))
+}
+
+fn padded_well(name: &[u8]) -> bool {
+    let end = name.iter().position(|&b| b == 0).unwrap_or(16);
+    well_formed(&name[..end]) && name[end..].iter().all(|&b| b == 0)
+}
+
+fn names_judged(names: &[u8]) -> Result<(), u32> {
+    if !names.chunks(16).all(padded_well) {
+        return Err(2);
+    }
+    let mut keys: Vec<u128> = names.chunks(16).map(|n| u128::from_le_bytes(n.try_into().unwrap())).collect();
+    keys.sort_unstable();
+    if keys.windows(2).any(|pair| pair[0] == pair[1]) {
+        return Err(3);
+    }
+    Ok(())
+}
+
+fn field(library: &[u8], at: usize, width: usize) -> usize {
+    (0..width).rev().fold(0, |n, i| n * 256 + library[at + i] as usize)
+}
+
+/// The number of cards of a good library.
+pub fn count(library: &[u8]) -> Result<usize, u32> {
+    if library.len() < 16 {
+        return Err(1);
+    }
+    let n = field(library, 2, 2);
+    let whole = 16 + 144 * n;
+    if field(library, 0, 2) != 1
+        || n > 256
+        || field(library, 4, 4) != 16
+        || field(library, 8, 4) != 16 + 16 * n
+        || field(library, 12, 4) != whole
+        || library.len() != whole
+    {
+        return Err(1);
+    }
+    names_judged(&library[16..16 + 16 * n])?;
+    Ok(n)
+}
+
+pub fn read(library: &[u8], names: &mut [u8], words: &mut [u64]) -> Result<usize, u32> {
+    let n = count(library)?;
+    if names.len() < 16 * n || words.len() < 16 * n {
+        return Err(5);
+    }
+    names[..16 * n].copy_from_slice(&library[16..16 + 16 * n]);
+    for (w, b) in words.iter_mut().zip(library[16 + 16 * n..].chunks(8)) {
+        *w = u64::from_le_bytes(b.try_into().unwrap());
+    }
+    Ok(n)
+}
+
+pub fn write(names: &[u8], words: &[u64], library: &mut [u8]) -> Result<usize, u32> {
+    let n = names.len() / 16;
+    if names.len() % 16 != 0 || words.len() != 16 * n || n > 256 {
+        return Err(1);
+    }
+    names_judged(names)?;
+    let whole = 16 + 144 * n;
+    if library.len() < whole {
+        return Err(5);
+    }
+    library[0..2].copy_from_slice(&1u16.to_le_bytes());
+    library[2..4].copy_from_slice(&(n as u16).to_le_bytes());
+    library[4..8].copy_from_slice(&16u32.to_le_bytes());
+    library[8..12].copy_from_slice(&((16 + 16 * n) as u32).to_le_bytes());
+    library[12..16].copy_from_slice(&(whole as u32).to_le_bytes());
+    library[16..16 + 16 * n].copy_from_slice(names);
+    for (w, b) in words.iter().zip(library[16 + 16 * n..].chunks_mut(8)) {
+        b.copy_from_slice(&w.to_le_bytes());
+    }
+    Ok(whole)
+}
+
+/// Where a card's record starts.
+pub fn locate(library: &[u8], name: &[u8]) -> Result<usize, u32> {
+    let n = count(library)?;
+    if !well_formed(name) {
+        return Err(2);
+    }
+    let mut key = [0u8; 16];
+    key[..name.len()].copy_from_slice(name);
+    let at = library[16..16 + 16 * n].chunks(16).position(|x| x == key);
+    at.map(|i| 16 + 16 * n + 128 * i).ok_or(4)
+}

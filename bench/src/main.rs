@@ -1,0 +1,184 @@
+//! An implementation of the desk's rules that shares nothing with the proved one, to compare with it.
+//!
+//!   bench vectors FOLDER    this implementation against a folder of outside vectors
+//!   bench desk SCRIPT       what the desk must answer to a script
+//!   bench time NAME         one of the timed runs: currents, move, empty, pair, read, find
+//!   bench differ ROUNDS     random inputs through the built programs (`./desk`, `./listing` of the project) and this implementation
+
+mod board;
+mod card;
+mod currents;
+mod differ;
+mod library;
+mod numbers;
+mod protocol;
+
+use std::path::Path;
+
+fn read_file(path: &[u8]) -> Option<Vec<u8>> {
+    use std::os::unix::ffi::OsStrExt;
+    let path = std::ffi::OsStr::from_bytes(path);
+    let mut bytes = std::fs::read(path).ok()?;
+    bytes.truncate(protocol::LONGEST + 1);
+    Some(bytes)
+}
+
+fn unhex(s: &str) -> Vec<u8> {
+    (0..s.len() / 2).map(|i| u8::from_str_radix(&s[2 * i..2 * i + 2], 16).unwrap()).collect()
+}
+
+/// Files of one ending in a folder, sorted, without it.
+fn stems(folder: &Path, ending: &str) -> Vec<String> {
+    let mut v: Vec<String> = std::fs::read_dir(folder)
+        .unwrap()
+        .filter_map(|e| e.unwrap().file_name().into_string().ok()?.strip_suffix(ending).map(Into::into))
+        .collect();
+    v.sort();
+    v
+}
+
+fn vectors(folder: &Path) {
+    let (mut good, mut bad) = (0, 0);
+    let mut tell = |same: bool, what: &str| {
+        if same {
+            good += 1;
+        } else {
+            bad += 1;
+            println!("differs: {what}");
+        }
+    };
+    let listing = folder.join("listing");
+    for s in stems(&listing, ".lib") {
+        let want = std::fs::read(listing.join(format!("{s}.listing"))).unwrap();
+        tell(protocol::listing(&std::fs::read(listing.join(format!("{s}.lib"))).unwrap()) == want, &s);
+    }
+    for file in ["currents.tsv", "currents-rich.tsv"] {
+        let table = numbers::table();
+        for line in std::fs::read_to_string(folder.join(file)).unwrap().lines() {
+            let cells: Vec<&str> = line.split('\t').collect();
+            let v: Vec<i64> = cells[1].split(' ').map(|x| x.parse().unwrap()).collect();
+            let got = match card::judge(&unhex(cells[0])) {
+                Err(k) => format!("refused {k}"),
+                Ok(c) => match currents::currents(&table, &c, &v.try_into().unwrap()) {
+                    None => "refused".into(),
+                    Some(i) => format!("ok {}", i.map(|x| x.to_string()).join(" ")),
+                },
+            };
+            tell(if got == "refused" { cells[2].starts_with("refused ") } else { got == cells[2] }, line);
+        }
+    }
+    let desk = folder.join("desk");
+    std::env::set_current_dir(&desk).unwrap();
+    for s in stems(Path::new("."), ".desk") {
+        let want = std::fs::read(format!("{s}.out")).unwrap();
+        tell(protocol::Desk::new(read_file).run(&std::fs::read(format!("{s}.desk")).unwrap()) == want, &s);
+    }
+    println!("{good} agree, {bad} differ");
+}
+
+/// The card of the timed runs: a small transistor with every row at work.
+fn timed_record() -> Vec<u8> {
+    let words = [
+        1.0, 5.1e-18, 12e-3, 140.0, 0.18, 4.0e-16, 2.0, 4.0, 9e-18, -1.0, 60e-6, 0.0, 0.0, 0.0, 17_808_740.0, 504.0f64,
+    ];
+    words.map(f64::to_le_bytes).concat()
+}
+
+fn time_currents() {
+    let table = numbers::table();
+    let c = card::judge(&timed_record()).unwrap();
+    let (mut x, mut sum) = (1u32, 0u64);
+    for _ in 0..20_000_000 {
+        x = (x * 1103 + 12345) % 65536;
+        let b = 600_000 + 2 * x as i64;
+        let h = 2_000_000 - x as i64;
+        let t = currents::currents(&table, &c, &[0, b, b, h, h, h, 0]).unwrap_or([0; 7]);
+        for (k, t) in t.iter().enumerate() {
+            if *t != 3 * k as i64 + 1 {
+                sum = (sum + k as u64 + 1) % 1_000_000_007;
+            }
+        }
+    }
+    println!("{sum}");
+}
+
+fn time_move() {
+    let mut b = board::Board::fresh();
+    b.load(b"a", &timed_record()).unwrap();
+    for i in 0..64 {
+        let n = 1 + i % 8;
+        b.place(1, &[0, n, n, 20, 20, 20, 0]).unwrap();
+    }
+    b.shift(20, 2_000_000).unwrap();
+    let mut x = 1u32;
+    for n in 0..200_000 {
+        x = (x * 1103 + 12345) % 65536;
+        let _ = b.shift(1 + n % 8, 600_000 + x as i64);
+    }
+    println!("{:?}", b.node(20));
+}
+
+fn time_empty() {
+    let mut b = board::Board::fresh();
+    for n in 0..2_000_000 {
+        b.shift(n % 32, n % 65536).unwrap();
+    }
+    println!("{:?}", b.node(3));
+}
+
+fn time_pair() {
+    let mut b = board::Board::fresh();
+    for n in 0..1_000_000 {
+        if n % 32_000 == 0 {
+            b = board::Board::fresh();
+            b.load(b"a", &timed_record()).unwrap();
+        }
+        let i = b.place(1, &[0, 1, 1, 2, 2, 2, 3]).unwrap();
+        b.lift(i).unwrap();
+    }
+    println!("{:?}", b.node(3));
+}
+
+/// A good library of 256 cards.
+fn timed_library() -> Vec<u8> {
+    let names: Vec<u8> = (0..256).flat_map(|i| format!("{:\0<16}", format!("npn{i:03}")).into_bytes()).collect();
+    let words: Vec<u64> = timed_record().chunks(8).map(|b| u64::from_le_bytes(b.try_into().unwrap())).collect();
+    let mut l = vec![0; protocol::LONGEST];
+    library::write(&names, &words.repeat(256), &mut l).unwrap();
+    l
+}
+
+fn time_read() {
+    let l = timed_library();
+    let (mut names, mut words, mut sum) = (vec![0; 4096], vec![0; 4096], 0);
+    for _ in 0..100_000 {
+        sum += library::read(std::hint::black_box(&l), &mut names, &mut words).unwrap();
+    }
+    println!("{sum}");
+}
+
+fn time_find() {
+    let l = timed_library();
+    let sum: usize = (0..100_000).map(|_| library::locate(std::hint::black_box(&l), b"npn200").unwrap() % 7).sum();
+    println!("{sum}");
+}
+
+fn main() {
+    let args: Vec<String> = std::env::args().skip(1).collect();
+    match args.iter().map(String::as_str).collect::<Vec<_>>()[..] {
+        ["desk", script] => print!("{}", String::from_utf8_lossy(&protocol::Desk::new(read_file).run(&std::fs::read(script).unwrap()))),
+        ["time", "currents"] => time_currents(),
+        ["time", "move"] => time_move(),
+        ["time", "empty"] => time_empty(),
+        ["time", "pair"] => time_pair(),
+        ["time", "read"] => time_read(),
+        ["time", "find"] => time_find(),
+        ["vectors", folder] => vectors(&std::fs::canonicalize(folder).unwrap()),
+        ["differ", rounds] => {
+            let top = concat!(env!("CARGO_MANIFEST_DIR"), "/..");
+            let program = |name: &str| vec![format!("{top}/tools/run"), name.to_string()];
+            differ::differ(rounds.parse().unwrap(), &program("desk"), &program("listing"));
+        }
+        _ => println!("usage: bench vectors FOLDER | desk SCRIPT | time NAME | differ ROUNDS"),
+    }
+}

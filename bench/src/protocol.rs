@@ -1,0 +1,171 @@
+//! The two programs' text, worked from the rules: what `listing` and `desk` write.
+
+use crate::board::Board;
+use crate::card::{clip, judge};
+use crate::library;
+use std::fmt::Write;
+
+pub const LONGEST: usize = 16 + 144 * 256;
+
+pub fn listing(input: &[u8]) -> Vec<u8> {
+    let n = match library::count(input) {
+        Ok(n) => n,
+        Err(k) => return format!("refused {k}\n").into_bytes(),
+    };
+    let mut out = format!("cards {n}\n").into_bytes();
+    for i in 0..n {
+        let name = &input[16 + 16 * i..32 + 16 * i];
+        let record = &input[16 + 16 * n + 128 * i..][..128];
+        let (mask, refusal) = match judge(record) {
+            Ok(_) => (clip(record).map_or(0, |c| c.mask), 0),
+            Err(k) => (0, k),
+        };
+        out.extend(name.iter().take_while(|&&b| b != 0));
+        out.extend(format!(" {mask:04x} {refusal}\n").bytes());
+    }
+    out
+}
+
+fn amperes(ticks: i64) -> String {
+    let pico = (ticks.unsigned_abs() as u128 * 1_000_000_000_000) >> 50;
+    let sign = if ticks < 0 && pico != 0 { "-" } else { "" };
+    format!("{sign}{}.{:012}", pico / 1_000_000_000_000, pico % 1_000_000_000_000)
+}
+
+/// A number of the protocol; one beyond 64 bits becomes an end of the range, which every call refuses.
+fn number(word: &[u8]) -> Option<i64> {
+    let (minus, digits) = match word.split_first() {
+        Some((b'-', rest)) => (true, rest),
+        _ => (false, word),
+    };
+    if digits.is_empty() || !digits.iter().all(u8::is_ascii_digit) {
+        return None;
+    }
+    let mut n: i64 = 0;
+    for d in digits {
+        let d = (d - b'0') as i64;
+        n = n.saturating_mul(10);
+        n = if minus { n.saturating_sub(d) } else { n.saturating_add(d) };
+    }
+    Some(n)
+}
+
+fn hex(word: &[u8]) -> Option<Vec<u8>> {
+    if word == b"-" {
+        return Some(Vec::new());
+    }
+    if word.len() % 2 != 0 {
+        return None;
+    }
+    let digit = |b: u8| (b as char).to_digit(16).map(|d| d as u8);
+    word.chunks(2).map(|p| Some(digit(p[0])? * 16 + digit(p[1])?)).collect()
+}
+
+pub struct Desk {
+    board: Board,
+    library: Vec<u8>,
+    read: fn(&[u8]) -> Option<Vec<u8>>,
+}
+
+fn told<T>(r: Result<T, u32>, f: impl FnOnce(T) -> String) -> String {
+    match r {
+        Ok(x) => f(x),
+        Err(k) => format!("refused {k}"),
+    }
+}
+
+impl Desk {
+    pub fn new(read: fn(&[u8]) -> Option<Vec<u8>>) -> Self {
+        let library = vec![1, 0, 0, 0, 16, 0, 0, 0, 16, 0, 0, 0, 16, 0, 0, 0];
+        Desk { board: Board::fresh(), library, read }
+    }
+
+    pub fn run(&mut self, script: &[u8]) -> Vec<u8> {
+        let mut out = Vec::new();
+        let mut lines: Vec<&[u8]> = script.split(|&b| b == b'\n').collect();
+        if lines.last() == Some(&&b""[..]) {
+            lines.pop();
+        }
+        for line in lines {
+            if line.len() > 4096 {
+                out.extend(b"error line too long\n");
+                continue;
+            }
+            let words: Vec<&[u8]> = line.split(|&b| b == b' ').filter(|w| !w.is_empty()).collect();
+            if words.is_empty() || words[0][0] == b'#' {
+                continue;
+            }
+            match self.obey(&words) {
+                Some(answer) => out.extend(answer),
+                None => {
+                    out.extend(b"error ");
+                    out.extend(&words[0][..words[0].len().min(32)]);
+                }
+            }
+            out.push(b'\n');
+        }
+        out
+    }
+
+    fn record(&self, name: &[u8]) -> Result<Vec<u8>, u32> {
+        library::locate(&self.library, name).map(|at| self.library[at..at + 128].to_vec())
+    }
+
+    fn obey(&mut self, words: &[&[u8]]) -> Option<Vec<u8>> {
+        let rest = &words[1..];
+        let text = match (words[0], rest.len()) {
+            (b"library", 1) => match (self.read)(rest[0]) {
+                None => return Some([b"error cannot read ", rest[0]].concat()),
+                Some(bytes) => match library::count(&bytes) {
+                    Ok(n) => {
+                        self.library = bytes;
+                        format!("library {n}")
+                    }
+                    Err(k) => format!("refused {k}"),
+                },
+            },
+            (b"find", 1) => told(library::locate(&self.library, rest[0]), |at| format!("record {at}")),
+            (b"clip", 1) => told(self.record(rest[0]).and_then(|r| clip(&r)), |c| {
+                let mut s = format!("clip {:04x}", c.mask);
+                for x in c.numbers {
+                    write!(s, " {:016x}", x.to_bits()).unwrap();
+                }
+                s
+            }),
+            (b"load", 1) => {
+                let r = self.record(rest[0]);
+                told(r.and_then(|r| self.board.load(rest[0], &r)), |i| format!("card {i}"))
+            }
+            (b"record", 2) => {
+                let bytes = hex(rest[1])?;
+                told(self.board.load(rest[0], &bytes), |i| format!("card {i}"))
+            }
+            (b"place", 8) => {
+                let n: Vec<i64> = rest.iter().map(|w| number(w)).collect::<Option<_>>()?;
+                let nodes = n[1..].try_into().unwrap();
+                told(self.board.place(n[0], &nodes), |i| format!("transistor {i}"))
+            }
+            (b"move", 2) => {
+                let (n, v) = (number(rest[0])?, number(rest[1])?);
+                told(self.board.shift(n, v), |_| "moved".into())
+            }
+            (b"lift", 1) => told(self.board.lift(number(rest[0])?), |_| "lifted".into()),
+            (b"withdraw", 1) => told(self.board.withdraw(number(rest[0])?), |_| "withdrawn".into()),
+            (b"lookup", 1) => told(self.board.look_up(rest[0]), |i| format!("card {i}")),
+            (b"node", 1) => {
+                let n = number(rest[0])?;
+                told(self.board.node(n), |(v, t)| format!("node {n} {v} {t}"))
+            }
+            (b"sheet", 0) => {
+                let (volts, totals) = self.board.reading();
+                let mut s = String::from("sheet 32");
+                for (i, (v, t)) in volts.iter().zip(totals).enumerate() {
+                    write!(s, "\n{i} {v} {t} {}", amperes(t)).unwrap();
+                }
+                s
+            }
+            _ => return None,
+        };
+        Some(text.into_bytes())
+    }
+}
