@@ -24,8 +24,24 @@ impl Dice {
     }
 }
 
-const PLAIN: [f64; 16] =
-    [1.0, 5.1e-18, 12e-3, 140.0, 0.18, 4.0e-16, 2.0, 4.0, 9e-18, -1.0, 60e-6, 0.0, 0.0, 0.0, 17_808_740.0, 504.0];
+const PLAIN: [f64; 16] = [
+    1.0,
+    5.1e-18,
+    12e-3,
+    140.0,
+    0.18,
+    4.0e-16,
+    2.0,
+    4.0,
+    9e-18,
+    -1.0,
+    60e-6,
+    0.0,
+    0.0,
+    0.0,
+    17_808_740.0,
+    504.0,
+];
 
 /// A record: a plain card with some of its numbers moved, now and then to where they hurt.
 fn record(d: &mut Dice) -> Vec<u8> {
@@ -41,7 +57,21 @@ fn record(d: &mut Dice) -> Vec<u8> {
         x[12] = 3.0;
     }
     if d.roll(5) == 0 {
-        let odd = [f64::NAN, f64::INFINITY, -0.0, 5e-324, 1e300, -1.0, 0.5, 0.0, 1e-13, 2.0, 503.0, 9_999_999.0, 50_000_001.0];
+        let odd = [
+            f64::NAN,
+            f64::INFINITY,
+            -0.0,
+            5e-324,
+            1e300,
+            -1.0,
+            0.5,
+            0.0,
+            1e-13,
+            2.0,
+            503.0,
+            9_999_999.0,
+            50_000_001.0,
+        ];
         x[d.roll(16) as usize] = *d.one_of(&odd);
     }
     if d.roll(4) == 0 {
@@ -99,18 +129,31 @@ fn script(d: &mut Dice) -> Vec<u8> {
     let mut s = Vec::new();
     let hex = |b: &[u8]| b.iter().map(|x| format!("{x:02x}")).collect::<String>();
     for _ in 0..3 {
-        s.extend(format!("record {} {}\n", String::from_utf8(name(d)).unwrap(), hex(&record(d))).bytes());
+        s.extend(
+            format!(
+                "record {} {}\n",
+                String::from_utf8(name(d)).unwrap(),
+                hex(&record(d))
+            )
+            .bytes(),
+        );
     }
     for _ in 0..120 {
         let line = match d.roll(14) {
-            0 => format!("record {} {}", String::from_utf8(name(d)).unwrap(), hex(&record(d))),
+            0 => format!(
+                "record {} {}",
+                String::from_utf8(name(d)).unwrap(),
+                hex(&record(d))
+            ),
             1 | 2 => {
                 let nodes: Vec<String> = (0..7).map(|_| number(d, 33)).collect();
                 format!("place {} {}", number(d, 20), nodes.join(" "))
             }
             3 => format!("place {} 0 1 1 2 2 2 3", number(d, 6)),
             4..=7 => {
-                let v = *d.one_of(&[0, 16_000, 600_000, 650_000, 700_000, 1_500_000, 2_500_000, 2_500_001]);
+                let v = *d.one_of(&[
+                    0, 16_000, 600_000, 650_000, 700_000, 1_500_000, 2_500_000, 2_500_001,
+                ]);
                 let minus = if d.roll(4) == 0 { "-" } else { "" };
                 format!("move {} {minus}{v}", number(d, 32))
             }
@@ -119,7 +162,18 @@ fn script(d: &mut Dice) -> Vec<u8> {
             10 => format!("lookup {}", String::from_utf8(name(d)).unwrap()),
             11 => format!("node {}", number(d, 33)),
             12 => "sheet".into(),
-            _ => d.one_of(&["", "# a word", "  sheet ", "sheet 1", "move 1", "nothing", "record a 0g", "find a"]).to_string(),
+            _ => d
+                .one_of(&[
+                    "",
+                    "# a word",
+                    "  sheet ",
+                    "sheet 1",
+                    "move 1",
+                    "nothing",
+                    "record a 0g",
+                    "find a",
+                ])
+                .to_string(),
         };
         s.extend(line.bytes());
         s.push(b'\n');

@@ -13,7 +13,10 @@ fn names_judged(names: &[u8]) -> Result<(), u32> {
     if !names.chunks(16).all(padded_well) {
         return Err(2);
     }
-    let mut keys: Vec<u128> = names.chunks(16).map(|n| u128::from_le_bytes(n.try_into().unwrap())).collect();
+    let mut keys: Vec<u128> = names
+        .chunks(16)
+        .map(|n| u128::from_le_bytes(n.try_into().unwrap()))
+        .collect();
     keys.sort_unstable();
     if keys.windows(2).any(|pair| pair[0] == pair[1]) {
         return Err(3);
@@ -22,7 +25,9 @@ fn names_judged(names: &[u8]) -> Result<(), u32> {
 }
 
 fn field(library: &[u8], at: usize, width: usize) -> usize {
-    (0..width).rev().fold(0, |n, i| n * 256 + library[at + i] as usize)
+    (0..width)
+        .rev()
+        .fold(0, |n, i| n * 256 + library[at + i] as usize)
 }
 
 /// The number of cards of a good library.

@@ -2,7 +2,7 @@
 //!
 //!   bench vectors FOLDER    this implementation against a folder of outside vectors
 //!   bench desk SCRIPT       what the desk must answer to a script
-//!   bench time NAME         one of the timed runs: currents, move, empty, pair, read, find
+//!   bench time NAME         one of the timed runs: root, exponential, currents, move, empty, pair, read, find
 //!   bench differ ROUNDS     random inputs through the built programs (`./desk`, `./listing` of the project) and this implementation
 
 mod board;
@@ -24,14 +24,23 @@ fn read_file(path: &[u8]) -> Option<Vec<u8>> {
 }
 
 fn unhex(s: &str) -> Vec<u8> {
-    (0..s.len() / 2).map(|i| u8::from_str_radix(&s[2 * i..2 * i + 2], 16).unwrap()).collect()
+    (0..s.len() / 2)
+        .map(|i| u8::from_str_radix(&s[2 * i..2 * i + 2], 16).unwrap())
+        .collect()
 }
 
 /// Files of one ending in a folder, sorted, without it.
 fn stems(folder: &Path, ending: &str) -> Vec<String> {
     let mut v: Vec<String> = std::fs::read_dir(folder)
         .unwrap()
-        .filter_map(|e| e.unwrap().file_name().into_string().ok()?.strip_suffix(ending).map(Into::into))
+        .filter_map(|e| {
+            e.unwrap()
+                .file_name()
+                .into_string()
+                .ok()?
+                .strip_suffix(ending)
+                .map(Into::into)
+        })
         .collect();
     v.sort();
     v
@@ -50,7 +59,10 @@ fn vectors(folder: &Path) {
     let listing = folder.join("listing");
     for s in stems(&listing, ".lib") {
         let want = std::fs::read(listing.join(format!("{s}.listing"))).unwrap();
-        tell(protocol::listing(&std::fs::read(listing.join(format!("{s}.lib"))).unwrap()) == want, &s);
+        tell(
+            protocol::listing(&std::fs::read(listing.join(format!("{s}.lib"))).unwrap()) == want,
+            &s,
+        );
     }
     for file in ["currents.tsv", "currents-rich.tsv"] {
         let table = numbers::table();
@@ -64,14 +76,25 @@ fn vectors(folder: &Path) {
                     Some(i) => format!("ok {}", i.map(|x| x.to_string()).join(" ")),
                 },
             };
-            tell(if got == "refused" { cells[2].starts_with("refused ") } else { got == cells[2] }, line);
+            tell(
+                if got == "refused" {
+                    cells[2].starts_with("refused ")
+                } else {
+                    got == cells[2]
+                },
+                line,
+            );
         }
     }
     let desk = folder.join("desk");
     std::env::set_current_dir(&desk).unwrap();
     for s in stems(Path::new("."), ".desk") {
         let want = std::fs::read(format!("{s}.out")).unwrap();
-        tell(protocol::Desk::new(read_file).run(&std::fs::read(format!("{s}.desk")).unwrap()) == want, &s);
+        tell(
+            protocol::Desk::new(read_file).run(&std::fs::read(format!("{s}.desk")).unwrap())
+                == want,
+            &s,
+        );
     }
     println!("{good} agree, {bad} differ");
 }
@@ -79,9 +102,45 @@ fn vectors(folder: &Path) {
 /// The card of the timed runs: a small transistor with every row at work.
 fn timed_record() -> Vec<u8> {
     let words = [
-        1.0, 5.1e-18, 12e-3, 140.0, 0.18, 4.0e-16, 2.0, 4.0, 9e-18, -1.0, 60e-6, 0.0, 0.0, 0.0, 17_808_740.0, 504.0f64,
+        1.0,
+        5.1e-18,
+        12e-3,
+        140.0,
+        0.18,
+        4.0e-16,
+        2.0,
+        4.0,
+        9e-18,
+        -1.0,
+        60e-6,
+        0.0,
+        0.0,
+        0.0,
+        17_808_740.0,
+        504.0f64,
     ];
     words.map(f64::to_le_bytes).concat()
+}
+
+fn time_root() {
+    let (mut x, mut sum) = (1u64, 0u64);
+    for n in 0..50_000_000 {
+        x = (x * 1103 + 12345) % 65536;
+        sum = (sum + numbers::root((x << 46) + n)) % (1 << 30);
+    }
+    println!("{sum}");
+}
+
+fn time_exponential() {
+    let table = numbers::table();
+    let octave = std::hint::black_box(17_808_740);
+    let (mut x, mut sum) = (1u64, 0u64);
+    for _ in 0..50_000_000 {
+        x = (x * 1103 + 12345) % 65536;
+        let g = numbers::gain(&table, 10 * x as i64 - 10_000, octave);
+        sum = (sum + g.m + (g.n + 8192) as u64) % (1 << 30);
+    }
+    println!("{sum}");
 }
 
 fn time_currents() {
@@ -141,8 +200,13 @@ fn time_pair() {
 
 /// A good library of 256 cards.
 fn timed_library() -> Vec<u8> {
-    let names: Vec<u8> = (0..256).flat_map(|i| format!("{:\0<16}", format!("npn{i:03}")).into_bytes()).collect();
-    let words: Vec<u64> = timed_record().chunks(8).map(|b| u64::from_le_bytes(b.try_into().unwrap())).collect();
+    let names: Vec<u8> = (0..256)
+        .flat_map(|i| format!("{:\0<16}", format!("npn{i:03}")).into_bytes())
+        .collect();
+    let words: Vec<u64> = timed_record()
+        .chunks(8)
+        .map(|b| u64::from_le_bytes(b.try_into().unwrap()))
+        .collect();
     let mut l = vec![0; protocol::LONGEST];
     library::write(&names, &words.repeat(256), &mut l).unwrap();
     l
@@ -159,14 +223,23 @@ fn time_read() {
 
 fn time_find() {
     let l = timed_library();
-    let sum: usize = (0..100_000).map(|_| library::locate(std::hint::black_box(&l), b"npn200").unwrap() % 7).sum();
+    let sum: usize = (0..100_000)
+        .map(|_| library::locate(std::hint::black_box(&l), b"npn200").unwrap() % 7)
+        .sum();
     println!("{sum}");
 }
 
 fn main() {
     let args: Vec<String> = std::env::args().skip(1).collect();
     match args.iter().map(String::as_str).collect::<Vec<_>>()[..] {
-        ["desk", script] => print!("{}", String::from_utf8_lossy(&protocol::Desk::new(read_file).run(&std::fs::read(script).unwrap()))),
+        ["desk", script] => print!(
+            "{}",
+            String::from_utf8_lossy(
+                &protocol::Desk::new(read_file).run(&std::fs::read(script).unwrap())
+            )
+        ),
+        ["time", "root"] => time_root(),
+        ["time", "exponential"] => time_exponential(),
         ["time", "currents"] => time_currents(),
         ["time", "move"] => time_move(),
         ["time", "empty"] => time_empty(),
@@ -177,7 +250,11 @@ fn main() {
         ["differ", rounds] => {
             let top = concat!(env!("CARGO_MANIFEST_DIR"), "/..");
             let program = |name: &str| vec![format!("{top}/tools/run"), name.to_string()];
-            differ::differ(rounds.parse().unwrap(), &program("desk"), &program("listing"));
+            differ::differ(
+                rounds.parse().unwrap(),
+                &program("desk"),
+                &program("listing"),
+            );
         }
         _ => println!("usage: bench vectors FOLDER | desk SCRIPT | time NAME | differ ROUNDS"),
     }

@@ -29,7 +29,11 @@ pub fn listing(input: &[u8]) -> Vec<u8> {
 fn amperes(ticks: i64) -> String {
     let pico = (ticks.unsigned_abs() as u128 * 1_000_000_000_000) >> 50;
     let sign = if ticks < 0 && pico != 0 { "-" } else { "" };
-    format!("{sign}{}.{:012}", pico / 1_000_000_000_000, pico % 1_000_000_000_000)
+    format!(
+        "{sign}{}.{:012}",
+        pico / 1_000_000_000_000,
+        pico % 1_000_000_000_000
+    )
 }
 
 /// A number of the protocol; one beyond 64 bits becomes an end of the range, which every call refuses.
@@ -45,7 +49,11 @@ fn number(word: &[u8]) -> Option<i64> {
     for d in digits {
         let d = (d - b'0') as i64;
         n = n.saturating_mul(10);
-        n = if minus { n.saturating_sub(d) } else { n.saturating_add(d) };
+        n = if minus {
+            n.saturating_sub(d)
+        } else {
+            n.saturating_add(d)
+        };
     }
     Some(n)
 }
@@ -58,7 +66,9 @@ fn hex(word: &[u8]) -> Option<Vec<u8>> {
         return None;
     }
     let digit = |b: u8| (b as char).to_digit(16).map(|d| d as u8);
-    word.chunks(2).map(|p| Some(digit(p[0])? * 16 + digit(p[1])?)).collect()
+    word.chunks(2)
+        .map(|p| Some(digit(p[0])? * 16 + digit(p[1])?))
+        .collect()
 }
 
 pub struct Desk {
@@ -77,7 +87,11 @@ fn told<T>(r: Result<T, u32>, f: impl FnOnce(T) -> String) -> String {
 impl Desk {
     pub fn new(read: fn(&[u8]) -> Option<Vec<u8>>) -> Self {
         let library = vec![1, 0, 0, 0, 16, 0, 0, 0, 16, 0, 0, 0, 16, 0, 0, 0];
-        Desk { board: Board::fresh(), library, read }
+        Desk {
+            board: Board::fresh(),
+            library,
+            read,
+        }
     }
 
     pub fn run(&mut self, script: &[u8]) -> Vec<u8> {
@@ -91,7 +105,10 @@ impl Desk {
                 out.extend(b"error line too long\n");
                 continue;
             }
-            let words: Vec<&[u8]> = line.split(|&b| b == b' ').filter(|w| !w.is_empty()).collect();
+            let words: Vec<&[u8]> = line
+                .split(|&b| b == b' ')
+                .filter(|w| !w.is_empty())
+                .collect();
             if words.is_empty() || words[0][0] == b'#' {
                 continue;
             }
@@ -124,7 +141,9 @@ impl Desk {
                     Err(k) => format!("refused {k}"),
                 },
             },
-            (b"find", 1) => told(library::locate(&self.library, rest[0]), |at| format!("record {at}")),
+            (b"find", 1) => told(library::locate(&self.library, rest[0]), |at| {
+                format!("record {at}")
+            }),
             (b"clip", 1) => told(self.record(rest[0]).and_then(|r| clip(&r)), |c| {
                 let mut s = format!("clip {:04x}", c.mask);
                 for x in c.numbers {
@@ -134,7 +153,9 @@ impl Desk {
             }),
             (b"load", 1) => {
                 let r = self.record(rest[0]);
-                told(r.and_then(|r| self.board.load(rest[0], &r)), |i| format!("card {i}"))
+                told(r.and_then(|r| self.board.load(rest[0], &r)), |i| {
+                    format!("card {i}")
+                })
             }
             (b"record", 2) => {
                 let bytes = hex(rest[1])?;
@@ -143,14 +164,18 @@ impl Desk {
             (b"place", 8) => {
                 let n: Vec<i64> = rest.iter().map(|w| number(w)).collect::<Option<_>>()?;
                 let nodes = n[1..].try_into().unwrap();
-                told(self.board.place(n[0], &nodes), |i| format!("transistor {i}"))
+                told(self.board.place(n[0], &nodes), |i| {
+                    format!("transistor {i}")
+                })
             }
             (b"move", 2) => {
                 let (n, v) = (number(rest[0])?, number(rest[1])?);
                 told(self.board.shift(n, v), |_| "moved".into())
             }
             (b"lift", 1) => told(self.board.lift(number(rest[0])?), |_| "lifted".into()),
-            (b"withdraw", 1) => told(self.board.withdraw(number(rest[0])?), |_| "withdrawn".into()),
+            (b"withdraw", 1) => told(self.board.withdraw(number(rest[0])?), |_| {
+                "withdrawn".into()
+            }),
             (b"lookup", 1) => told(self.board.look_up(rest[0]), |i| format!("card {i}")),
             (b"node", 1) => {
                 let n = number(rest[0])?;
