@@ -213,19 +213,22 @@ fn timed_library() -> Vec<u8> {
 }
 
 fn time_read() {
-    let l = timed_library();
+    let mut l = timed_library();
     let (mut names, mut words, mut sum) = (vec![0; 4096], vec![0; 4096], 0);
-    for _ in 0..100_000 {
-        sum += library::read(std::hint::black_box(&l), &mut names, &mut words).unwrap();
+    for n in 0..100_000 {
+        l[4102] = 48 + (n % 10) as u8;
+        library::read(std::hint::black_box(&l), &mut names, &mut words).unwrap();
+        sum = (sum + 1 + words[n % 4096] % 7 + names[n % 4096] as u64) % (1 << 30);
     }
     println!("{sum}");
 }
 
 fn time_find() {
-    let l = timed_library();
-    let sum: usize = (0..100_000)
-        .map(|_| library::locate(std::hint::black_box(&l), b"npn200").unwrap() % 7)
-        .sum();
+    let (mut l, mut sum) = (timed_library(), 0);
+    for n in 0..100_000 {
+        l[4102] = 48 + (n % 10) as u8;
+        sum += library::locate(std::hint::black_box(&l), b"npn200").unwrap() % 7;
+    }
     println!("{sum}");
 }
 
