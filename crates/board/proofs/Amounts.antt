@@ -1,7 +1,7 @@
--- Totals as branches are given to them: each node gets what its definition says, and no sum leaves the machine's signed numbers.
+-- Branches given to the roles, and the roles' amounts to the totals: each node gets what its definition says, and no sum leaves the machine's signed numbers.
 use mathlib.Core.Path.{_≡_, refl, sym, ap, _∙_, subst}
 use mathlib.Core.Bool.{Bool, true, false, cond}
-use mathlib.Core.List.{List, [], _∷_}
+use mathlib.Core.List.{List}
 use mathlib.Core.Logic.{_⊎_, inl, inr}
 use Prim.Native.Nat.{ℕ, zero, suc, _+_, _*_, _^_, _≤_, _<_, zero-le}
 use native.Mathlib.Nat.{le-of-lt, suc-mul}
@@ -10,15 +10,15 @@ use native.Mathlib.Omega.{arith}
 use lib.Dec.{eqb}
 use lib.ListN.{length, getD, set, length-set, List·getD-eq-default}
 use lib.Seq.{getD-set-same, getD-set-other}
-use lib.IntN.{ℤ, pos, negsuc, natAbs, negℤ, _+ℤ_, _-ℤ_, +ℤ-idl, +ℤ-idr, +ℤ-assoc, +ℤ-comm, negℤ-+ℤ, negℤ-negℤ}
+use lib.IntN.{ℤ, pos, negsuc, natAbs, negℤ, _+ℤ_, _-ℤ_, +ℤ-idr, +ℤ-assoc}
 use borrow.Author.Tests.{eqb-true, eqb-false}
 use mir.Syntax.{w64}
 use mir.Val.{SFits, toZ, ofZ}
 use mir.ValLaws.{toZ-ofZ}
 use Rattle.whole.specs.Biased.{below-or-not}
-use Rattle.branch.specs.Rows.{rowsFor}
-use Rattle.board.specs.Desk.{atNode, rowsGive}
-use Rattle.board.specs.Parts.{More, Within, Room, Wired, ends, endsGive, fromsOf, tosOf}
+use Rattle.board.specs.Verdict.{nodesMost}
+use Rattle.board.specs.Desk.{atNode}
+use Rattle.board.specs.Parts.{More, Within, Room, Wired, ends, endsGive, spread}
 use Rattle.board.proofs.Totals.{abs-add, abs-neg, abs-ends}
 
 -- ---- what the machine holds of a small number is the number
@@ -50,7 +50,7 @@ turned false x = refl
 
 -- asked of a branch
 abbrev pub Fair : List ℤ → ℕ → ℕ → ℤ → Type 0
-Fair l f t x = (f < 32) × (t < 32) × Room (900 * 2 ^ 53) l × (natAbs x ≤ 2 ^ 53)
+Fair l f t x = (f < 7) × (t < 7) × Room 7 (7 * 2 ^ 53) l × (natAbs x ≤ 2 ^ 53)
 
 abs-at : (m n : ℕ) (x : ℤ) → natAbs (atNode m n x) ≤ natAbs x
 abs-at m n x = go (eqb m n)
@@ -60,7 +60,7 @@ abs-at m n x = go (eqb m n)
     go false = zero-le
 
 module _ (l : List ℤ) (f t : ℕ) (x : ℤ) (p : Fair l f t x) where
-  long : length l ≡ 32
+  long : length l ≡ 7
   long = p .2 .long
 
   x-is : held x ≡ x
@@ -85,7 +85,7 @@ module _ (l : List ℤ) (f t : ℕ) (x : ℤ) (p : Fair l f t x) where
   once-at : (n : ℕ) → getD once n (pos 0) ≡ getD l n (pos 0) +ℤ atNode f n x
   once-at n = rw once-is (at-one l f x n (rw long (p .0)))
 
-  small-once : natAbs (getD once t (pos 0)) ≤ 901 * 2 ^ 53
+  small-once : natAbs (getD once t (pos 0)) ≤ 8 * 2 ^ 53
   small-once =
       let a = p .2 .within t in
       let b = p .3 in
@@ -109,10 +109,10 @@ module _ (l : List ℤ) (f t : ℕ) (x : ℤ) (p : Fair l f t x) where
   twice-is : twice ≡ set once t (getD once t (pos 0) +ℤ negℤ x)
   twice-is = ap (λ (z : ℤ). set once t z) (ap (λ (z : ℤ). held (z -ℤ held x)) to-is ∙ ap (λ (z : ℤ). held (getD once t (pos 0) -ℤ z)) x-is ∙ held-is _ small-less)
 
-  once-long : length once ≡ 32
+  once-long : length once ≡ 7
   once-long = length-set l f _ ∙ long
 
-  pub branch-gives : More l twice (ends f t x)
+  pub branch-gives : More 7 l twice (ends f t x)
   branch-gives =
       record {
         long = length-set once t _ ∙ once-long;
@@ -124,7 +124,7 @@ module _ (l : List ℤ) (f t : ℕ) (x : ℤ) (p : Fair l f t x) where
 
 -- ---- all branches
 
-ends-small : (froms tos : List ℕ) (ticks : List ℤ) → Within (2 ^ 53) ticks → (k n : ℕ) → natAbs (endsGive froms tos ticks k n) ≤ k * 2 ^ 53
+pub ends-small : (froms tos : List ℕ) (ticks : List ℤ) → Within (2 ^ 53) ticks → (k n : ℕ) → natAbs (endsGive froms tos ticks k n) ≤ k * 2 ^ 53
 unfolding endsGive
 ends-small froms tos ticks w zero n = zero-le
 ends-small froms tos ticks w (suc k) n =
@@ -135,25 +135,25 @@ ends-small froms tos ticks w (suc k) n =
     let s = abs-add (endsGive froms tos ticks k n) (ends (getD froms k 0) (getD tos k 0) x n) in
     rw (suc-mul k (2 ^ 53)) (omega arith)
 
-pub room-more : {a m : ℕ} {l₀ l : List ℤ} {f : ℕ → ℤ} → Room a l₀ → More l₀ l f → ((n : ℕ) → natAbs (f n) ≤ m) → Room (a + m) l
-room-more {a} {m} {l₀} {l} {f} w more small = record { long = more .long; within = λ n. go n (below-or-not n 32) }
+pub room-more : {k a m : ℕ} {l₀ l : List ℤ} {f : ℕ → ℤ} → Room k a l₀ → More k l₀ l f → ((n : ℕ) → natAbs (f n) ≤ m) → Room k (a + m) l
+room-more {k} {a} {m} {l₀} {l} {f} w more small = record { long = more .long; within = λ n. go n (below-or-not n k) }
   where
-    go : (n : ℕ) → (n < 32) ⊎ (32 ≤ n) → natAbs (getD l n (pos 0)) ≤ a + m
+    go : (n : ℕ) → (n < k) ⊎ (k ≤ n) → natAbs (getD l n (pos 0)) ≤ a + m
     go n (inl h) =
         let s = abs-add (getD l₀ n (pos 0)) (f n) in
         let u = w .within n in
         let v = small n in rw (more .at n h) (omega arith)
     go n (inr h) = rw (List·getD-eq-default l (pos 0) {n = n} (rw (more .long) h)) zero-le
 
-pub room-less : {a m : ℕ} {l : List ℤ} → a ≤ m → Room a l → Room m l
+pub room-less : {k a m : ℕ} {l : List ℤ} → a ≤ m → Room k a l → Room k m l
 room-less h w = record { long = w .long; within = λ n. let u = w .within n in omega arith }
 
 module _ (froms tos : List ℕ) (ticks : List ℤ) where
-  pub ends-none : (l : List ℤ) → length l ≡ 32 → More l l (endsGive froms tos ticks 0)
+  pub ends-none : (l : List ℤ) → length l ≡ 7 → More 7 l l (endsGive froms tos ticks 0)
   unfolding endsGive
   ends-none l h = record { long = h; at = λ n k. sym (+ℤ-idr (getD l n (pos 0))) }
 
-  pub ends-more : {l₀ l l′ : List ℤ} (k : ℕ) (x : ℤ) → More l₀ l (endsGive froms tos ticks k) → x ≡ getD ticks k (pos 0) → More l l′ (ends (getD froms k 0) (getD tos k 0) x) → More l₀ l′ (endsGive froms tos ticks (k + 1))
+  pub ends-more : {l₀ l l′ : List ℤ} (k : ℕ) (x : ℤ) → More 7 l₀ l (endsGive froms tos ticks k) → x ≡ getD ticks k (pos 0) → More 7 l l′ (ends (getD froms k 0) (getD tos k 0) x) → More 7 l₀ l′ (endsGive froms tos ticks (k + 1))
   unfolding endsGive
   ends-more {l₀} k x p e q =
       record {
@@ -163,49 +163,59 @@ module _ (froms tos : List ℕ) (ticks : List ℤ) where
       }
 
   -- there is room for one more branch
-  pub fair-next : {l₀ l : List ℤ} (k : ℕ) (x : ℤ) → Wired froms → Wired tos → Room (880 * 2 ^ 53) l₀ → Within (2 ^ 53) ticks → k < 7 → x ≡ getD ticks k (pos 0) → More l₀ l (endsGive froms tos ticks k) → Fair l (getD froms k 0) (getD tos k 0) x
+  pub fair-next : {l₀ l : List ℤ} (k : ℕ) (x : ℤ) → Wired 7 froms → Wired 7 tos → Room 7 0 l₀ → Within (2 ^ 53) ticks → k < 7 → x ≡ getD ticks k (pos 0) → More 7 l₀ l (endsGive froms tos ticks k) → Fair l (getD froms k 0) (getD tos k 0) x
   fair-next k x u v w s h e more =
       let b = s .within k in
       (u .wired k, v .wired k, room-less (omega arith) (room-more w more (ends-small froms tos ticks s k)), rw e b)
 
--- ---- the seven of a transistor
+-- ---- a role's amount to its node
 
--- a branch turned about takes what it gave
-turned-ends : (a b : ℤ) → b -ℤ a ≡ negℤ (a -ℤ b)
-turned-ends a b = +ℤ-comm b (negℤ a) ∙ ap (λ (z : ℤ). negℤ a +ℤ z) (sym (negℤ-negℤ b)) ∙ sym (negℤ-+ℤ a (negℤ b))
+module _ (l : List ℤ) (n : ℕ) (x : ℤ) (p : (n < nodesMost) × Room nodesMost (930 * 2 ^ 53) l × (natAbs x ≤ 7 * 2 ^ 53)) where
+  amount-is : held x ≡ x
+  amount-is = let b = p .2 in held-is x (omega arith)
 
-pub ends-turned : (froms tos : List ℕ) (ticks : List ℤ) (k n : ℕ) → endsGive tos froms ticks k n ≡ negℤ (endsGive froms tos ticks k n)
-unfolding endsGive
-ends-turned froms tos ticks zero n = refl
-ends-turned froms tos ticks (suc k) n =
-    let x = getD ticks k (pos 0) in
-    ap (λ (z : ℤ). z +ℤ ends (getD tos k 0) (getD froms k 0) x n) (ends-turned froms tos ticks k n)
-    ∙ ap (λ (z : ℤ). negℤ (endsGive froms tos ticks k n) +ℤ z) (turned-ends (atNode (getD froms k 0) n x) (atNode (getD tos k 0) n x))
-    ∙ sym (negℤ-+ℤ (endsGive froms tos ticks k n) (ends (getD froms k 0) (getD tos k 0) x n))
+  total-is : held (getD l n (pos 0)) ≡ getD l n (pos 0)
+  total-is = let b = p .1 .within n in held-is (getD l n (pos 0)) (omega arith)
 
--- a list of seven is its seven elements
-pub seven : {A : Type 0} (d : A) (l : List A) → length l ≡ 7 → l ≡ getD l 0 d ∷ getD l 1 d ∷ getD l 2 d ∷ getD l 3 d ∷ getD l 4 d ∷ getD l 5 d ∷ getD l 6 d ∷ []
-seven d [] h = absurd (omega arith)
-seven d (a ∷ []) h = absurd (omega arith)
-seven d (a ∷ b ∷ []) h = absurd (omega arith)
-seven d (a ∷ b ∷ c ∷ []) h = absurd (omega arith)
-seven d (a ∷ b ∷ c ∷ e ∷ []) h = absurd (omega arith)
-seven d (a ∷ b ∷ c ∷ e ∷ f ∷ []) h = absurd (omega arith)
-seven d (a ∷ b ∷ c ∷ e ∷ f ∷ g ∷ []) h = absurd (omega arith)
-seven d (a ∷ b ∷ c ∷ e ∷ f ∷ g ∷ i ∷ []) h = refl
-seven d (a ∷ b ∷ c ∷ e ∷ f ∷ g ∷ i ∷ j ∷ l) h = absurd (omega arith)
+  small-total : natAbs (getD l n (pos 0) +ℤ x) < 2 ^ 63
+  small-total = let a = p .1 .within n in let b = p .2 in omega (arith, abs-add (getD l n (pos 0)) x)
 
-seven-sum : (a b c d e f g : ℤ) → ((((((pos 0 +ℤ a) +ℤ b) +ℤ c) +ℤ d) +ℤ e) +ℤ f) +ℤ g ≡ a +ℤ (b +ℤ (c +ℤ (d +ℤ (e +ℤ (f +ℤ (g +ℤ pos 0))))))
-seven-sum a b c d e f g = simp (+ℤ-assoc, +ℤ-idl, +ℤ-idr)
+  pub room-add : SFits w64 (held (getD l n (pos 0)) +ℤ held x)
+  room-add = rw (total-is, amount-is) (fits _ small-total)
 
--- the branches by their ends are those of the rows, whatever EXSUB is
-rows-of-seven : (exsub : Bool) (nodes : List ℕ) (a b c d e f g : ℤ) (n : ℕ) → endsGive (fromsOf nodes) (tosOf nodes) (a ∷ b ∷ c ∷ d ∷ e ∷ f ∷ g ∷ []) 7 n ≡ rowsGive (rowsFor exsub) nodes (a ∷ b ∷ c ∷ d ∷ e ∷ f ∷ g ∷ []) n
-unfolding endsGive rowsGive
-rows-of-seven exsub nodes a b c d e f g n =
-    let at : ℕ → ℕ = λ (k : ℕ). getD nodes k 0 in
-    seven-sum (ends (at 4) (at 0) a n) (ends (at 2) (at 0) b n) (ends (at 1) (at 0) c n) (ends (at 2) (at 0) d n) (ends (at 1) (at 5) e n) (ends (at 1) (at 6) f n) (ends (at 6) (at 3) g n)
+  pub adds : More nodesMost l (set l n (held (held (getD l n (pos 0)) +ℤ held x))) (λ (m : ℕ). atNode n m x)
+  adds =
+      record {
+        long = length-set l n _ ∙ p .1 .long;
+        at = λ m h. rw (total-is, amount-is, held-is _ small-total) (at-one l n x m (rw (p .1 .long) (p .0)));
+      }
 
-pub ends-are-rows : (exsub : Bool) (nodes : List ℕ) (ticks : List ℤ) (n : ℕ) → length ticks ≡ 7 → endsGive (fromsOf nodes) (tosOf nodes) ticks 7 n ≡ rowsGive (rowsFor exsub) nodes ticks n
-ends-are-rows exsub nodes ticks n h =
-    let e = seven (pos 0) ticks h in
-    subst (λ (l : List ℤ). endsGive (fromsOf nodes) (tosOf nodes) l 7 n ≡ rowsGive (rowsFor exsub) nodes l n) (sym e) (rows-of-seven exsub nodes _ _ _ _ _ _ _ n)
+spread-small : (nodes : List ℕ) (f : ℕ → ℤ) (most : ℕ) → ((r : ℕ) → natAbs (f r) ≤ most) → (k n : ℕ) → natAbs (spread nodes f k n) ≤ k * most
+unfolding spread
+spread-small nodes f most w zero n = zero-le
+spread-small nodes f most w (suc k) n =
+    let a = spread-small nodes f most w k n in
+    let b = w k in
+    let e = abs-at (getD nodes k 0) n (f k) in
+    let s = abs-add (spread nodes f k n) (atNode (getD nodes k 0) n (f k)) in
+    rw (suc-mul k most) (omega arith)
+
+module _ (nodes : List ℕ) (f : ℕ → ℤ) where
+  pub spread-none : (l : List ℤ) → length l ≡ nodesMost → More nodesMost l l (spread nodes f 0)
+  unfolding spread
+  spread-none l h = record { long = h; at = λ n k. sym (+ℤ-idr (getD l n (pos 0))) }
+
+  pub spread-more : {l₀ l l′ : List ℤ} (k : ℕ) (x : ℤ) → More nodesMost l₀ l (spread nodes f k) → x ≡ f k → More nodesMost l l′ (λ (m : ℕ). atNode (getD nodes k 0) m x) → More nodesMost l₀ l′ (spread nodes f (k + 1))
+  unfolding spread
+  spread-more {l₀} k x p e q =
+      record {
+        long = q .long;
+        at = λ n h. rw add-one (q .at n h ∙ ap (λ (z : ℤ). z +ℤ atNode (getD nodes k 0) n x) (p .at n h) ∙ +ℤ-assoc (getD l₀ n (pos 0)) (spread nodes f k n) (atNode (getD nodes k 0) n x)
+            ∙ ap (λ (z : ℤ). getD l₀ n (pos 0) +ℤ (spread nodes f k n +ℤ atNode (getD nodes k 0) n z)) e);
+      }
+
+  -- there is room for one more role
+  pub room-next : {l₀ l : List ℤ} (k : ℕ) (x : ℤ) → Wired nodesMost nodes → Room nodesMost (880 * 2 ^ 53) l₀ → ((r : ℕ) → natAbs (f r) ≤ 7 * 2 ^ 53) → k < 7 → x ≡ f k → More nodesMost l₀ l (spread nodes f k) → (getD nodes k 0 < nodesMost) × Room nodesMost (930 * 2 ^ 53) l × (natAbs x ≤ 7 * 2 ^ 53)
+  room-next k x u w s h e more =
+      let b = s k in
+      (u .wired k, room-less (omega arith) (room-more w more (spread-small nodes f (7 * 2 ^ 53) s k)), rw e b)

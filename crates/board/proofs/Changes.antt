@@ -2,35 +2,37 @@
 use mathlib.Core.Path.{_≡_, refl, sym, ap, _∙_, subst}
 use mathlib.Core.Bool.{Bool, true, false, cond}
 use mathlib.Core.List.{List, map}
-use Prim.Native.Nat.{ℕ, _+_, _≤_, _<_}
+use Prim.Native.Nat.{ℕ, _+_, _*_, _^_, _≤_, _<_}
 use native.Mathlib.Omega.{arith}
 use lib.Dec.{leb}
 use lib.ListN.{getD, set}
 use lib.IntN.{ℤ, natAbs}
-use borrow.Author.Tests.{leb-false, ltb-false, ne-eqb}
+use borrow.Author.Tests.{eqb-true, leb-false, ltb-false, ne-eqb}
 use Rattle.refusal.specs.declared.Refusal.{Refusal}
 use Rattle.refusal.specs.declared.Refusal.the-variants.{Unknown, OutOfRange, Overload}
+use Rattle.octave.specs.Table.{entries}
 use Rattle.branch.specs.Ready.{lowered, raised}
 use Rattle.board.specs.declared.Transistor.{Transistor}
 use Rattle.board.specs.declared.Board.{Board}
 use Rattle.board.specs.declared.Answer.the-variants.{Issue, Done}
-use Rattle.board.specs.declared.worker.Settled.{Settled}
 use Rattle.board.specs.declared.rules.Way.{Way}
 use Rattle.board.specs.declared.rules.Way.the-variants.{Go, Stop}
 use Rattle.board.specs.Verdict.{nodesMost, transistorsMost, none, some, Verdict, yes, issueOf, offNode, moveVerdict, liftVerdict, placeVerdict}
 use Rattle.branch.specs.Currents.{offVolts}
-use Rattle.board.specs.Desk.{overloads, anyOf, usedUp}
-use Rattle.board.specs.Model.{cardPlace, transistorPlace, emptyTransistor, noCard, workedAt, placeOverloads, voltsOf, refuse, freeTransistor, placedOf, mayPlace, movedOf, liftedOf, Reached}
-use Rattle.board.specs.Parts.{nodeOf, raisedOr, standsAt, onlyAt}
-use Rattle.board.specs.Settle.{Settling, settledOf}
+use Rattle.board.specs.Desk.{overloads, flow, anyOf, usedUp}
+use Rattle.board.specs.Model.{isTransistor, cardPlace, transistorPlace, noTransistor, emptyTransistor, noCard, workedAt, placeGives, placeOverloads, totalsOf, voltsOf, refuse, freeTransistor, placedOf, mayPlace, movedOf, liftedOf, Reached}
+use Rattle.board.specs.Parts.{nodeOf, raisedOr, seatOr, More, Room, backFlow}
+use Rattle.board.specs.Settle.{Workable, Settling}
 use Rattle.board.specs.Placing.{placing, wayOf}
-use Rattle.board.proofs.Good.{good, at-card, on-nodes, raised-near}
+use Rattle.board.proofs.Lists.{first-passes}
+use Rattle.board.proofs.Good.{good, at-card, at-transistor, AtTransistor, on-nodes, raised-near}
 use Rattle.board.proofs.Orderly.{orderly-after}
 use Rattle.board.proofs.Follows.{stands-after}
 use Rattle.board.proofs.Verdicts.{places}
 use Rattle.board.proofs.Answers.{off-board, on-board}
 use Rattle.board.proofs.Ways.{way, stopped, went, lastly, on-same, then-lastly}
-use Rattle.board.proofs.Settles.{settling-one, over-one, totals-settled, settling-moved}
+use Rattle.board.proofs.Currents.{workable-seated, seated-takes}
+use Rattle.board.proofs.Settles.{volts-good, seated, room-now, totals-put, totals-taken, settling-moved}
 
 -- ---- lifting
 
@@ -38,16 +40,24 @@ pub lift-unknown : (b : Board) (z : ℤ) → transistorPlace (issueOf z) (b .tra
 unfolding liftedOf liftVerdict
 lift-unknown b z e = rw e
 
-module _ {b : Board} (k : Reached b) (i : ℕ) (below : i < 64) (t : Transistor) (empty : t ≡ emptyTransistor) where
-  pub settling-lift : (s : List Bool) → s ≡ onlyAt i → Settling (b .cards) (b .transistors) (set (b .transistors) i t) (b .volts) (b .volts) s (b .totals)
-  settling-lift s e = rw e (settling-one (good k) i below t (λ h. absurd (h (ap (λ (u : Transistor). u .issue) empty))))
+module _ {b : Board} (k : Reached b) (z : ℤ) (i : ℕ) (there : transistorPlace (issueOf z) (b .transistors) ≡ some i) (s : ℕ) (at : s ≡ seatOr (getD (b .transistors) i noTransistor)) where
+  abbrev leaver : Transistor
+  leaver = getD (b .transistors) i noTransistor
 
-  pub lifts-it : (z : ℤ) → transistorPlace (issueOf z) (b .transistors) ≡ some i → (r : Settled) → r ≡ settledOf (b .cards) (set (b .transistors) i t) (b .volts) (b .totals) → record { board = record { cards = b .cards; transistors = set (b .transistors) i t; volts = b .volts; totals = r .totals; next = b .next }; answer = Done } ≡ liftedOf b z
-  unfolding liftedOf liftVerdict placeOverloads
-  lifts-it z e r s =
-      let quiet : r .over ≡ false = over-one (good k) i below t s ∙ ap (placeOverloads (b .cards) (voltsOf b)) empty in
-      let totals = totals-settled (b .cards) (set (b .transistors) i t) (b .volts) (b .totals) s quiet in
-      rw (e, totals, empty)
+  placed-there : AtTransistor (issueOf z) (b .transistors) i
+  placed-there = at-transistor (issueOf z) (b .transistors) i (good k .transistors-long) there
+
+  stands : leaver .issue ≡ 0 → ⊥
+  stands e = placed-there .given (sym (placed-there .issue-is) ∙ e)
+
+  pub lift-works : (table : List ℕ) → table ≡ entries → Workable table (getD (b .cards) s noCard) leaver (b .volts) × Room nodesMost (880 * 2 ^ 53) (b .totals)
+  lift-works table e = (workable-seated (b .cards) leaver stands (seated (good k) i stands) s at table (b .volts) e (volts-good (good k)), room-now (good k))
+
+  pub lifts-it : {t : Transistor} → t ≡ emptyTransistor → {l : List ℤ} → More nodesMost (b .totals) l (backFlow (getD (b .cards) s noCard .ready .card) (leaver .nodes) (voltsOf b)) → record { board = record { cards = b .cards; transistors = set (b .transistors) i t; volts = b .volts; totals = l; next = b .next }; answer = Done } ≡ liftedOf b z
+  unfolding liftedOf liftVerdict
+  lifts-it empty more =
+      let totals = totals-taken (good k) i (rw (good k .transistors-long) at (placed-there .below)) _ (seated-takes (b .cards) leaver stands (seated (good k) i stands) s at (voltsOf b)) more in
+      rw (there, totals, empty)
 
 -- ---- moving a voltage
 
@@ -83,23 +93,20 @@ module _ {b : Board} (reached : Reached b) (z v : ℤ) (n x : ℕ) (ne : n ≡ n
   same-volts : set (b .volts) n x ≡ set (b .volts) (natAbs z) (raised v)
   same-volts = ap (λ (m : ℕ). set (b .volts) m x) (ne ∙ on .1) ∙ ap (λ (y : ℕ). set (b .volts) (natAbs z) y) (xe ∙ close .1)
 
-  pub settling-move : (s : List Bool) → s ≡ map (standsAt n) (b .transistors) → Settling (b .cards) (b .transistors) (b .transistors) (b .volts) (set (b .volts) n x) s (b .totals)
-  settling-move s e = rw e (settling-moved (good reached) n x near)
+  pub settling-move : Settling (b .cards) (b .transistors) (b .volts) (set (b .volts) n x) n (b .totals)
+  settling-move = settling-moved (good reached) n x near
 
-  module _ (r : Settled) (s : r ≡ settledOf (b .cards) (b .transistors) (set (b .volts) n x) (b .totals)) where
-    over-is : r .over ≡ anyOf (placeOverloads (b .cards) (map lowered (set (b .volts) (natAbs z) (raised v)))) (b .transistors)
-    unfolding settledOf
-    over-is = ap (λ (y : Settled). y .over) s ∙ ap (λ (l : List ℕ). anyOf (placeOverloads (b .cards) (map lowered l)) (b .transistors)) same-volts
+  module _ (over : Bool) (oe : over ≡ anyOf (placeOverloads (b .cards) (map lowered (set (b .volts) n x))) (b .transistors)) where
+    over-is : over ≡ anyOf (placeOverloads (b .cards) (map lowered (set (b .volts) (natAbs z) (raised v)))) (b .transistors)
+    over-is = oe ∙ ap (λ (l : List ℕ). anyOf (placeOverloads (b .cards) (map lowered l)) (b .transistors)) same-volts
 
-    pub move-over : r .over ≡ true → refuse b Overload ≡ movedOf b z v
+    pub move-over : over ≡ true → refuse b Overload ≡ movedOf b z v
     unfolding movedOf moveVerdict
     move-over o = rw (on .0, close .0, sym over-is ∙ o)
 
-    pub moves-it : r .over ≡ false → record { board = record { cards = b .cards; transistors = b .transistors; volts = set (b .volts) n x; totals = r .totals; next = b .next }; answer = Done } ≡ movedOf b z v
+    pub moves-it : over ≡ false → {l : List ℤ} → l ≡ totalsOf (b .cards) (b .transistors) (map lowered (set (b .volts) n x)) → record { board = record { cards = b .cards; transistors = b .transistors; volts = set (b .volts) n x; totals = l; next = b .next }; answer = Done } ≡ movedOf b z v
     unfolding movedOf moveVerdict
-    moves-it o =
-        let totals = totals-settled (b .cards) (b .transistors) (set (b .volts) n x) (b .totals) s o in
-        rw (on .0, close .0, sym over-is ∙ o, totals, same-volts)
+    moves-it o totals = rw (on .0, close .0, sym over-is ∙ o, totals, same-volts)
 
 -- ---- placing
 
@@ -154,22 +161,29 @@ module _ {b : Board} (reached : Reached b) (card : ℤ) (nodes : List ℤ) (n : 
     abbrev newcomer : Transistor
     newcomer = record { issue = b .next; card = getD (b .cards) i noCard .issue; seat = i; nodes = on }
 
-    pub settling-place : (s : List Bool) → s ≡ onlyAt free → Settling (b .cards) (b .transistors) (set (b .transistors) free newcomer) (b .volts) (b .volts) s (b .totals)
-    settling-place s q =
-        rw q (settling-one (good reached) free free-below newcomer
-        (λ h. record { seat-there = seat-below; ready = good reached .ready i card-given; wired = λ k. rw on-is (on-nodes nodes (places (cardPlace (issueOf card) (b .cards)) passed .on) k) }))
+    pub place-works : (table : List ℕ) → table ≡ entries → Workable table (getD (b .cards) i noCard) newcomer (b .volts) × Room nodesMost (880 * 2 ^ 53) (b .totals)
+    place-works table e = (
+      record { table-is = e; ready = good reached .ready i card-given; wired = λ k. rw on-is (on-nodes nodes (places (cardPlace (issueOf card) (b .cards)) passed .on) k); volts-are = volts-good (good reached) },
+      room-now (good reached),
+    )
 
-    module _ (r : Settled) (s : r ≡ settledOf (b .cards) (set (b .transistors) free newcomer) (b .volts) (b .totals)) where
-      over-new : r .over ≡ overloads (workedAt (b .cards) i) (map natAbs nodes) (voltsOf b)
-      unfolding placeOverloads
-      over-new = over-one (good reached) free free-below newcomer s ∙ rw (ne-eqb (b .next) 0 (begun reached), on-is)
+    module _ (over : Bool) (v : over ≡ overloads (workedAt (b .cards) i) on (voltsOf b)) where
+      over-new : over ≡ overloads (workedAt (b .cards) i) (map natAbs nodes) (voltsOf b)
+      over-new = v ∙ ap (λ (l : List ℕ). overloads (workedAt (b .cards) i) l (voltsOf b)) on-is
 
-      pub place-over : r .over ≡ true → refuse b Overload ≡ placedOf b card nodes
+      pub place-over : over ≡ true → refuse b Overload ≡ placedOf b card nodes
       unfolding placedOf
       place-over o = rw (may-is, found .0, sym over-new ∙ o)
 
-      pub places-it : r .over ≡ false → record { board = record { cards = b .cards; transistors = set (b .transistors) free newcomer; volts = b .volts; totals = r .totals; next = b .next + 1 }; answer = Issue (b .next) } ≡ placedOf b card nodes
+      free-empty : getD (b .transistors) free noTransistor .issue ≡ 0
+      free-empty = rw (found .1) (eqb-true _ 0 (first-passes (isTransistor 0) noTransistor (b .transistors) (rw (good reached .transistors-long, ← (found .1)) free-below)))
+
+      gives-new : (n : ℕ) → flow (workedAt (b .cards) i) on (voltsOf b) n ≡ placeGives (b .cards) (voltsOf b) n newcomer
+      unfolding placeGives
+      gives-new n = rw (ne-eqb (b .next) 0 (begun reached))
+
+      pub places-it : over ≡ false → {l : List ℤ} → More nodesMost (b .totals) l (flow (workedAt (b .cards) i) on (voltsOf b)) → record { board = record { cards = b .cards; transistors = set (b .transistors) free newcomer; volts = b .volts; totals = l; next = b .next + 1 }; answer = Issue (b .next) } ≡ placedOf b card nodes
       unfolding placedOf
-      places-it o =
-          let totals = totals-settled (b .cards) (set (b .transistors) free newcomer) (b .volts) (b .totals) s o in
+      places-it o more =
+          let totals = totals-put (good reached) free free-below newcomer _ free-empty gives-new more in
           rw (may-is, found .0, sym over-new ∙ o, totals, on-is, found .1)

@@ -1,39 +1,39 @@
 -- The board follows the desk: after any calls it stands for the desk that the same calls leave, and answers each call as the desk does.
 use mathlib.Core.Path.{_≡_, refl, sym, ap, _∙_, subst}
-use mathlib.Core.Bool.{Bool, true, false, cond, not, _||_}
+use mathlib.Core.Bool.{Bool, true, false, cond, not}
 use mathlib.Core.List.{List, [], _∷_, map}
-use Prim.Native.Nat.{ℕ, zero, suc, _+_, _-_, _≤_, _<_}
+use Prim.Native.Nat.{ℕ, zero, suc, _-_, _≤_, _<_}
 use native.Mathlib.Numerals.{add-one}
 use native.Mathlib.Omega.{arith}
 use lib.Dec.{eqb, leb, ltb}
-use lib.ListN.{length, getD, set, replicate}
-use lib.IntN.{ℤ, pos, negsuc, natAbs, subℕ}
-use borrow.Author.Tests.{eqb-true, eqb-false, leb-false, ltb-false, le-ltb, lt-ltb}
+use lib.ListN.{length, getD, set}
+use lib.IntN.{ℤ, pos, natAbs}
+use borrow.Author.Tests.{eqb-true, eqb-false, leb-false, ltb-false}
 use Rattle.refusal.specs.declared.Refusal.{Refusal}
 use Rattle.refusal.specs.declared.Refusal.the-variants.{CardInUse}
 use Rattle.name.specs.Name.{padded, same}
 use Rattle.card.specs.declared.WorkedCard.{WorkedCard}
-use Rattle.branch.specs.Ready.{readyOf, lowered, raised, reach}
+use Rattle.branch.specs.Ready.{readyOf, lowered, raised}
 use Rattle.branch.proofs.Laws.{ready-card}
 use Rattle.branch.proofs.Levels.{kept}
 use Rattle.board.specs.declared.Card.{Card}
 use Rattle.board.specs.declared.Transistor.{Transistor}
 use Rattle.board.specs.declared.Board.{Board}
 use Rattle.board.specs.declared.Answered.{Answered}
-use Rattle.board.specs.Verdict.{nodesMost, cardsMost, transistorsMost, issuesMost, Found, none, some, Verdict, no, yes, unless, issueOf, offNode, loadVerdict, placeVerdict, moveVerdict, liftVerdict, withdrawVerdict, lookVerdict, nodeVerdict}
+use Rattle.board.specs.Verdict.{nodesMost, cardsMost, transistorsMost, Found, none, some, Verdict, no, yes, unless, issueOf, placeVerdict, moveVerdict, liftVerdict, withdrawVerdict, nodeVerdict}
 use Rattle.branch.specs.Currents.{offVolts}
 use Rattle.board.specs.Desk as desk
 use Rattle.board.specs.Desk.{Held, Standing, Desk, Step, Call, load, place, move, lift, withdraw, lookUp, node, overloads, sumOver, anyOf, firstWith, heldAs, standsAs, without, larger, highest, flow, total, someOverloads, step, freshDesk, after}
 use Rattle.board.specs.Model as board
-use Rattle.board.specs.Model.{first, foundAt, isCard, isTransistor, cardPlace, transistorPlace, emptyCard, noCard, emptyTransistor, noTransistor, workedAt, placeGives, placeOverloads, totalsOf, freshBoard, voltsOf, freeCard, freeTransistor, standsOn, highestAt, loadedOf, placedOf, movedOf, liftedOf, withdrawnOf, lookedOf, showedOf, answered, boardAfter, Reached}
-use Rattle.board.specs.Perm.{Perm, empty, keep, swap, then}
+use Rattle.board.specs.Model.{first, foundAt, isCard, isTransistor, cardPlace, transistorPlace, emptyCard, noCard, emptyTransistor, noTransistor, placeGives, placeOverloads, totalsOf, freshBoard, voltsOf, freeCard, freeTransistor, standsOn, highestAt, loadedOf, placedOf, movedOf, liftedOf, withdrawnOf, lookedOf, showedOf, answered, boardAfter}
+use Rattle.board.specs.Perm.{empty}
 use Rattle.board.specs.Stands.{occupied, heldOf, standingOf, heldIn, standingIn, Stands, replyOf}
-use Rattle.board.proofs.Perms.{count, perm-self, perm-join, perm-length, perm-sum, perm-any, perm-count, perm-first, perm-without, perm-highest}
+use Rattle.board.proofs.Perms.{perm-join, perm-length, perm-sum, perm-any, perm-count, perm-first, perm-without, perm-highest}
 use Rattle.board.proofs.Places.{sum-occupied, any-occupied, full, join, seen, mapFound, find, find-none, count-occupied, leave}
-use Rattle.board.proofs.Lists.{found-is, first-passes, tabulate-at, getD-map}
+use Rattle.board.proofs.Lists.{tabulate-at, getD-map}
 use Rattle.board.proofs.Verdicts.{loads, places, moves, lifts, withdraws, shown}
-use Rattle.board.proofs.Good.{Good, good, good-after, Sits, at-card, AtCard, at-transistor, AtTransistor, unused-away, worked-same, Away, FreeCard, free-card}
-use Rattle.board.proofs.Orderly.{Numbered, Orderly, orderly-after}
+use Rattle.board.proofs.Good.{Good, good-after, at-card, AtCard, at-transistor, AtTransistor, unused-away, worked-same, free-card}
+use Rattle.board.proofs.Orderly.{Orderly, orderly-after}
 
 -- ---- verdicts on what was found by place, and on the same found by itself
 

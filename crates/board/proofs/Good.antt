@@ -1,25 +1,25 @@
 -- What holds of every board that calls from a fresh board leave: who sits where, and that each total is worked from what stands.
 use mathlib.Core.Path.{_≡_, refl, sym, ap, _∙_, subst}
-use mathlib.Core.Bool.{Bool, true, false, cond, not, _&&_, _||_}
+use mathlib.Core.Bool.{Bool, true, false, cond, not, _||_}
 use mathlib.Core.List.{List, [], _∷_, map}
 use Prim.Native.Nat.{ℕ, zero, suc, _+_, _*_, _≤_, _<_}
 use native.Mathlib.Omega.{arith}
-use lib.Dec.{eqb, leb, ltb, lit<, lit≤}
+use lib.Dec.{eqb, leb, lit<, lit≤}
 use lib.ListN.{length, getD, set, replicate, length-set, length-replicate, length-map}
-use lib.Seq.{getD-set-same, getD-set-other}
-use lib.IntN.{ℤ, pos, negsuc, natAbs, +ℤ-idl}
-use borrow.Author.Tests.{eqb-true, eqb-false, eq-eqb, ne-eqb, leb-false, ltb-false}
+use lib.Seq.{getD-set-other}
+use lib.IntN.{ℤ, pos, natAbs, +ℤ-idl}
+use borrow.Author.Tests.{eqb-true, eqb-false, ne-eqb, leb-false}
 use Rattle.card.specs.declared.WorkedCard.{WorkedCard}
-use Rattle.branch.specs.Ready.{readyOf, lowered, raised, reach, IsReady}
+use Rattle.branch.specs.Ready.{lowered, raised, reach, IsReady}
 use Rattle.branch.proofs.Laws.{made-ready}
 use Rattle.branch.proofs.Levels.{kept}
 use Rattle.board.specs.declared.Card.{Card}
 use Rattle.board.specs.declared.Transistor.{Transistor}
 use Rattle.board.specs.declared.Board.{Board}
-use Rattle.board.specs.Verdict.{nodesMost, cardsMost, transistorsMost, Found, none, some, Verdict, no, yes, issueOf, offNode, someOff, loadVerdict, placeVerdict, moveVerdict, liftVerdict, withdrawVerdict, lookVerdict, nodeVerdict}
+use Rattle.board.specs.Verdict.{nodesMost, cardsMost, transistorsMost, none, some, Verdict, no, yes, issueOf, offNode, someOff, lookVerdict, nodeVerdict}
 use Rattle.branch.specs.Currents.{offVolts}
-use Rattle.board.specs.Desk.{Call, load, place, move, lift, withdraw, lookUp, node, overloads, flow, sumOver, anyOf, usedUp}
-use Rattle.board.specs.Model.{first, foundAt, isCard, isTransistor, cardPlace, transistorPlace, emptyCard, noCard, emptyTransistor, noTransistor, workedAt, placeGives, placeOverloads, totalsOf, freshBoard, voltsOf, freeCard, freeTransistor, settledAs, withCards, withTransistor, loaded, loadedOf, placed, placedOf, moved, movedOf, lifted, liftedOf, withdrawn, withdrawnOf, standsOn, looked, lookedOf, showed, showedOf, highestAt, mayLoad, mayPlace, mayMove, mayLift, mayWithdraw, mayLookUp, answered, boardAfter, Reached}
+use Rattle.board.specs.Desk.{Call, load, place, move, lift, withdraw, lookUp, node, overloads, flow, sumOver, anyOf}
+use Rattle.board.specs.Model.{first, foundAt, isCard, cardPlace, transistorPlace, emptyCard, noCard, emptyTransistor, noTransistor, workedAt, placeGives, placeOverloads, totalsOf, freshBoard, voltsOf, freeCard, freeTransistor, loaded, loadedOf, placed, placedOf, moved, movedOf, lifted, liftedOf, withdrawn, withdrawnOf, standsOn, looked, lookedOf, showed, showedOf, mayLoad, mayPlace, mayMove, mayLift, mayWithdraw, answered, boardAfter, Reached}
 use Rattle.board.proofs.Lists.{each-set, each-replicate, first-passes, found-is, none-of, sum-same, tabulate-same, tabulate-none, tabulate-long, stands}
 use Rattle.board.proofs.Verdicts.{loads, places, moves, withdraws, on-node}
 

@@ -12,9 +12,9 @@ pub mod Walks
 pub mod Reaches
 pub mod Answers
 pub mod Amounts
+pub mod Roles
 pub mod Currents
 pub mod Mixes
-pub mod Marks
 pub mod Ways
 pub mod Settles
 pub mod Changes

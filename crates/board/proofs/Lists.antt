@@ -1,15 +1,15 @@
 -- Lists by their places: what holds of each element, the first place that passes a test, sums place by place, and tables of a function.
-use mathlib.Core.Path.{_≡_, refl, sym, ap, _∙_, subst}
+use mathlib.Core.Path.{_≡_, refl, ap}
 use mathlib.Core.Bool.{Bool, true, false, cond, _||_}
 use mathlib.Core.List.{List, [], _∷_, map}
-use Prim.Native.Nat.{ℕ, zero, suc, _+_, _≤_, _<_, zero-le}
+use Prim.Native.Nat.{ℕ, zero, suc, _<_}
 use native.Mathlib.Omega.{arith}
-use lib.Dec.{eqb, leb, ltb}
+use lib.Dec.{ltb}
 use lib.ListN.{length, getD, set, replicate}
-use lib.IntN.{ℤ, pos, _+ℤ_}
+use lib.IntN.{ℤ}
 use borrow.Author.Tests.{ltb-true}
 use Rattle.board.specs.Desk.{sumOver, anyOf}
-use Rattle.board.specs.Verdict.{Found, none, some}
+use Rattle.board.specs.Verdict.{none, some}
 use Rattle.board.specs.Model.{first, foundAt, tabulate}
 
 -- what holds of the element at i, and of one put in somewhere, holds of the element at i then

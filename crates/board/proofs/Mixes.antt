@@ -1,129 +1,153 @@
--- Totals half way: the first i places as they are now, the others as they were.
+-- Totals half way: the first i places at the new voltages, the others at the old ones. And totals with another transistor at one place.
 use mathlib.Core.Path.{_≡_, refl, sym, ap, _∙_, subst}
-use mathlib.Core.Bool.{true, false}
 use mathlib.Core.List.{List, [], _∷_, map}
 use Prim.Native.Nat.{ℕ, zero, suc, _+_, _*_, _^_, _≤_, _<_, zero-le}
 use native.Mathlib.Nat.{suc-mul}
 use native.Mathlib.Numerals.{add-one}
 use native.Mathlib.Omega.{arith}
-use lib.ListN.{length, getD, List·getD-eq-default}
+use lib.ListN.{length, getD, set, List·getD-eq-default}
 use lib.Seq.{ext-getD}
-use lib.IntN.{ℤ, pos, natAbs, negℤ, _+ℤ_, _-ℤ_, +ℤ-idr, +ℤ-assoc, +ℤ-comm, +ℤ-invr, -ℤ-+ℤ-cancel}
+use lib.IntN.{ℤ, pos, natAbs, negℤ, _+ℤ_, +ℤ-idr, +ℤ-assoc, +ℤ-comm, +ℤ-invr, -ℤ-+ℤ-cancel}
 use mathlib.Core.Logic.{_⊎_, inl, inr}
 use Rattle.whole.specs.Biased.{below-or-not}
 use Rattle.branch.specs.Ready.{lowered}
 use Rattle.board.specs.declared.Card.{Card}
 use Rattle.board.specs.declared.Transistor.{Transistor}
 use Rattle.board.specs.Verdict.{nodesMost}
-use Rattle.board.specs.Desk.{sumOver, anyOf}
-use Rattle.board.specs.Model.{noTransistor, placeGives, placeOverloads, totalsOf}
+use Rattle.board.specs.Desk.{sumOver}
+use Rattle.board.specs.Model.{noTransistor, placeGives, totalsOf}
 use Rattle.board.specs.Parts.{More, Room}
-use Rattle.board.specs.Settle.{settledOf}
 use Rattle.board.proofs.Lists.{tabulate-at, tabulate-long}
 use Rattle.board.proofs.Totals.{abs-add, small-sum, small-place}
 
 -- ---- sums half way
 
--- f over the first i of the new, g over the old from there on
-unfoldable pub mixed : {A : Type 0} → (A → ℤ) → (A → ℤ) → ℕ → List A → List A → ℤ
+-- f over the first i, g over the others
+unfoldable pub mixed : {A : Type 0} → (A → ℤ) → (A → ℤ) → ℕ → List A → ℤ
 unfolding sumOver
-mixed f g zero new old = sumOver g old
-mixed f g (suc i) [] old = pos 0
-mixed f g (suc i) (a ∷ new) [] = pos 0
-mixed f g (suc i) (a ∷ new) (b ∷ old) = f a +ℤ mixed f g i new old
+mixed f g zero l = sumOver g l
+mixed f g (suc i) [] = pos 0
+mixed f g (suc i) (a ∷ l) = f a +ℤ mixed f g i l
 
-first-swap : (x y s : ℤ) → y +ℤ s ≡ ((x +ℤ s) +ℤ negℤ x) +ℤ y
-first-swap x y s =
+swap-first : (x y s : ℤ) → y +ℤ s ≡ ((x +ℤ s) +ℤ negℤ x) +ℤ y
+swap-first x y s =
     +ℤ-comm y s ∙ ap (λ (z : ℤ). z +ℤ y) (sym (ap (λ (z : ℤ). z +ℤ negℤ x) (+ℤ-comm x s) ∙ +ℤ-assoc s x (negℤ x) ∙ ap (λ (z : ℤ). s +ℤ z) (+ℤ-invr x) ∙ +ℤ-idr s))
 
-later-swap : (a m x y : ℤ) → a +ℤ ((m +ℤ x) +ℤ y) ≡ ((a +ℤ m) +ℤ x) +ℤ y
-later-swap a m x y = simp +ℤ-assoc
+swap-later : (a m x y : ℤ) → a +ℤ ((m +ℤ x) +ℤ y) ≡ ((a +ℤ m) +ℤ x) +ℤ y
+swap-later a m x y = simp +ℤ-assoc
 
 module _ {A : Type 0} (f g : A → ℤ) (d : A) where
-  mixed-more : (i : ℕ) (new old : List A) → i < length new → i < length old → mixed f g (suc i) new old ≡ (mixed f g i new old +ℤ negℤ (g (getD old i d))) +ℤ f (getD new i d)
+  mixed-more : (i : ℕ) (l : List A) → i < length l → mixed f g (suc i) l ≡ (mixed f g i l +ℤ negℤ (g (getD l i d))) +ℤ f (getD l i d)
   unfolding mixed sumOver
-  mixed-more i [] old h k = absurd (omega arith)
-  mixed-more i (a ∷ new) [] h k = absurd (omega arith)
-  mixed-more zero (a ∷ new) (b ∷ old) h k = first-swap (g b) (f a) (sumOver g old)
-  mixed-more (suc i) (a ∷ new) (b ∷ old) h k =
-      ap (λ (z : ℤ). f a +ℤ z) (mixed-more i new old (omega arith) (omega arith)) ∙ later-swap (f a) (mixed f g i new old) (negℤ (g (getD old i d))) (f (getD new i d))
+  mixed-more i [] h = absurd (omega arith)
+  mixed-more zero (a ∷ l) h = swap-first (g a) (f a) (sumOver g l)
+  mixed-more (suc i) (a ∷ l) h =
+      ap (λ (z : ℤ). f a +ℤ z) (mixed-more i l (omega arith)) ∙ swap-later (f a) (mixed f g i l) (negℤ (g (getD l i d))) (f (getD l i d))
 
-  mixed-same : (i : ℕ) (new old : List A) → i < length new → i < length old → g (getD old i d) ≡ f (getD new i d) → mixed f g (suc i) new old ≡ mixed f g i new old
-  mixed-same i new old h k e =
-      mixed-more i new old h k ∙ ap (λ (z : ℤ). (mixed f g i new old +ℤ negℤ z) +ℤ f (getD new i d)) e ∙ -ℤ-+ℤ-cancel (mixed f g i new old) (f (getD new i d))
+  mixed-same : (i : ℕ) (l : List A) → i < length l → g (getD l i d) ≡ f (getD l i d) → mixed f g (suc i) l ≡ mixed f g i l
+  mixed-same i l h e =
+      mixed-more i l h ∙ ap (λ (z : ℤ). (mixed f g i l +ℤ negℤ z) +ℤ f (getD l i d)) e ∙ -ℤ-+ℤ-cancel (mixed f g i l) (f (getD l i d))
 
-mixed-all : {A : Type 0} (f g : A → ℤ) (i : ℕ) (new old : List A) → length new ≡ i → length old ≡ i → mixed f g i new old ≡ sumOver f new
+-- another element at one place
+sum-set : {A : Type 0} (f : A → ℤ) (d : A) (l : List A) (i : ℕ) (a : A) → i < length l → sumOver f (set l i a) ≡ (sumOver f l +ℤ negℤ (f (getD l i d))) +ℤ f a
+unfolding sumOver
+sum-set f d [] i a h = absurd (omega arith)
+sum-set f d (b ∷ l) zero a h = swap-first (f b) (f a) (sumOver f l)
+sum-set f d (b ∷ l) (suc i) a h =
+    ap (λ (z : ℤ). f b +ℤ z) (sum-set f d l i a (omega arith)) ∙ swap-later (f b) (sumOver f l) (negℤ (f (getD l i d))) (f a)
+
+mixed-all : {A : Type 0} (f g : A → ℤ) (i : ℕ) (l : List A) → length l ≡ i → mixed f g i l ≡ sumOver f l
 unfolding mixed sumOver
-mixed-all f g zero [] [] h k = refl
-mixed-all f g zero [] (b ∷ old) h k = absurd (omega arith)
-mixed-all f g zero (a ∷ new) old h k = absurd (omega arith)
-mixed-all f g (suc i) [] old h k = absurd (omega arith)
-mixed-all f g (suc i) (a ∷ new) [] h k = absurd (omega arith)
-mixed-all f g (suc i) (a ∷ new) (b ∷ old) h k = ap (λ (z : ℤ). f a +ℤ z) (mixed-all f g i new old (omega arith) (omega arith))
+mixed-all f g zero [] h = refl
+mixed-all f g zero (a ∷ l) h = absurd (omega arith)
+mixed-all f g (suc i) [] h = absurd (omega arith)
+mixed-all f g (suc i) (a ∷ l) h = ap (λ (z : ℤ). f a +ℤ z) (mixed-all f g i l (omega arith))
 
-mixed-small : {A : Type 0} (f g : A → ℤ) (most : ℕ) → ((a : A) → natAbs (f a) ≤ most) → ((a : A) → natAbs (g a) ≤ most) → (i : ℕ) (new old : List A) → natAbs (mixed f g i new old) ≤ length old * most
+mixed-small : {A : Type 0} (f g : A → ℤ) (most : ℕ) → ((a : A) → natAbs (f a) ≤ most) → ((a : A) → natAbs (g a) ≤ most) → (i : ℕ) (l : List A) → natAbs (mixed f g i l) ≤ length l * most
 unfolding mixed sumOver
-mixed-small f g most p q zero new old = small-sum g most q old
-mixed-small f g most p q (suc i) [] old = zero-le
-mixed-small f g most p q (suc i) (a ∷ new) [] = zero-le
-mixed-small f g most p q (suc i) (a ∷ new) (b ∷ old) =
-    let s = abs-add (f a) (mixed f g i new old) in
-    let t = mixed-small f g most p q i new old in
-    let u = p a in rw (suc-mul (length old) most) (omega arith)
+mixed-small f g most p q zero l = small-sum g most q l
+mixed-small f g most p q (suc i) [] = zero-le
+mixed-small f g most p q (suc i) (a ∷ l) =
+    let s = abs-add (f a) (mixed f g i l) in
+    let t = mixed-small f g most p q i l in
+    let u = p a in rw (suc-mul (length l) most) (omega arith)
 
 -- ---- the totals when i places are passed
 
-module _ (cards : List Card) (old new : List Transistor) (was volts : List ℕ) where
+module _ (cards : List Card) (ts : List Transistor) (was volts : List ℕ) where
   pub record Mixed (i : ℕ) (l : List ℤ) : Type 0 where
     pub long : length l ≡ nodesMost
-    pub at : (n : ℕ) → n < nodesMost → getD l n (pos 0) ≡ mixed (placeGives cards (map lowered volts) n) (placeGives cards (map lowered was) n) i new old
+    pub at : (n : ℕ) → n < nodesMost → getD l n (pos 0) ≡ mixed (placeGives cards (map lowered volts) n) (placeGives cards (map lowered was) n) i ts
 
-module _ {cards : List Card} {old new : List Transistor} {was volts : List ℕ} where
-  pub mixed-start : {totals : List ℤ} → totals ≡ totalsOf cards old (map lowered was) → Mixed cards old new was volts 0 totals
-  unfolding totalsOf mixed
+-- totals worked anew, node by node
+totals-at : (cards : List Card) (ts : List Transistor) (volts : List ℤ) (n : ℕ) → n < nodesMost → getD (totalsOf cards ts volts) n (pos 0) ≡ sumOver (placeGives cards volts n) ts
+unfolding totalsOf
+totals-at cards ts volts n h = tabulate-at (λ (m : ℕ). sumOver (placeGives cards volts m) ts) nodesMost n (pos 0) h
+
+pub totals-count : (cards : List Card) (ts : List Transistor) (volts : List ℤ) → length (totalsOf cards ts volts) ≡ nodesMost
+unfolding totalsOf
+totals-count cards ts volts = tabulate-long _ nodesMost
+
+-- a list with these sums is the totals
+are-totals : (cards : List Card) (ts : List Transistor) (volts : List ℤ) (l : List ℤ) → length l ≡ nodesMost → ((n : ℕ) → n < nodesMost → getD l n (pos 0) ≡ sumOver (placeGives cards volts n) ts) → l ≡ totalsOf cards ts volts
+are-totals cards ts volts l h at =
+    ext-getD (pos 0) l (totalsOf cards ts volts) (h ∙ sym (totals-count cards ts volts))
+    (λ n q. let b = subst (λ (x : ℕ). n < x) h q in at n b ∙ sym (totals-at cards ts volts n b))
+
+-- no total of 64 places is above 7 rows for each
+pub totals-room : (cards : List Card) (ts : List Transistor) (volts : List ℤ) → length ts ≡ 64 → Room nodesMost (448 * 2 ^ 53) (totalsOf cards ts volts)
+totals-room cards ts volts h = record { long = totals-count cards ts volts; within = λ n. go n (below-or-not n 32) }
+  where
+    go : (n : ℕ) → (n < 32) ⊎ (32 ≤ n) → natAbs (getD (totalsOf cards ts volts) n (pos 0)) ≤ 448 * 2 ^ 53
+    go n (inl b) =
+        let s = small-sum (placeGives cards volts n) (7 * 2 ^ 53) (small-place cards volts n) ts in
+        rw (totals-at cards ts volts n b) (subst (λ (k : ℕ). natAbs (sumOver (placeGives cards volts n) ts) ≤ k * (7 * 2 ^ 53)) h s)
+    go n (inr b) = rw (List·getD-eq-default (totalsOf cards ts volts) (pos 0) {n = n} (rw (totals-count cards ts volts) b)) zero-le
+
+module _ {cards : List Card} {ts : List Transistor} {was volts : List ℕ} where
+  pub mixed-start : {totals : List ℤ} → totals ≡ totalsOf cards ts (map lowered was) → Mixed cards ts was volts 0 totals
+  unfolding mixed
   mixed-start {totals} e =
       record {
-        long = ap length e ∙ tabulate-long _ nodesMost;
-        at = λ n h. ap (λ (l : List ℤ). getD l n (pos 0)) e ∙ tabulate-at (λ (m : ℕ). sumOver (placeGives cards (map lowered was) m) old) nodesMost n (pos 0) h;
+        long = ap length e ∙ totals-count cards ts (map lowered was);
+        at = λ n h. ap (λ (l : List ℤ). getD l n (pos 0)) e ∙ totals-at cards ts (map lowered was) n h;
       }
 
-  pub mixed-end : {l : List ℤ} → length new ≡ 64 → length old ≡ 64 → Mixed cards old new was volts 64 l → l ≡ totalsOf cards new (map lowered volts)
-  unfolding totalsOf
-  mixed-end {l} h k m =
-      ext-getD (pos 0) l _ (m .long ∙ sym (tabulate-long _ nodesMost))
-      (λ n q. let b = subst (λ (x : ℕ). n < x) (m .long) q in
-      m .at n b ∙ mixed-all _ _ 64 new old h k ∙ sym (tabulate-at (λ (j : ℕ). sumOver (placeGives cards (map lowered volts) j) new) nodesMost n (pos 0) b))
+  pub mixed-end : {l : List ℤ} → length ts ≡ 64 → Mixed cards ts was volts 64 l → l ≡ totalsOf cards ts (map lowered volts)
+  mixed-end {l} h m = are-totals cards ts (map lowered volts) l (m .long) (λ n b. m .at n b ∙ mixed-all _ _ 64 ts h)
 
-  pub mixed-room : {l : List ℤ} (i : ℕ) → length old ≡ 64 → Mixed cards old new was volts i l → Room (448 * 2 ^ 53) l
+  pub mixed-room : {l : List ℤ} (i : ℕ) → length ts ≡ 64 → Mixed cards ts was volts i l → Room nodesMost (448 * 2 ^ 53) l
   mixed-room {l} i h m = record { long = m .long; within = λ n. go n (below-or-not n 32) }
     where
       go : (n : ℕ) → (n < 32) ⊎ (32 ≤ n) → natAbs (getD l n (pos 0)) ≤ 448 * 2 ^ 53
       go n (inl b) =
-          let s = mixed-small (placeGives cards (map lowered volts) n) (placeGives cards (map lowered was) n) (7 * 2 ^ 53) (small-place cards (map lowered volts) n) (small-place cards (map lowered was) n) i new old in
-          rw (m .at n b) (subst (λ (k : ℕ). natAbs (mixed (placeGives cards (map lowered volts) n) (placeGives cards (map lowered was) n) i new old) ≤ k * (7 * 2 ^ 53)) h s)
+          let s = mixed-small (placeGives cards (map lowered volts) n) (placeGives cards (map lowered was) n) (7 * 2 ^ 53) (small-place cards (map lowered volts) n) (small-place cards (map lowered was) n) i ts in
+          rw (m .at n b) (subst (λ (k : ℕ). natAbs (mixed (placeGives cards (map lowered volts) n) (placeGives cards (map lowered was) n) i ts) ≤ k * (7 * 2 ^ 53)) h s)
       go n (inr b) = rw (List·getD-eq-default l (pos 0) {n = n} (rw (m .long) b)) zero-le
 
-  -- a place outside the set
-  pub mixed-passes : {l : List ℤ} (i : ℕ) → i < length new → i < length old → ((n : ℕ) → placeGives cards (map lowered was) n (getD old i noTransistor) ≡ placeGives cards (map lowered volts) n (getD new i noTransistor)) → Mixed cards old new was volts i l → Mixed cards old new was volts (i + 1) l
-  mixed-passes i h k same m = record { long = m .long; at = λ n b. rw add-one (m .at n b ∙ sym (mixed-same _ _ noTransistor i new old h k (same n))) }
+  -- a place that gives what it gave
+  pub mixed-passes : {l : List ℤ} (i : ℕ) → i < length ts → ((n : ℕ) → placeGives cards (map lowered was) n (getD ts i noTransistor) ≡ placeGives cards (map lowered volts) n (getD ts i noTransistor)) → Mixed cards ts was volts i l → Mixed cards ts was volts (i + 1) l
+  mixed-passes i h same m = record { long = m .long; at = λ n b. rw add-one (m .at n b ∙ sym (mixed-same _ _ noTransistor i ts h (same n))) }
 
-  -- a place of the set: what stood there taken out, what stands there put in
-  pub mixed-works : {l l′ l″ : List ℤ} (i : ℕ) → i < length new → i < length old → {f g : ℕ → ℤ} → ((n : ℕ) → g n ≡ negℤ (placeGives cards (map lowered was) n (getD old i noTransistor))) → ((n : ℕ) → f n ≡ placeGives cards (map lowered volts) n (getD new i noTransistor)) → Mixed cards old new was volts i l → More l l′ g → More l′ l″ f → Mixed cards old new was volts (i + 1) l″
-  mixed-works i h k {f} {g} eg ef m p q =
+  -- a place whose currents were taken out at the old voltages and put in at the new
+  pub mixed-works : {l l′ l″ : List ℤ} (i : ℕ) → i < length ts → {f g : ℕ → ℤ} → ((n : ℕ) → g n ≡ negℤ (placeGives cards (map lowered was) n (getD ts i noTransistor))) → ((n : ℕ) → f n ≡ placeGives cards (map lowered volts) n (getD ts i noTransistor)) → Mixed cards ts was volts i l → More nodesMost l l′ g → More nodesMost l′ l″ f → Mixed cards ts was volts (i + 1) l″
+  mixed-works i h {f} {g} eg ef m p q =
       record {
         long = q .long;
         at = λ n b. rw add-one
             (q .at n b ∙ ap (λ (z : ℤ). z +ℤ f n) (p .at n b ∙ ap (λ (z : ℤ). z +ℤ g n) (m .at n b))
-            ∙ rw (eg n, ef n) (sym (mixed-more (placeGives cards (map lowered volts) n) (placeGives cards (map lowered was) n) noTransistor i new old h k)));
+            ∙ rw (eg n, ef n) (sym (mixed-more (placeGives cards (map lowered volts) n) (placeGives cards (map lowered was) n) noTransistor i ts h)));
       }
 
--- ---- the worker's answer
+-- ---- another transistor at one place
 
-module _ (cards : List Card) (new : List Transistor) (volts : List ℕ) (totals : List ℤ) where
-  pub settled-over : true ≡ anyOf (placeOverloads cards (map lowered volts)) new → record { over = true; totals = totals } ≡ settledOf cards new volts totals
-  unfolding settledOf
-  settled-over e = rw (← e)
+module _ (cards : List Card) (ts : List Transistor) (volts : List ℤ) (i : ℕ) (t : Transistor) (below : i < length ts) {totals l : List ℤ} {f : ℕ → ℤ} (e : totals ≡ totalsOf cards ts volts) (more : More nodesMost totals l f) where
+  before-at : (n : ℕ) → n < nodesMost → getD totals n (pos 0) ≡ sumOver (placeGives cards volts n) ts
+  before-at n h = ap (λ (x : List ℤ). getD x n (pos 0)) e ∙ totals-at cards ts volts n h
 
-  pub settled-quiet : (l : List ℤ) → false ≡ anyOf (placeOverloads cards (map lowered volts)) new → l ≡ totalsOf cards new (map lowered volts) → record { over = false; totals = l } ≡ settledOf cards new volts totals
-  unfolding settledOf
-  settled-quiet l e h = rw (← e, h)
+  pub totals-changed : ((n : ℕ) → f n ≡ negℤ (placeGives cards volts n (getD ts i noTransistor)) +ℤ placeGives cards volts n t) → l ≡ totalsOf cards (set ts i t) volts
+  totals-changed is =
+      are-totals cards (set ts i t) volts l (more .long)
+      (λ n h. more .at n h ∙ ap (λ (z : ℤ). z +ℤ f n) (before-at n h) ∙ ap (λ (z : ℤ). sumOver (placeGives cards volts n) ts +ℤ z) (is n)
+      ∙ sym (+ℤ-assoc (sumOver (placeGives cards volts n) ts) _ _)
+      ∙ sym (sum-set (placeGives cards volts n) noTransistor ts i t below))

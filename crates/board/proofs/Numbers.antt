@@ -1,29 +1,28 @@
 -- Issue numbers over any calls: never given twice; who keeps a number keeps its card; and lifting the one just placed brings every total back.
 use mathlib.Core.Path.{_≡_, refl, sym, ap, _∙_, subst}
 use mathlib.Core.Bool.{Bool, true, false, cond, not}
-use mathlib.Core.List.{List, [], _∷_, map}
-use Prim.Native.Nat.{ℕ, zero, suc, _+_, _≤_, _<_}
-use native.Mathlib.Numerals.{add-one}
+use mathlib.Core.List.{List, [], _∷_}
+use Prim.Native.Nat.{ℕ, _+_, _≤_, _<_}
 use native.Mathlib.Nat.{le-of-eq, le-refl}
 use native.Mathlib.Omega.{arith}
-use lib.Dec.{eqb, leb, ltb, lit≤}
-use lib.ListN.{length, getD}
+use lib.Dec.{eqb, ltb}
+use lib.ListN.{length}
 use lib.Seq.{ext-getD}
-use lib.IntN.{ℤ, pos, natAbs}
-use borrow.Author.Tests.{eqb-true, eqb-false, ne-eqb, eq-eqb, ltb-false, le-leb}
+use lib.IntN.{ℤ, pos}
+use borrow.Author.Tests.{eqb-true, eqb-false, eq-eqb, ltb-false, le-leb}
 use Rattle.card.specs.declared.WorkedCard.{WorkedCard}
 use Rattle.board.specs.declared.Board.{Board}
 use Rattle.board.specs.declared.Answer.{Answer}
 use Rattle.board.specs.declared.Answer.the-variants.{Issue, Done, Node, Refused}
-use Rattle.board.specs.Verdict.{nodesMost, issuesMost, Found, none, some, Verdict, no, yes, issueOf, liftVerdict, nodeVerdict}
+use Rattle.board.specs.Verdict.{issuesMost, Found, none, some, Verdict, no, yes, issueOf, liftVerdict, nodeVerdict}
 use Rattle.board.specs.Desk as desk
-use Rattle.board.specs.Desk.{Held, Standing, Desk, Call, load, place, move, lift, withdraw, lookUp, node, firstWith, ifTrue, standsAs, without, keepIf, sumOver, flow, total, step, after}
+use Rattle.board.specs.Desk.{Held, Standing, Desk, Call, load, place, move, lift, withdraw, lookUp, node, firstWith, ifTrue, standsAs, without, keepIf, total, step, after}
 use Rattle.board.specs.Model as board
 use Rattle.board.specs.Model.{loadedOf, placedOf, movedOf, liftedOf, withdrawnOf, lookedOf, showedOf, answered, boardAfter}
 use Rattle.board.specs.Stands.{replyOf}
 use Rattle.board.proofs.Perms.{count, more}
 use Rattle.board.proofs.Verdicts.{loads, places}
-use Rattle.board.proofs.Good.{Good, good-after, totals-long}
+use Rattle.board.proofs.Good.{good-after, totals-long}
 use Rattle.board.proofs.Orderly.{Orderly, orderly-after}
 use Rattle.board.proofs.Follows.{stands-after, follows}
 use Rattle.board.proofs.Totals.{totals-are-sums}

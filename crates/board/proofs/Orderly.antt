@@ -1,13 +1,12 @@
 -- Issue numbers on a desk: every one below the next, and no two alike of one kind.
-use mathlib.Core.Path.{_≡_, refl, sym, ap, _∙_, subst}
-use mathlib.Core.Bool.{Bool, true, false, cond, not}
+use mathlib.Core.Path.{_≡_, refl}
+use mathlib.Core.Bool.{Bool, true, false, not}
 use mathlib.Core.List.{List, [], _∷_}
-use Prim.Native.Nat.{ℕ, zero, suc, _+_, _≤_, _<_, zero-le}
-use native.Mathlib.Nat.{le-trans, le-refl}
+use Prim.Native.Nat.{ℕ, suc, _≤_, zero-le}
+use native.Mathlib.Nat.{le-trans}
 use native.Mathlib.Omega.{arith}
 use lib.Dec.{eqb, lit≤}
-use lib.IntN.{ℤ}
-use borrow.Author.Tests.{eqb-true, ne-eqb, eq-eqb}
+use borrow.Author.Tests.{eqb-true, ne-eqb}
 use Rattle.card.specs.declared.WorkedCard.{WorkedCard}
 use Rattle.board.specs.Verdict.{Verdict, no, yes, nodeVerdict}
 use Rattle.board.specs.Desk.{Held, Standing, Desk, Call, load, place, move, lift, withdraw, lookUp, node, without, keepIf, loaded, placed, moved, lifted, withdrawn, looked, showed, mayLoad, mayPlace, mayMove, mayLift, mayWithdraw, mayLookUp, step, freshDesk, after}

@@ -2,14 +2,13 @@
 use mathlib.Core.Path.{_≡_, refl, sym, ap, _∙_, subst}
 use mathlib.Core.Bool.{Bool, true, false, cond, not, _||_}
 use mathlib.Core.List.{List, [], _∷_}
-use Prim.Native.Nat.{ℕ, zero, suc, _+_, _≤_, _<_}
+use Prim.Native.Nat.{ℕ, suc, _+_, _≤_, _<_}
 use native.Mathlib.Omega.{arith}
 use lib.Dec.{eqb, ltb}
 use lib.ListN.{length}
-use lib.IntN.{ℤ, pos, _+ℤ_, +ℤ-assoc, +ℤ-comm}
+use lib.IntN.{ℤ, _+ℤ_, +ℤ-assoc, +ℤ-comm}
 use borrow.Author.Tests.{ltb-true, ltb-false}
 use Rattle.board.specs.Desk.{sumOver, anyOf, firstWith, ifTrue, without, keepIf, larger, Held, highest}
-use Rattle.board.specs.Verdict.{Found, none, some}
 use Rattle.board.specs.Perm.{Perm, empty, keep, swap, then}
 use Rattle.name.specs.Name.{same}
 

@@ -2,14 +2,13 @@
 use mathlib.Core.Path.{_≡_, refl, sym, ap, _∙_, subst}
 use mathlib.Core.Bool.{Bool, true, false, cond, not, _||_}
 use mathlib.Core.List.{List, [], _∷_}
-use Prim.Native.Nat.{ℕ, zero, suc, _+_, _≤_, _<_, zero-le}
-use native.Mathlib.Nat.{le-of-suc-le-suc}
+use Prim.Native.Nat.{ℕ, suc, _+_, _≤_, _<_, zero-le}
 use native.Mathlib.Omega.{arith}
-use lib.Dec.{T, eqb, leb, ltb, leb·suc-suc, leb·suc-zero}
+use lib.Dec.{T, eqb, leb, ltb, leb·suc-suc}
 use lib.ListN.{length, getD, set}
 use lib.IntN.{ℤ, pos, _+ℤ_, +ℤ-idl}
-use borrow.Author.Tests.{eqb-true, eqb-false, eq-eqb, ne-eqb, le-leb, lt-leb, lt-ltb, le-ltb}
-use Rattle.board.specs.Desk.{sumOver, anyOf, firstWith, ifTrue, without, keepIf}
+use borrow.Author.Tests.{eqb-true, eqb-false, eq-eqb, ne-eqb, lt-leb, lt-ltb}
+use Rattle.board.specs.Desk.{sumOver, anyOf, firstWith, without, keepIf}
 use Rattle.board.specs.Verdict.{Found, none, some}
 use Rattle.board.specs.Model.{first, foundAt}
 use Rattle.board.specs.Stands.{occupied}

@@ -1,34 +1,35 @@
--- What placing, lifting and moving hand to the worker is what it asks, and what it gives is what they need.
+-- What placing, lifting and moving hand to the worker is what it asks, and what it gives are the totals anew.
 use mathlib.Core.Path.{_≡_, refl, sym, ap, _∙_}
 use mathlib.Core.Bool.{Bool, true, false, cond, _||_}
 use mathlib.Core.List.{List, [], _∷_, map}
-use Prim.Native.Nat.{ℕ, zero, suc, _*_, _≤_, _<_}
+use Prim.Native.Nat.{ℕ, zero, suc, _*_, _^_, _≤_, _<_}
 use native.Mathlib.Omega.{arith}
 use lib.Dec.{eqb}
-use lib.ListN.{length, getD, set, length-set, List·getD-map}
-use lib.Seq.{getD-set-other}
-use lib.IntN.{ℤ, pos}
-use borrow.Author.Tests.{eqb-false, ne-eqb}
+use lib.ListN.{length, getD, set, length-set}
+use lib.IntN.{ℤ, pos, negℤ, +ℤ-idl, +ℤ-idr}
+use borrow.Author.Tests.{eqb-false, eq-eqb, ne-eqb}
 use Rattle.branch.specs.Ready.{lowered, reach}
 use Rattle.board.specs.declared.Card.{Card}
 use Rattle.board.specs.declared.Transistor.{Transistor}
 use Rattle.board.specs.declared.Board.{Board}
-use Rattle.board.specs.declared.worker.Settled.{Settled}
+use Rattle.board.specs.Verdict.{nodesMost}
 use Rattle.board.specs.Desk.{rolesAt, overloads, flow, anyOf}
-use Rattle.board.specs.Model.{noTransistor, workedAt, placeGives, placeOverloads, totalsOf, voltsOf}
-use Rattle.board.specs.Parts.{names, standsAt, onlyAt}
-use Rattle.board.specs.Settle.{Volts, Seated, Settling, settledOf}
+use Rattle.board.specs.Model.{noTransistor, emptyTransistor, workedAt, placeGives, placeOverloads, totalsOf, voltsOf}
+use Rattle.board.specs.Parts.{More, Room, names, standsAt}
+use Rattle.board.specs.Settle.{Volts, Seated, Settling}
 use Rattle.board.proofs.Lists.{each-set}
 use Rattle.board.proofs.Good.{Good}
-use Rattle.board.proofs.Marks.{not-only}
+use Rattle.board.proofs.Amounts.{room-less}
+use Rattle.board.proofs.Currents.{named-stands}
+use Rattle.board.proofs.Mixes.{totals-room, totals-changed}
 
 -- ---- a board that is good
 
 module _ {b : Board} (g : Good b) where
-  volts-good : Volts (b .volts)
+  pub volts-good : Volts (b .volts)
   volts-good = record { long = g .volts-long; near = g .near }
 
-  seated : (i : ℕ) → (getD (b .transistors) i noTransistor .issue ≡ 0 → ⊥) → Seated (b .cards) (getD (b .transistors) i noTransistor)
+  pub seated : (i : ℕ) → (getD (b .transistors) i noTransistor .issue ≡ 0 → ⊥) → Seated (b .cards) (getD (b .transistors) i noTransistor)
   seated i h =
       let s = g .sits i h in
       record { seat-there = s .seat-there; ready = g .ready (getD (b .transistors) i noTransistor .seat) (λ z. s .card-given (sym (s .card-there) ∙ z)); wired = s .wired }
@@ -41,51 +42,27 @@ module _ {b : Board} (g : Good b) where
       go true e = refl
       go false e = g .sits i (eqb-false _ _ e) .quiet
 
--- ---- another transistor at one place
+  -- there is room for what one transistor gives
+  pub room-now : Room nodesMost (880 * 2 ^ 53) (b .totals)
+  room-now = room-less {a = 448 * 2 ^ 53} (omega arith) (rw (g .balanced) (totals-room (b .cards) (b .transistors) (voltsOf b) (g .transistors-long)))
 
-module _ {b : Board} (g : Good b) (i : ℕ) (below : i < 64) (t : Transistor) where
-  others : (j : ℕ) → getD (onlyAt i) j false ≡ false → getD (set (b .transistors) i t) j noTransistor ≡ getD (b .transistors) j noTransistor
-  others j e = getD-set-other (b .transistors) i j t noTransistor (not-only i j below e)
+-- ---- a transistor put on a place, or taken off
 
-  pub settling-one : ((t .issue ≡ 0 → ⊥) → Seated (b .cards) t) → Settling (b .cards) (b .transistors) (set (b .transistors) i t) (b .volts) (b .volts) (onlyAt i) (b .totals)
-  settling-one s =
-      record {
-        was-are = volts-good g;
-        volts-are = volts-good g;
-        old-seated = seated g;
-        new-seated = λ j. each-set (λ (u : Transistor). (u .issue ≡ 0 → ⊥) → Seated (b .cards) u) (b .transistors) i j t noTransistor s (seated g j);
-        same = λ j e n. ap (placeGives (b .cards) (voltsOf b) n) (sym (others j e));
-        quiet = λ j e. ap (placeOverloads (b .cards) (voltsOf b)) (others j e) ∙ quiet-now g j;
-        balanced = g .balanced;
-      }
+module _ {b : Board} (g : Good b) (i : ℕ) (below : i < 64) where
+  there : i < length (b .transistors)
+  there = rw (g .transistors-long) below
 
-none-there : {A : Type 0} (p : A → Bool) (d : A) (l : List A) → ((j : ℕ) → p (getD l j d) ≡ false) → anyOf p l ≡ false
-unfolding anyOf
-none-there p d [] q = refl
-none-there p d (x ∷ l) q = rw (q 0) (none-there p d l (λ j. q (suc j)))
+  pub totals-put : {l : List ℤ} (t : Transistor) (f : ℕ → ℤ) → getD (b .transistors) i noTransistor .issue ≡ 0 → ((n : ℕ) → f n ≡ placeGives (b .cards) (voltsOf b) n t) → More nodesMost (b .totals) l f → l ≡ totalsOf (b .cards) (set (b .transistors) i t) (voltsOf b)
+  unfolding placeGives
+  totals-put t f free is more =
+      totals-changed (b .cards) (b .transistors) (voltsOf b) i t there (g .balanced) more
+      (λ n. is n ∙ rw (eq-eqb _ _ free) (sym (+ℤ-idl _)))
 
--- whether one overloads is told by the new one alone
-any-one : {A : Type 0} (p : A → Bool) (d : A) (l : List A) (i : ℕ) (a : A) → i < length l → ((j : ℕ) → p (getD l j d) ≡ false) → anyOf p (set l i a) ≡ p a
-unfolding anyOf
-any-one p d [] i a h q = absurd (omega arith)
-any-one p d (x ∷ l) zero a h q = go (p a) (none-there p d l (λ j. q (suc j)))
-  where
-    go : (t : Bool) → anyOf p l ≡ false → t || anyOf p l ≡ t
-    go true e = refl
-    go false e = e
-any-one p d (x ∷ l) (suc i) a h q = rw (q 0) (any-one p d l i a (omega arith) (λ j. q (suc j)))
-
-module _ {b : Board} (g : Good b) (i : ℕ) (below : i < 64) (t : Transistor) {r : Settled} (e : r ≡ settledOf (b .cards) (set (b .transistors) i t) (b .volts) (b .totals)) where
-  pub over-one : r .over ≡ placeOverloads (b .cards) (voltsOf b) t
-  unfolding settledOf
-  over-one = ap (λ (s : Settled). s .over) e ∙ any-one (placeOverloads (b .cards) (voltsOf b)) noTransistor (b .transistors) i t (rw (g .transistors-long) below) (quiet-now g)
-
--- the totals where none overloads
-pub totals-settled : (cards : List Card) (new : List Transistor) (volts : List ℕ) (totals : List ℤ) {r : Settled} → r ≡ settledOf cards new volts totals → r .over ≡ false → r .totals ≡ totalsOf cards new (map lowered volts)
-unfolding settledOf
-totals-settled cards new volts totals e q =
-    let o = sym (ap (λ (s : Settled). s .over) e) ∙ q in
-    ap (λ (s : Settled). s .totals) e ∙ rw o
+  pub totals-taken : {l : List ℤ} (f : ℕ → ℤ) → ((n : ℕ) → f n ≡ negℤ (placeGives (b .cards) (voltsOf b) n (getD (b .transistors) i noTransistor))) → More nodesMost (b .totals) l f → l ≡ totalsOf (b .cards) (set (b .transistors) i emptyTransistor) (voltsOf b)
+  unfolding placeGives
+  totals-taken f is more =
+      totals-changed (b .cards) (b .transistors) (voltsOf b) i emptyTransistor there (g .balanced) more
+      (λ n. is n ∙ sym (+ℤ-idr _))
 
 -- ---- another voltage at one node
 
@@ -126,17 +103,13 @@ module _ (cards : List Card) (volts : List ℕ) (n v : ℕ) (t : Transistor) (h 
       go false e = rw (roles-same volts n v (t .nodes) (not-named (eqb-false _ _ e)))
 
 module _ {b : Board} (g : Good b) (n v : ℕ) (near : v ≤ 2 * reach) where
-  unmarked : (j : ℕ) → getD (map (standsAt n) (b .transistors)) j false ≡ false → standsAt n (getD (b .transistors) j noTransistor) ≡ false
-  unmarked j e = sym (List·getD-map (standsAt n) (b .transistors) j noTransistor) ∙ e
-
-  pub settling-moved : Settling (b .cards) (b .transistors) (b .transistors) (b .volts) (set (b .volts) n v) (map (standsAt n) (b .transistors)) (b .totals)
+  pub settling-moved : Settling (b .cards) (b .transistors) (b .volts) (set (b .volts) n v) n (b .totals)
   settling-moved =
       record {
         was-are = volts-good g;
         volts-are = record { long = length-set (b .volts) n v ∙ g .volts-long; near = λ k. each-set (λ (x : ℕ). x ≤ 2 * reach) (b .volts) n k v 0 near (g .near k) };
-        old-seated = seated g;
-        new-seated = seated g;
-        same = λ j e m. gives-as-before (b .cards) (b .volts) n v (getD (b .transistors) j noTransistor) (unmarked j e) m;
-        quiet = λ j e. overloads-as-before (b .cards) (b .volts) n v (getD (b .transistors) j noTransistor) (unmarked j e) ∙ quiet-now g j;
+        seated = λ j e. seated g j (named-stands n (getD (b .transistors) j noTransistor) e);
+        same = λ j e m. gives-as-before (b .cards) (b .volts) n v (getD (b .transistors) j noTransistor) e m;
+        quiet = λ j e. overloads-as-before (b .cards) (b .volts) n v (getD (b .transistors) j noTransistor) e ∙ quiet-now g j;
         balanced = g .balanced;
       }

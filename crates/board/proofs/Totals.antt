@@ -1,34 +1,33 @@
 -- What the stored totals are on every board that calls leave: sums over what stands, zero in all, small, and the same for the same transistors.
 use mathlib.Core.Path.{_≡_, refl, sym, ap, _∙_, subst}
-use mathlib.Core.Bool.{Bool, true, false, cond, not}
+use mathlib.Core.Bool.{Bool, true, false, cond}
 use mathlib.Core.List.{List, [], _∷_, map}
 use Prim.Native.Nat.{ℕ, zero, suc, _+_, _-_, _*_, _^_, _≤_, _<_, zero-le}
 use native.Mathlib.Nat.{suc-mul, le-refl, le-of-eq}
 use native.Mathlib.Omega.{arith}
-use lib.Dec.{eqb, ltb, eqb·zero-suc, eqb·suc-zero, eqb·suc-suc, lit≤}
-use lib.ListN.{length, getD, set, replicate}
-use lib.Seq.{ext-getD}
+use lib.Dec.{eqb, ltb, eqb·zero-suc, eqb·suc-zero, eqb·suc-suc}
+use lib.ListN.{length, getD}
 use lib.IntN.{ℤ, pos, negsuc, natAbs, negℤ, _+ℤ_, _-ℤ_, +ℤ-idl, +ℤ-idr, +ℤ-invr, +ℤ-assoc, +ℤ-comm}
-use borrow.Author.Tests.{eqb-true, eqb-false, ne-eqb, eq-eqb}
+use borrow.Author.Tests.{eqb-false}
 use Rattle.card.specs.declared.WorkedCard.{WorkedCard}
 use Rattle.branch.specs.declared.Over.{Over}
 use Rattle.branch.specs.declared.Over.the-variants.{Within, Ticks, Injection}
-use Rattle.branch.specs.Rows.{Role, Row, rowsFor}
+use Rattle.branch.specs.Rows.{Row, rowsFor}
 use Rattle.branch.specs.Ticks.{seatOf}
 use Rattle.branch.specs.Outcome.{outcomeOf}
 use Rattle.branch.proofs.Laws.{ticks-small}
 use Rattle.board.specs.declared.Card.{Card}
 use Rattle.board.specs.declared.Transistor.{Transistor}
 use Rattle.board.specs.declared.Board.{Board}
-use Rattle.board.specs.Verdict.{nodesMost, transistorsMost}
-use Rattle.board.specs.Desk.{Standing, Desk, Call, rolesAt, isOver, overloads, atNode, rowsGive, flow, sumOver, total, after}
+use Rattle.board.specs.Verdict.{nodesMost}
+use Rattle.board.specs.Desk.{Standing, Call, rolesAt, isOver, overloads, atNode, rowsGive, flow, sumOver, total, after}
 use Rattle.board.specs.Model.{noTransistor, workedAt, placeGives, tabulate, totalsOf, voltsOf, boardAfter, Reached}
 use Rattle.board.specs.Perm.{Perm}
 use Rattle.board.specs.Stands.{standingOf, standingIn}
 use Rattle.board.proofs.Perms.{perm-sum}
 use Rattle.board.proofs.Places.{sum-occupied}
-use Rattle.board.proofs.Lists.{sum-same, tabulate-same, tabulate-at, tabulate-long}
-use Rattle.board.proofs.Good.{Good, good, good-after, Sits}
+use Rattle.board.proofs.Lists.{tabulate-same, tabulate-at}
+use Rattle.board.proofs.Good.{good, good-after}
 use Rattle.board.proofs.Orderly.{orderly-after}
 use Rattle.board.proofs.Follows.{stands-after, totals-follow}
 
@@ -54,7 +53,7 @@ unfoldable pub sumAll : List ℤ → ℤ
 unfolding sumOver
 sumAll l = sumOver (λ (x : ℤ). x) l
 
-swap-inner : (a b c d : ℤ) → (a +ℤ b) +ℤ (c +ℤ d) ≡ (a +ℤ c) +ℤ (b +ℤ d)
+pub swap-inner : (a b c d : ℤ) → (a +ℤ b) +ℤ (c +ℤ d) ≡ (a +ℤ c) +ℤ (b +ℤ d)
 swap-inner a b c d = +ℤ-assoc a b (c +ℤ d) ∙ ap (λ (z : ℤ). a +ℤ z) (sym (+ℤ-assoc b c d) ∙ ap (λ (z : ℤ). z +ℤ d) (+ℤ-comm b c) ∙ +ℤ-assoc c b d) ∙ sym (+ℤ-assoc a c (b +ℤ d))
 
 -- a table of sums is summed part by part

@@ -1,8 +1,8 @@
 -- What a call that is taken has passed: each test of its order.
-use mathlib.Core.Path.{_≡_, refl, sym, ap, _∙_, subst}
-use mathlib.Core.Bool.{Bool, true, false, cond, not, _&&_, _||_}
-use mathlib.Core.List.{List, [], _∷_}
-use Prim.Native.Nat.{ℕ, suc, _≤_, _<_}
+use mathlib.Core.Path.{_≡_, refl, ap}
+use mathlib.Core.Bool.{Bool, true, false, not, _&&_, _||_}
+use mathlib.Core.List.{List}
+use Prim.Native.Nat.{ℕ, _<_}
 use native.Mathlib.Omega.{arith}
 use lib.IntN.{ℤ, pos, negsuc, natAbs}
 use Rattle.refusal.specs.declared.Refusal.{Refusal}
@@ -14,7 +14,7 @@ use Rattle.card.specs.Record.{rightLength}
 use Rattle.name.specs.Name.{asked}
 use lib.Dec.{leb, ltb}
 use borrow.Author.Tests.{leb-false}
-use Rattle.board.specs.Verdict.{nodesMost, Found, none, some, Verdict, no, yes, unless, afterwards, judgedCard, loadVerdict, placeVerdict, moveVerdict, liftVerdict, withdrawVerdict, lookVerdict, nodeVerdict, offNode, someOff, apart}
+use Rattle.board.specs.Verdict.{nodesMost, Found, none, some, Verdict, no, yes, unless, afterwards, judgedCard, loadVerdict, placeVerdict, moveVerdict, liftVerdict, withdrawVerdict, nodeVerdict, offNode, someOff, apart}
 use Rattle.branch.specs.Currents.{offVolts}
 
 -- a test that a taken call went through

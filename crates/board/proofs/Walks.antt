@@ -1,6 +1,6 @@
 -- Going through the places of a list one after the other: what is known once i of them are passed. For elements of any kind.
-use mathlib.Core.Path.{_≡_, refl, sym, _∙_}
-use mathlib.Core.Bool.{Bool, true, false, cond}
+use mathlib.Core.Path.{_≡_, refl, sym, ap, _∙_}
+use mathlib.Core.Bool.{Bool, true, false, cond, _||_}
 use mathlib.Core.List.{List, [], _∷_}
 use Prim.Native.Nat.{ℕ, zero, suc, _+_, _-_, _≤_, _<_, zero-le}
 use native.Mathlib.Nat.{zero-add}
@@ -55,6 +55,40 @@ module _ {A : Type 0} {p : A → Bool} {l : List A} where
   unfolding anyOf
   any-nowhere {i} h s =
       let a : anyOf p (drop i l) ≡ false = rw (drop-of-length-le l h) in sym (s .rest-any ∙ a)
+
+-- whether one of the first i passes the test
+pub record Heard {A : Type 0} (p : A → Bool) (l : List A) (i : ℕ) (b : Bool) : Type 0 where
+  pub with-rest : anyOf p l ≡ b || anyOf p (drop i l)
+
+module _ {A : Type 0} {p : A → Bool} {l : List A} where
+  pub heard-none : Heard p l 0 false
+  heard-none = record { with-rest = refl }
+
+  pub heard-more : {i : ℕ} {b : Bool} (d : A) → i < length l → (c : Bool) → c ≡ p (getD l i d) → Heard p l i b → Heard p l (i + 1) (b || c)
+  unfolding anyOf
+  heard-more {i} {b} d h c e s =
+      let a : anyOf p (drop i l) ≡ c || anyOf p (drop (suc i) l) = rw (drop-cons l i d h, e) in
+      record { with-rest = rw add-one (s .with-rest ∙ ap (λ (x : Bool). b || x) a ∙ joined b c _) }
+    where
+      joined : (x y z : Bool) → x || (y || z) ≡ (x || y) || z
+      joined true y z = refl
+      joined false y z = refl
+
+  pub heard-quiet : {i : ℕ} {b : Bool} (d : A) → i < length l → p (getD l i d) ≡ false → Heard p l i b → Heard p l (i + 1) b
+  unfolding anyOf
+  heard-quiet {i} {b} d h e s =
+      let a : anyOf p (drop i l) ≡ anyOf p (drop (suc i) l) = rw (drop-cons l i d h, e) in
+      record { with-rest = rw add-one (s .with-rest ∙ ap (λ (x : Bool). b || x) a) }
+
+  pub heard-all : {i : ℕ} {b : Bool} → length l ≤ i → Heard p l i b → b ≡ anyOf p l
+  unfolding anyOf
+  heard-all {i} {b} h s =
+      let a : anyOf p (drop i l) ≡ false = rw (drop-of-length-le l h) in
+      sym (s .with-rest ∙ ap (λ (x : Bool). b || x) a ∙ alone b)
+    where
+      alone : (x : Bool) → x || false ≡ x
+      alone true = refl
+      alone false = refl
 
 pub first-most : {A : Type 0} (p : A → Bool) (l : List A) → first p l ≤ length l
 unfolding first

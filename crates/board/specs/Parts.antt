@@ -1,17 +1,17 @@
 -- Words for what the board's inner functions give: a caller's number as the board holds it, a place or none, and totals with something more at each node.
 use mathlib.Core.Path.{_≡_}
-use mathlib.Core.Bool.{Bool, true, false, cond}
+use mathlib.Core.Bool.{Bool, false, cond}
 use mathlib.Core.List.{List, [], _∷_, map}
 use Prim.Native.Nat.{ℕ, zero, suc, _+_, _≤_, _<_}
 use lib.Dec.{eqb, ltb}
-use lib.ListN.{getD, set, replicate, length}
+use lib.ListN.{getD, length}
 use lib.IntN.{ℤ, pos, natAbs, negℤ, _+ℤ_, _-ℤ_}
 use Rattle.branch.specs.Ready.{raised}
-use Rattle.board.specs.declared.Card.{Card}
+use Rattle.card.specs.declared.WorkedCard.{WorkedCard}
 use Rattle.board.specs.declared.Transistor.{Transistor}
-use Rattle.board.specs.Verdict.{nodesMost, cardsMost, transistorsMost, Found, none, some, offNode}
+use Rattle.board.specs.Verdict.{nodesMost, cardsMost, Found, none, some, offNode}
 use Rattle.branch.specs.Currents.{offVolts}
-use Rattle.board.specs.Desk.{overloads, flow, anyOf, atNode}
+use Rattle.board.specs.Desk.{flow, anyOf, atNode}
 
 -- ---- numbers of the caller
 
@@ -38,31 +38,27 @@ names n nodes = anyOf (λ (m : ℕ). eqb m n) nodes
 abbrev pub standsAt : ℕ → Transistor → Bool
 standsAt n t = cond (eqb (t .issue) 0) false (names n (t .nodes))
 
--- the set of one place
-abbrev pub onlyAt : ℕ → List Bool
-onlyAt i = set (replicate transistorsMost false) i true
-
 -- ---- totals
 
--- l is the list of totals l₀ with f n more at each node n
-pub record More (l₀ l : List ℤ) (f : ℕ → ℤ) : Type 0 where
-  pub long : length l ≡ nodesMost
-  pub at : (n : ℕ) → n < nodesMost → getD l n (pos 0) ≡ getD l₀ n (pos 0) +ℤ f n
+-- l is the list l₀ of m numbers with f n more at each n
+pub record More (m : ℕ) (l₀ l : List ℤ) (f : ℕ → ℤ) : Type 0 where
+  pub long : length l ≡ m
+  pub at : (n : ℕ) → n < m → getD l n (pos 0) ≡ getD l₀ n (pos 0) +ℤ f n
 
 -- no number of the list is above k in size
 pub record Within (k : ℕ) (l : List ℤ) : Type 0 where
   pub within : (i : ℕ) → natAbs (getD l i (pos 0)) ≤ k
 
--- the board's totals, none above k in size
-pub record Room (k : ℕ) (l : List ℤ) : Type 0 where
-  pub long : length l ≡ nodesMost
+-- m numbers, none above k in size
+pub record Room (m k : ℕ) (l : List ℤ) : Type 0 where
+  pub long : length l ≡ m
   pub within : (n : ℕ) → natAbs (getD l n (pos 0)) ≤ k
 
--- every node is on the board
-pub record Wired (nodes : List ℕ) : Type 0 where
-  pub wired : (k : ℕ) → getD nodes k 0 < nodesMost
+-- every number is one of m nodes, or of m roles
+pub record Wired (m : ℕ) (l : List ℕ) : Type 0 where
+  pub wired : (k : ℕ) → getD l k 0 < m
 
--- what a branch of x ticks gives to node n
+-- what a branch of x ticks gives to role or node n
 abbrev pub ends : ℕ → ℕ → ℤ → ℕ → ℤ
 ends from to x n = atNode from n x -ℤ atNode to n x
 
@@ -71,12 +67,21 @@ unfoldable pub endsGive : List ℕ → List ℕ → List ℤ → ℕ → ℕ →
 endsGive froms tos ticks zero n = pos 0
 endsGive froms tos ticks (suc k) n = endsGive froms tos ticks k n +ℤ ends (getD froms k 0) (getD tos k 0) (getD ticks k (pos 0)) n
 
--- the nodes at which the seven branches of a transistor start, and those at which they end
-abbrev pub fromsOf : List ℕ → List ℕ
-fromsOf nodes = getD nodes 4 0 ∷ getD nodes 2 0 ∷ getD nodes 1 0 ∷ getD nodes 2 0 ∷ getD nodes 1 0 ∷ getD nodes 1 0 ∷ getD nodes 6 0 ∷ []
+-- what node n gets where the first k roles hand f to their nodes
+unfoldable pub spread : List ℕ → (ℕ → ℤ) → ℕ → ℕ → ℤ
+spread nodes f zero n = pos 0
+spread nodes f (suc k) n = spread nodes f k n +ℤ atNode (getD nodes k 0) n (f k)
 
-abbrev pub tosOf : List ℕ → List ℕ
-tosOf nodes = getD nodes 0 0 ∷ getD nodes 0 0 ∷ getD nodes 0 0 ∷ getD nodes 0 0 ∷ getD nodes 5 0 ∷ getD nodes 6 0 ∷ getD nodes 3 0 ∷ []
+-- the roles at which the seven branches of a transistor start, C2, B2, B1, B2, B1, B1, S, and those at which they end, E1 four times, C4, S, C1
+abbrev pub fromRoles : List ℕ
+fromRoles = 4 ∷ 2 ∷ 1 ∷ 2 ∷ 1 ∷ 1 ∷ 6 ∷ []
+
+abbrev pub toRoles : List ℕ
+toRoles = 0 ∷ 0 ∷ 0 ∷ 0 ∷ 5 ∷ 6 ∷ 3 ∷ []
+
+-- what the branches between these roles give to node n
+abbrev pub rolesGive : List ℕ → List ℕ → List ℕ → List ℤ → ℕ → ℤ
+rolesGive nodes froms tos ticks n = spread nodes (endsGive froms tos ticks 7) 7 n
 
 -- ---- a transistor with its card
 
@@ -88,13 +93,6 @@ rolesOf volts nodes = map (λ (n : ℕ). getD volts n 0) nodes
 abbrev pub seatOr : Transistor → ℕ
 seatOr t = cond (ltb (t .seat) cardsMost) (t .seat) 0
 
--- what it adds to node n with the card c, nothing where the place is empty; and that much taken away
-unfoldable pub givesWith : Card → List ℤ → Transistor → ℕ → ℤ
-givesWith c volts t n = cond (eqb (t .issue) 0) (pos 0) (flow (c .ready .card) (t .nodes) volts n)
-
-unfoldable pub takesWith : Card → List ℤ → Transistor → ℕ → ℤ
-unfolding givesWith
-takesWith c volts t n = negℤ (givesWith c volts t n)
-
-unfoldable pub overloadsWith : Card → List ℤ → Transistor → Bool
-overloadsWith c volts t = cond (eqb (t .issue) 0) false (overloads (c .ready .card) (t .nodes) volts)
+-- what a transistor adds to node n, taken away again
+unfoldable pub backFlow : WorkedCard → List ℕ → List ℤ → ℕ → ℤ
+backFlow c nodes volts n = negℤ (flow c nodes volts n)

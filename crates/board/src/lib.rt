@@ -6,9 +6,9 @@ ghost use Rattle.board.specs.Model.{noReady, emptyCard, emptyTransistor,
 mod finds; // finds.rt: looking through the places
 mod given; // given.rt: the caller's numbers
 mod rules; // rules.rt: placing's tests
-mod sets; // sets.rt: sets of places
+mod sets; // sets.rt: which transistors name a node
 mod sums; // sums.rt: what branches give to the totals
-mod worker; // worker.rt: the totals anew where something changed
+mod worker; // worker.rt: currents put into the totals and taken out
 
 use branch::Ready;
 use card::Judged;
@@ -209,9 +209,9 @@ impl Board {
         let n = given::issue_of(card);
         let on = given::nodes_of(nodes);
         let cards = self.cards;
-        let old = self.transistors;
+        let ts = self.transistors;
         let issue = self.next;
-        let way = rules::may_place(cards, old, issue, n, on);
+        let way = rules::may_place(cards, ts, issue, n, on);
         match way {
             Way::Stop(f) => refused(self, f),
             Way::Go(seat, free) => {
@@ -223,18 +223,14 @@ impl Board {
                     seat: seat as u32,
                     nodes: on,
                 };
-                let mut new = old;
-                new[free] = t;
-                let set = sets::only(free);
+                let table = octave::table();
                 let volts = self.volts;
-                let totals = self.totals;
-                let s = worker::settle(cards, old, new, &volts, &volts, &set, totals);
-                if s.over {
+                let mut totals = self.totals;
+                if worker::put_in(&mut totals, &table, c, t, &volts) {
                     return refused(self, Refusal::Overload);
                 }
-                let after = s.totals;
-                self.transistors = new;
-                self.totals = after;
+                self.transistors[free] = t;
+                self.totals = totals;
                 self.next = following;
                 Answered {
                     board: self,
@@ -263,16 +259,13 @@ impl Board {
         let mut volts = was;
         volts[n] = v;
         let ts = self.transistors;
-        let set = sets::naming(ts, k);
         let cards = self.cards;
-        let totals = self.totals;
-        let s = worker::settle(cards, ts, ts, &was, &volts, &set, totals);
-        if s.over {
+        let mut totals = self.totals;
+        if worker::settle(&mut totals, cards, ts, &was, &volts, k) {
             return refused(self, Refusal::Overload);
         }
-        let after = s.totals;
         self.volts = volts;
-        self.totals = after;
+        self.totals = totals;
         Answered {
             board: self,
             answer: Answer::Done,
@@ -286,22 +279,21 @@ impl Board {
         ensures { λ r. ⌜ Reached (r .board) ⌝ }
     {
         let n = given::issue_of(transistor);
-        let old = self.transistors;
-        let i = finds::transistor_at(old, n);
+        let ts = self.transistors;
+        let i = finds::transistor_at(ts, n);
         if Board::TRANSISTORS <= i {
             return refused(self, Refusal::Unknown);
         }
-        let t = no_transistor();
-        let mut new = old;
-        new[i] = t;
-        let set = sets::only(i);
-        let cards = self.cards;
+        let t = ts[i];
+        let s = worker::seat_of(t);
+        let c = self.cards[s];
+        let table = octave::table();
         let volts = self.volts;
-        let totals = self.totals;
-        let s = worker::settle(cards, old, new, &volts, &volts, &set, totals);
-        let after = s.totals;
-        self.transistors = new;
-        self.totals = after;
+        let mut totals = self.totals;
+        worker::take_out(&mut totals, &table, c, t, &volts);
+        let none = no_transistor();
+        self.transistors[i] = none;
+        self.totals = totals;
         Answered {
             board: self,
             answer: Answer::Done,

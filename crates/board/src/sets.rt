@@ -1,20 +1,7 @@
-// Sets of transistors' places, a bool for each.
+// Which transistors name a node.
 ghost use mathlib.Core.Path.{_≡_};
-ghost use mathlib.Core.List.{map};
-ghost use Rattle.board.specs.Parts.{names, standsAt, onlyAt};
-use crate::Board;
+ghost use Rattle.board.specs.Parts.{names, standsAt};
 use crate::Transistor;
-
-// The one place; none where there is no such place.
-pub(crate) fn only(i: usize) -> [bool; Board::TRANSISTORS]
-    ensures { λ r. ⌜ r ≡ onlyAt i ⌝ }
-{
-    let mut set = [false; Board::TRANSISTORS];
-    if i < Board::TRANSISTORS {
-        set[i] = true;
-    }
-    set
-}
 
 // Whether one of the nodes is n.
 fn has(nodes: [u8; 7], n: u8) -> bool
@@ -30,7 +17,7 @@ fn has(nodes: [u8; 7], n: u8) -> bool
 }
 
 // Whether a transistor stands there and names the node n.
-fn is_at(t: Transistor, n: u8) -> bool
+pub(crate) fn is_at(t: Transistor, n: u8) -> bool
     ensures { λ r. ⌜ r ≡ standsAt n t ⌝ }
 {
     if t.issue == 0 {
@@ -38,17 +25,4 @@ fn is_at(t: Transistor, n: u8) -> bool
     }
     let nodes = t.nodes;
     has(nodes, n)
-}
-
-// The places of the transistors that name the node.
-pub(crate) fn naming(ts: [Transistor; Board::TRANSISTORS], n: u8) -> [bool; Board::TRANSISTORS]
-    ensures { λ r. ⌜ r ≡ map (standsAt n) ts ⌝ }
-{
-    let mut set = [false; Board::TRANSISTORS];
-    for i in 0..Board::TRANSISTORS {
-        let t = ts[i];
-        let at = is_at(t, n);
-        set[i] = at;
-    }
-    set
 }

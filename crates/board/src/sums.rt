@@ -1,68 +1,104 @@
-// What a transistor's branches give to the node totals.
+// What a transistor's branches give to the node totals: each to its roles, and then each role to its node.
 ghost use mathlib.Core.Path.{_≡_};
-ghost use Prim.Native.Nat.{_*_, _^_, _≤_, _<_};
-ghost use lib.IntN.{natAbs};
-ghost use Rattle.board.specs.Parts.{More, Within, Room, Wired, ends, endsGive, fromsOf, tosOf};
+ghost use Prim.Native.Nat.{ℕ, _*_, _^_, _≤_, _<_};
+ghost use lib.ListN.{getD};
+ghost use lib.IntN.{natAbs, pos};
+ghost use Rattle.board.specs.Verdict.{nodesMost};
+ghost use Rattle.board.specs.Desk.{atNode};
+ghost use Rattle.board.specs.Parts.{More, Within, Room, Wired, ends, endsGive, spread, fromRoles, toRoles, rolesGive};
 use crate::Board;
 use branch::BRANCHES;
 
-// A branch gives x to the node it comes from, and takes as much from the other.
-fn branch(l: &mut [i64; Board::NODES], from: u8, to: u8, x: i64)
-    requires { ⌜ (from < 32) × (to < 32) × Room (900 * 2 ^ 53) (now l) × (natAbs x ≤ 2 ^ 53) ⌝ }
-    ensures { λ _. ⌜ More (now (l .entry)) (now (l .exit)) (ends from to x) ⌝ }
+// E1, B1, B2, C1, C2, C4, S.
+const ROLES: usize = 7;
+
+// The roles at which the branches start: C2, B2, B1, B2, B1, B1, S.
+fn froms() -> [u8; BRANCHES]
+    ensures { λ r. ⌜ r ≡ fromRoles ⌝ }
+{
+    [4, 2, 1, 2, 1, 1, 6]
+}
+
+// The roles at which they end: E1 four times, C4, S, C1.
+fn tos() -> [u8; BRANCHES]
+    ensures { λ r. ⌜ r ≡ toRoles ⌝ }
+{
+    [0, 0, 0, 0, 5, 6, 3]
+}
+
+// A branch gives x to the role it comes from, and takes as much from the other.
+fn branch(a: &mut [i64; ROLES], from: u8, to: u8, x: i64)
+    requires { ⌜ (from < 7) × (to < 7) × Room 7 (7 * 2 ^ 53) (now a) × (natAbs x ≤ 2 ^ 53) ⌝ }
+    ensures { λ _. ⌜ More 7 (now (a .entry)) (now (a .exit)) (ends from to x) ⌝ }
 {
     let f = from as usize;
     let t = to as usize;
-    let a = l[f] + x;
-    l[f] = a;
-    let b = l[t] - x;
-    l[t] = b;
+    let y = a[f] + x;
+    a[f] = y;
+    let z = a[t] - x;
+    a[t] = z;
 }
 
-// All branches, each from its node to its node.
-pub(crate) fn give(
-    l: &mut [i64; Board::NODES],
+// All branches, each from its role to its role.
+fn branches(
+    a: &mut [i64; ROLES],
     from: &[u8; BRANCHES],
     to: &[u8; BRANCHES],
     ticks: &[i64; BRANCHES],
 )
-    requires { ⌜ Wired (now from) × Wired (now to) × Room (880 * 2 ^ 53) (now l) × Within (2 ^ 53) (now ticks) ⌝ }
-    ensures { λ _. ⌜ More (now (l .entry)) (now (l .exit)) (endsGive (now (from .entry)) (now (to .entry)) (now (ticks .entry)) 7) ⌝ }
+    requires { ⌜ Wired 7 (now from) × Wired 7 (now to) × Room 7 0 (now a) × Within (2 ^ 53) (now ticks) ⌝ }
+    ensures { λ _. ⌜ More 7 (now (a .entry)) (now (a .exit)) (endsGive (now (from .entry)) (now (to .entry)) (now (ticks .entry)) 7) ⌝ }
 {
     for k in 0..BRANCHES {
         let f = from[k];
         let t = to[k];
         let x = ticks[k];
-        branch(l, f, t, x);
+        branch(a, f, t, x);
     }
 }
 
-// The nodes at which the branches start: C2, B2, B1, B2, B1, B1, S.
-pub(crate) fn froms(nodes: &[u8; 7]) -> [u8; BRANCHES]
-    ensures { λ r. ⌜ r ≡ fromsOf (now (nodes .entry)) ⌝ }
+// x more at the node n.
+fn add(l: &mut [i64; Board::NODES], n: u8, x: i64)
+    requires { ⌜ (n < nodesMost) × Room nodesMost (930 * 2 ^ 53) (now l) × (natAbs x ≤ 7 * 2 ^ 53) ⌝ }
+    ensures { λ _. ⌜ More nodesMost (now (l .entry)) (now (l .exit)) (λ (m : ℕ). atNode n m x) ⌝ }
 {
-    [
-        nodes[4],
-        nodes[2],
-        nodes[1],
-        nodes[2],
-        nodes[1],
-        nodes[1],
-        nodes[6],
-    ]
+    let k = n as usize;
+    let y = l[k] + x;
+    l[k] = y;
 }
 
-// The nodes at which they end: E1 four times, C4, S, C1.
-pub(crate) fn tos(nodes: &[u8; 7]) -> [u8; BRANCHES]
-    ensures { λ r. ⌜ r ≡ tosOf (now (nodes .entry)) ⌝ }
+// Each role's amount to its node.
+fn hand_out(l: &mut [i64; Board::NODES], nodes: &[u8; ROLES], a: &[i64; ROLES])
+    requires { ⌜ Wired nodesMost (now nodes) × Room nodesMost (880 * 2 ^ 53) (now l) × Within (7 * 2 ^ 53) (now a) ⌝ }
+    ensures { λ _. ⌜ More nodesMost (now (l .entry)) (now (l .exit)) (spread (now (nodes .entry)) (λ (k : ℕ). getD (now (a .entry)) k (pos 0)) 7) ⌝ }
 {
-    [
-        nodes[0],
-        nodes[0],
-        nodes[0],
-        nodes[0],
-        nodes[5],
-        nodes[6],
-        nodes[3],
-    ]
+    for k in 0..ROLES {
+        let n = nodes[k];
+        let x = a[k];
+        add(l, n, x);
+    }
+}
+
+// What the branches give to the nodes.
+pub(crate) fn put(l: &mut [i64; Board::NODES], nodes: &[u8; ROLES], ticks: &[i64; BRANCHES])
+    requires { ⌜ Wired nodesMost (now nodes) × Room nodesMost (880 * 2 ^ 53) (now l) × Within (2 ^ 53) (now ticks) ⌝ }
+    ensures { λ _. ⌜ More nodesMost (now (l .entry)) (now (l .exit)) (rolesGive (now (nodes .entry)) fromRoles toRoles (now (ticks .entry))) ⌝ }
+{
+    let from = froms();
+    let to = tos();
+    let mut a = [0i64; ROLES];
+    branches(&mut a, &from, &to, ticks);
+    hand_out(l, nodes, &a);
+}
+
+// The same taken away: each branch turned about.
+pub(crate) fn take(l: &mut [i64; Board::NODES], nodes: &[u8; ROLES], ticks: &[i64; BRANCHES])
+    requires { ⌜ Wired nodesMost (now nodes) × Room nodesMost (880 * 2 ^ 53) (now l) × Within (2 ^ 53) (now ticks) ⌝ }
+    ensures { λ _. ⌜ More nodesMost (now (l .entry)) (now (l .exit)) (rolesGive (now (nodes .entry)) toRoles fromRoles (now (ticks .entry))) ⌝ }
+{
+    let from = froms();
+    let to = tos();
+    let mut a = [0i64; ROLES];
+    branches(&mut a, &to, &from, ticks);
+    hand_out(l, nodes, &a);
 }

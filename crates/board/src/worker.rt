@@ -1,26 +1,24 @@
-// The one worker behind placing, lifting and moving: at the places of a set it takes out what stood there and puts in what stands there now.
+// The one worker behind placing, lifting and moving: it puts a transistor's currents into the totals and takes them out, and where a voltage moves does both.
 ghost use mathlib.Core.Path.{_≡_};
+ghost use mathlib.Core.Bool.{_||_};
 ghost use mathlib.Core.List.{map};
 ghost use Prim.Native.Nat.{_*_, _^_, _<_};
 ghost use lib.ListN.{length, getD};
 ghost use Rattle.board.specs.Verdict.{nodesMost};
 ghost use Rattle.branch.specs.Ready.{lowered};
 ghost use Rattle.branch.specs.Outcome.{outcomeOf};
-ghost use Rattle.board.specs.Desk.{rolesAt, isOver};
-ghost use Rattle.board.specs.Parts.{More, Room, Wired, rolesOf, seatOr, givesWith, takesWith, overloadsWith};
-ghost use Rattle.board.specs.Settle.{Workable, Works, Settling, settledOf};
+ghost use Rattle.board.specs.Desk.{rolesAt, isOver, overloads, flow, anyOf};
+ghost use Rattle.board.specs.Model.{placeOverloads, totalsOf};
+ghost use Rattle.board.specs.Parts.{More, Room, Wired, rolesOf, seatOr, backFlow};
+ghost use Rattle.board.specs.Settle.{Workable, Settling};
 use crate::Board;
 use crate::Card;
 use crate::Transistor;
+use crate::sets;
 use crate::sums;
 use branch::Outcome;
 use branch::Over;
 use octave::Table;
-
-pub(crate) struct Settled {
-    pub over: bool,
-    pub totals: [i64; Board::NODES],
-}
 
 fn volt(volts: &[u32; Board::NODES], n: u8) -> u32
     requires { ⌜ n < nodesMost ⌝ }
@@ -32,7 +30,7 @@ fn volt(volts: &[u32; Board::NODES], n: u8) -> u32
 
 // The voltages of a transistor's roles.
 fn roles(volts: &[u32; Board::NODES], nodes: &[u8; 7]) -> [u32; 7]
-    requires { ⌜ Wired (now nodes) × (length (now nodes) ≡ 7) ⌝ }
+    requires { ⌜ Wired nodesMost (now nodes) × (length (now nodes) ≡ 7) ⌝ }
     ensures { λ r. ⌜ r ≡ rolesOf (now (volts .entry)) (now (nodes .entry)) ⌝ }
 {
     let a = volt(volts, nodes[0]);
@@ -67,91 +65,80 @@ fn is_over(o: Over) -> bool
 }
 
 // Gives a transistor's currents to the totals, and tells whether it overloads.
-fn put_in(
+pub(crate) fn put_in(
     l: &mut [i64; Board::NODES],
     table: &Table,
     c: Card,
     t: Transistor,
     volts: &[u32; Board::NODES],
 ) -> bool
-    requires { ⌜ Works (now table) c t (now volts) × Room (880 * 2 ^ 53) (now l) ⌝ }
-    ensures { λ r. ⌜ r ≡ overloadsWith c (map lowered (now (volts .entry))) t ⌝ }
-    ensures { λ _. ⌜ More (now (l .entry)) (now (l .exit)) (givesWith c (map lowered (now (volts .entry))) t) ⌝ }
+    requires { ⌜ Workable (now table) c t (now volts) × Room nodesMost (880 * 2 ^ 53) (now l) ⌝ }
+    ensures { λ r. ⌜ r ≡ overloads (c .ready .card) (t .nodes) (map lowered (now (volts .entry))) ⌝ }
+    ensures { λ _. ⌜ More nodesMost (now (l .entry)) (now (l .exit)) (flow (c .ready .card) (t .nodes) (map lowered (now (volts .entry)))) ⌝ }
 {
-    if t.issue == 0 {
-        return false;
-    }
     let o = work(table, c, t, volts);
     let nodes = t.nodes;
-    let from = sums::froms(&nodes);
-    let to = sums::tos(&nodes);
     let ticks = o.ticks;
-    sums::give(l, &from, &to, &ticks);
+    sums::put(l, &nodes, &ticks);
     let over = o.over;
     is_over(over)
 }
 
-// Takes them out again: each branch turned about.
-fn take_out(
+// Takes them out again.
+pub(crate) fn take_out(
     l: &mut [i64; Board::NODES],
     table: &Table,
     c: Card,
     t: Transistor,
     volts: &[u32; Board::NODES],
 )
-    requires { ⌜ Works (now table) c t (now volts) × Room (880 * 2 ^ 53) (now l) ⌝ }
-    ensures { λ _. ⌜ More (now (l .entry)) (now (l .exit)) (takesWith c (map lowered (now (volts .entry))) t) ⌝ }
+    requires { ⌜ Workable (now table) c t (now volts) × Room nodesMost (880 * 2 ^ 53) (now l) ⌝ }
+    ensures { λ _. ⌜ More nodesMost (now (l .entry)) (now (l .exit)) (backFlow (c .ready .card) (t .nodes) (map lowered (now (volts .entry)))) ⌝ }
 {
-    if t.issue == 0 {
-        return;
-    }
     let o = work(table, c, t, volts);
     let nodes = t.nodes;
-    let from = sums::froms(&nodes);
-    let to = sums::tos(&nodes);
     let ticks = o.ticks;
-    sums::give(l, &to, &from, &ticks);
+    sums::take(l, &nodes, &ticks);
 }
 
 // The place of the card on which a transistor stands.
-fn seat_of(t: Transistor) -> usize
+pub(crate) fn seat_of(t: Transistor) -> usize
     ensures { λ r. ⌜ r ≡ seatOr t ⌝ }
 {
     let seat = t.seat as usize;
     if seat < Board::CARDS { seat } else { 0 }
 }
 
-// The totals anew where no transistor overloads, worked only at the places of the set.
+fn either(a: bool, b: bool) -> bool
+    ensures { λ r. ⌜ r ≡ a || b ⌝ }
+{
+    if a { true } else { b }
+}
+
+// From the old voltages to the new ones, which differ at node n alone: only transistors that name it are worked. Tells whether some transistor overloads.
 pub(crate) fn settle(
+    l: &mut [i64; Board::NODES],
     cards: [Card; Board::CARDS],
-    old: [Transistor; Board::TRANSISTORS],
-    new: [Transistor; Board::TRANSISTORS],
+    ts: [Transistor; Board::TRANSISTORS],
     was: &[u32; Board::NODES],
     volts: &[u32; Board::NODES],
-    set: &[bool; Board::TRANSISTORS],
-    totals: [i64; Board::NODES],
-) -> Settled
-    requires { ⌜ Settling cards old new (now was) (now volts) (now set) totals ⌝ }
-    ensures { λ r. ⌜ r ≡ settledOf cards new (now (volts .entry)) totals ⌝ }
+    n: u8,
+) -> bool
+    requires { ⌜ Settling cards ts (now was) (now volts) n (now l) ⌝ }
+    ensures { λ r. ⌜ r ≡ anyOf (placeOverloads cards (map lowered (now (volts .entry)))) ts ⌝ }
+    ensures { λ _. ⌜ now (l .exit) ≡ totalsOf cards ts (map lowered (now (volts .entry))) ⌝ }
 {
     let table = octave::table();
-    let mut l = totals;
+    let mut over = false;
     for i in 0..Board::TRANSISTORS {
-        if set[i] {
-            let before = old[i];
-            let s = seat_of(before);
-            let a = cards[s];
-            take_out(&mut l, &table, a, before, was);
-            let after = new[i];
-            let t = seat_of(after);
-            let b = cards[t];
-            if put_in(&mut l, &table, b, after, volts) {
-                return Settled { over: true, totals };
-            }
+        let t = ts[i];
+        if sets::is_at(t, n) {
+            let s = seat_of(t);
+            let c = cards[s];
+            take_out(l, &table, c, t, was);
+            let late = put_in(l, &table, c, t, volts);
+            over = either(over, late);
         }
     }
-    Settled {
-        over: false,
-        totals: l,
-    }
+    over
 }

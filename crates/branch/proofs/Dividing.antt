@@ -1,10 +1,10 @@
 -- The divisor of a quotient row: its size, and what it is where the ratio's floor is 0.
 use mathlib.Core.Path.{_≡_, refl, sym, ap, _∙_}
 use mathlib.Core.Logic.{_⊎_, inl, inr}
-use Prim.Native.Nat.{ℕ, suc, _+_, _-_, _*_, _/_, _^_, _≤_, _<_}
+use Prim.Native.Nat.{ℕ, _+_, _-_, _*_, _/_, _^_, _≤_, _<_}
 use native.Mathlib.Nat.{mul-le-mul}
 use native.Mathlib.Omega.{arith}
-use lib.IntN.{ℤ, pos, negsuc, subℕ}
+use lib.IntN.{pos, negsuc, subℕ}
 use Rattle.whole.specs.Biased.{below-or-not, sub-up, sub-down}
 use Rattle.whole.specs.Root.{IsRoot, rootOf, rootBits, root-is}
 use Rattle.whole.specs.Quotient.{quotientOf, quotient-up, quotient-down, Divisible}

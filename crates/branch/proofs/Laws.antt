@@ -1,14 +1,14 @@
 -- What callers may count on: as many ticks as rows, none above 2^53 in size, and a judged card made ready.
-use mathlib.Core.Path.{_≡_, refl, sym, ap, _∙_, subst}
-use mathlib.Core.Bool.{Bool, true, false}
+use mathlib.Core.Path.{_≡_, refl}
+use mathlib.Core.Bool.{false}
 use mathlib.Core.Logic.{_⊎_, inl, inr}
 use mathlib.Core.List.{List, [], _∷_, map}
 use Prim.Native.Nat.{ℕ, zero, suc, _+_, _-_, _*_, _^_, _≤_, _<_, zero-le}
 use native.Mathlib.Nat.{le-trans, le-refl}
 use native.Mathlib.Omega.{arith}
-use lib.Dec.{ltb, lit≤}
+use lib.Dec.{lit≤}
 use lib.ListN.{getD, length, replicate, length-replicate}
-use lib.IntN.{ℤ, pos, negsuc, natAbs, subℕ}
+use lib.IntN.{ℤ, pos, natAbs, subℕ}
 use borrow.Author.Tests.{ltb-false}
 use Rattle.whole.specs.Biased.{below-or-not, sub-up, sub-down}
 use Rattle.whole.specs.Quotient.{quotient-small}
@@ -24,7 +24,7 @@ use Rattle.branch.specs.Outcome.{tickLimit, ratioLimit, someAbove, ticks
 use Rattle.octave.specs.Table.{entries}
 use Rattle.branch.specs.Ready.{readyOf, IsReady, reach, Askable}
 use Rattle.branch.proofs.Dividing.{root-for}
-use Rattle.branch.proofs.Outcomes.{Fine, fine, first-off}
+use Rattle.branch.proofs.Outcomes.{fine, first-off}
 
 -- ---- a card made ready
 

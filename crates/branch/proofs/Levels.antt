@@ -1,16 +1,15 @@
 -- A voltage raised for keeping, or found out of range.
 use mathlib.Core.Path.{_≡_, refl, sym, ap, _∙_, subst}
 use mathlib.Core.Bool.{Bool, true, false, cond, _||_}
-use mathlib.Core.List.{List, [], _∷_, map}
+use mathlib.Core.List.{List, [], _∷_}
 use Prim.Native.Nat.{ℕ, zero, suc, _+_, _-_, _*_, _≤_, _<_}
 use native.Mathlib.Omega.{arith}
 use lib.Dec.{ltb, lit≤}
 use lib.ListN.{getD}
-use lib.IntN.{ℤ, pos, negsuc, subℕ}
+use lib.IntN.{ℤ, pos, negsuc}
 use borrow.Author.Tests.{le-ltb, lt-ltb, ltb-false}
 use Rattle.whole.specs.Biased.{sub-up, sub-down}
 use Rattle.whole.specs.declared.Int.{Int}
-use Rattle.whole.specs.declared.Int.the-variants.{Pos, NegSuc}
 use Rattle.whole.specs.Signed.{intOf, valueOf, value-of-int}
 use Rattle.branch.specs.declared.Level.{Level}
 use Rattle.branch.specs.declared.Level.the-variants.{At, Off}

@@ -1,15 +1,15 @@
 -- From held numbers to the outcome: the same row overloads first, and where none does the ticks are the rows' own.
-use mathlib.Core.Path.{_≡_, refl, sym, ap, ap₂, _∙_, subst}
+use mathlib.Core.Path.{_≡_, refl, sym, ap, ap₂, _∙_}
 use mathlib.Core.Bool.{Bool, true, false, _||_}
 use mathlib.Core.Logic.{_⊎_, inl, inr}
 use mathlib.Core.List.{List, [], _∷_, map}
-use Prim.Native.Nat.{ℕ, suc, _+_, _*_, _^_, _≤_, _<_}
+use Prim.Native.Nat.{ℕ, suc, _^_, _≤_, _<_}
 use native.Mathlib.Nat.{le-refl, le-of-lt}
 use native.Mathlib.Omega.{arith}
 use lib.Dec.{leb, ltb}
 use lib.ListN.{replicate}
 use lib.IntN.{ℤ, pos, subℕ}
-use borrow.Author.Tests.{ltb-false, le-leb, lt-leb}
+use borrow.Author.Tests.{ltb-false, le-leb}
 use Rattle.whole.specs.Biased.{below-or-not}
 use Rattle.whole.specs.Scale.{atMost, reaches, stays-below}
 use Rattle.card.specs.declared.WorkedCard.{WorkedCard}
@@ -19,7 +19,7 @@ use Rattle.branch.specs.declared.Ready.{Ready}
 use Rattle.branch.specs.declared.Outcome.{Outcome}
 use Rattle.branch.specs.declared.Terms.{Terms}
 use Rattle.branch.specs.Rows.{Role, rowsFor}
-use Rattle.branch.specs.Ticks.{rowTicks, tickOf, biasOf}
+use Rattle.branch.specs.Ticks.{rowTicks, biasOf}
 use Rattle.branch.specs.Outcome.{tickLimit, ratioLimit, someAbove, overAt, firstOver, outcomeOf}
 use Rattle.branch.specs.Ready.{heldTicks, heldParts, readyOf, termsOf}
 use Rattle.branch.specs.Worked.{rowOver, termsOver, dividedOf, ticksFrom, Holding}

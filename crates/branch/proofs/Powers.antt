@@ -6,12 +6,11 @@ use native.Mathlib.Omega.{arith}
 use lib.IntN.{ℤ, pos, negsuc, negℤ, subℕ, _+ℤ_, _-ℤ_}
 use mathlib.Core.List.{List, [], _∷_, map}
 use lib.ListN.{getD, length}
-use borrow.Author.Tests.{le-ltb, lt-ltb}
 use Rattle.whole.specs.Biased.{sub-up, sub-down, sub-eq, sub-add, below-or-not, turned}
 use Rattle.octave.specs.declared.Gain.{Gain}
-use Rattle.octave.specs.Gain.{gainOf, bias}
+use Rattle.octave.specs.Gain.{gainOf}
 use Rattle.octave.specs.Table.{mantissaOf}
-use Rattle.octave.specs.Position.{wholeOf, partOf}
+use Rattle.octave.specs.Position.{partOf}
 use Rattle.octave.specs.Raised.{gain-exponent}
 use Rattle.octave.specs.Worked as octave
 use Rattle.whole.specs.Scale.{atMost, floorScale}

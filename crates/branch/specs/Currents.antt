@@ -14,10 +14,8 @@ use Rattle.card.specs.declared.Judged.the-variants as judged
 use Rattle.card.specs.Judge.{judgeOf}
 use Rattle.branch.specs.declared.Over.{Over}
 use Rattle.branch.specs.declared.Over.the-variants.{Within, Ticks, Injection}
-use Rattle.branch.specs.declared.Outcome.{Outcome}
 use Rattle.branch.specs.declared.Level.{Level}
 use Rattle.branch.specs.declared.Level.the-variants.{At, Off}
-use Rattle.branch.specs.declared.Told.{Told}
 use Rattle.branch.specs.declared.Told.the-variants.{Given, Refused}
 use Rattle.branch.specs.declared.Reply.{Reply}
 use Rattle.branch.specs.Outcome.{outcomeOf}

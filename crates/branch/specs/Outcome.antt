@@ -9,7 +9,7 @@ use Rattle.card.specs.declared.WorkedCard.{WorkedCard}
 use Rattle.branch.specs.declared.Over.{Over}
 use Rattle.branch.specs.declared.Over.the-variants.{Within, Ticks, Injection}
 use Rattle.branch.specs.declared.Outcome.{Outcome}
-use Rattle.branch.specs.Rows.{Role, Term, Share, unit, root, Row, rowsFor}
+use Rattle.branch.specs.Rows.{Role, Share, unit, root, Row, rowsFor}
 use Rattle.branch.specs.Ticks.{tickOf, ratioOf, rowTicks, biasOf}
 
 -- the most ticks that a T may have, and the most that a ratio's floor may

@@ -1,9 +1,9 @@
 -- What is worked once for a card, and the numbers that the code keeps: T's and ratios held at the first number that is too much, voltages raised.
-use mathlib.Core.Path.{_≡_, refl}
-use mathlib.Core.List.{List, map}
+use mathlib.Core.Path.{_≡_}
+use mathlib.Core.List.{List}
 use Prim.Native.Nat.{ℕ, suc, _+_, _-_, _*_, _≤_}
 use lib.ListN.{getD, length}
-use lib.IntN.{ℤ, pos, negsuc, subℕ, _-ℤ_}
+use lib.IntN.{ℤ, pos, negsuc, subℕ}
 use Rattle.whole.specs.Scale.{atMost}
 use Rattle.octave.specs.Table.{entries}
 use Rattle.octave.specs.Worked.{octaveOf}
@@ -13,7 +13,7 @@ use Rattle.card.specs.declared.WorkedCard.{WorkedCard}
 use Rattle.card.specs.Judge.{IsWorked}
 use Rattle.branch.specs.declared.Ready.{Ready}
 use Rattle.branch.specs.declared.Terms.{Terms}
-use Rattle.branch.specs.Rows.{Role, E1, B1, B2, C1, C2, C4, S, Value, sN, bulk, side, nonideal, ex, sub, sf, rEx, rSub, plain, second, across, back}
+use Rattle.branch.specs.Rows.{Role, E1, B1, B2, C1, C2, C4, S, sN, bulk, side, nonideal, ex, sub, sf, rEx, rSub, plain, second, across, back}
 use Rattle.branch.specs.Ticks.{Scaled, valueAt, wholeTicks, tickOf, ratioOf}
 use Rattle.branch.specs.Outcome.{tickLimit, ratioLimit}
 

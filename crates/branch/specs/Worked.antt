@@ -1,5 +1,5 @@
 -- The code's way from terms to an outcome, over the numbers that it holds.
-use mathlib.Core.Bool.{Bool, true, false, _||_}
+use mathlib.Core.Bool.{false, _||_}
 use mathlib.Core.List.{List, [], _∷_}
 use Prim.Native.Nat.{ℕ, suc, _+_, _*_, _^_, _≤_}
 use lib.Dec.{leb}

@@ -1,7 +1,7 @@
 // T's and ratios of a card at given voltages, each held at the first number that is too much.
 ghost use mathlib.Core.Path.{_≡_};
 ghost use mathlib.Core.List.{map};
-ghost use Prim.Native.Nat.{_≤_, _<_};
+ghost use Prim.Native.Nat.{_<_};
 ghost use lib.ListN.{getD};
 ghost use lib.IntN.{pos, _-ℤ_};
 ghost use Rattle.octave.specs.Table.{entries};

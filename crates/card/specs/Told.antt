@@ -13,7 +13,7 @@ use Rattle.card.specs.Record.{width, rightLength, finiteUp}
 use Rattle.card.specs.Limits.{zero, one}
 use Rattle.card.specs.Clip.{clippedUp, clipAt6, clipAt1, clipOf}
 use Rattle.card.specs.Octave.{octaveGood}
-use Rattle.card.specs.Judge.{level, level504, exsub, octave, withinReach, judgeAt10, judgeAt9, judgeAt8, judgeAt7, judgeFrom7, judgeAt6, judgeAt1, judgeOf}
+use Rattle.card.specs.Judge.{level, level504, exsub, octave, withinReach, judgeAt10, judgeAt9, judgeAt8, judgeAt7, judgeAt6, judgeAt1, judgeOf}
 
 abbrev pub answerNumber : Answer → ℕ
 answerNumber answer.Taken = 0

@@ -1,25 +1,28 @@
--- `lift` empties the place of a transistor, and settles that place alone.
+-- `lift` empties the place of a transistor, and takes its currents out of the totals.
 use mathlib.Core.Path.{_≡_, sym, ap, subst, _∙_}
 use Prim.Native.Nat.{ℕ, _≤_, _<_}
+use native.Mathlib.Omega.{arith}
+use lib.ListN.{getD}
 use borrow.Author.Needs.{needs}
 use mir.Syntax.{w64}
 use mir.ValLaws.{toZ-ofZ}
 use Rattle.board.specs.Verdict.{transistorsMost, issueOf, some}
-use Rattle.board.specs.Model.{transistorPlace}
+use Rattle.board.specs.Model.{noTransistor, transistorPlace}
 use Rattle.board.specs.Parts.{placeOr}
+use Rattle.board.proofs.Currents.{seat-below}
 use Rattle.board.proofs.Reaches.{after-lift}
 use Rattle.board.proofs.Answers.{no-transistor-there, is-there}
-use Rattle.board.proofs.Changes.{lift-unknown, settling-lift, lifts-it}
+use Rattle.board.proofs.Changes.{lift-unknown, lift-works, lifts-it}
 use Rattle.board.proofs.Board.lift.Statement.{statement}
 use Rattle.board.proofs.Board.lift.Tie as tie
 
 number : (c : tie.After-issue-of) → c .issue-of .result ≡ issueOf (c .before .args .transistor)
 number c = c .issue-of .ensures ∙ ap issueOf (toZ-ofZ w64 (c .before .args .transistor) (c .before .fits .transistor))
 
-place-is : (c : tie.After-transistor-at) → c .transistor-at .result ≡ placeOr transistorsMost (transistorPlace (issueOf (c .before .before .before .args .transistor)) (c .before .before .before .args .self .transistors))
-place-is c = c .transistor-at .ensures ∙ ap (λ (n : ℕ). placeOr transistorsMost (transistorPlace n (c .before .before .before .args .self .transistors))) (number (c .before .before))
+place-is : (c : tie.After-transistor-at) → c .transistor-at .result ≡ placeOr transistorsMost (transistorPlace (issueOf (c .before .before .before .args .transistor)) (c .before .before .before .args .t1 .transistors))
+place-is c = c .transistor-at .ensures ∙ ap (λ (n : ℕ). placeOr transistorsMost (transistorPlace n (c .before .before .before .args .t1 .transistors))) (number (c .before .before))
 
-there : (c : tie.Else1) → transistorPlace (issueOf (c .before .before .before .before .args .transistor)) (c .before .before .before .before .args .self .transistors) ≡ some (c .before .transistor-at .result)
+there : (c : tie.Else1) → transistorPlace (issueOf (c .before .before .before .before .args .transistor)) (c .before .before .before .before .args .t1 .transistors) ≡ some (c .before .transistor-at .result)
 there c =
     let e = place-is (c .before) in
     is-there transistorsMost _ (subst (λ (k : ℕ). k < 64) e (c .if1 .left)) ∙ ap some (sym e)
@@ -34,25 +37,40 @@ refused-requires : tie.Need-refused-requires
 refused-requires c κs = search needs
 
 returns : tie.Need-returns
-returns c = after-lift (c .before .before .before .before .before .pre) _ (c .refused .ensures ∙ lift-unknown _ (c .before .before .before .before .before .args .transistor) (no-transistor-there (issueOf (c .before .before .before .before .before .args .transistor)) (c .before .before .before .before .before .args .self .transistors) (subst (λ (k : ℕ). 64 ≤ k) (place-is (c .before .before)) (c .before .if1 .taken))))
+returns c = after-lift (c .before .before .before .before .before .pre) _ (c .refused .ensures ∙ lift-unknown _ (c .before .before .before .before .before .args .transistor) (no-transistor-there (issueOf (c .before .before .before .before .before .args .transistor)) (c .before .before .before .before .before .args .t1 .transistors) (subst (λ (k : ℕ). 64 ≤ k) (place-is (c .before .before)) (c .before .if1 .taken))))
+
+mul-t : tie.Need-mul-t
+mul-t c = search needs
+
+array-copy-out-t : tie.Need-array-copy-out-t
+array-copy-out-t c = search needs
+
+seat-of-requires : tie.Need-seat-of-requires
+seat-of-requires c κs = search needs
+
+mul-c : tie.Need-mul-c
+mul-c c = let h = seat-below (getD (c .before .before .before .before .before .before .args .t1 .transistors) (c .before .before .before .transistor-at .result) noTransistor) (c .seat-of .ensures) in omega arith
+
+element-copy-out-c : tie.Need-element-copy-out-c
+element-copy-out-c c = seat-below (getD (c .before .before .before .before .before .before .args .t1 .transistors) (c .before .before .before .transistor-at .result) noTransistor) (c .seat-of .ensures)
+
+table-requires : tie.Need-table-requires
+table-requires c κs = search needs
+
+take-out-requires : tie.Need-take-out-requires
+take-out-requires c κs = lift-works (c .before .before .before .before .before .before .before .before .before .before .before .before .before .pre) (c .before .before .before .before .before .before .before .before .before .before .before .before .before .args .transistor) _ (there (c .before .before .before .before .before .before .before .before .before)) _ (c .before .before .before .before .before .before .before .seat-of .ensures) _ (c .before .before .before .before .before .table .ensures)
 
 no-transistor-requires : tie.Need-no-transistor-requires
 no-transistor-requires c κs = search needs
 
-mul-new : tie.Need-mul-new
-mul-new c = search needs
+mul-none : tie.Need-mul-none
+mul-none c = search needs
 
-array-set-from-new : tie.Need-array-set-from-new
-array-set-from-new c = search needs
-
-only-requires : tie.Need-only-requires
-only-requires c κs = search needs
-
-settle-requires : tie.Need-settle-requires
-settle-requires c κs = settling-lift (c .before .before .before .before .before .before .before .before .before .before .before .before .pre) _ (c .before .before .before .before .before .before .before .before .if1 .left) _ ((c .before .before .before .before .before .before .before .no-transistor .ensures)) _ ((c .before .before .before .before .before .before .only .ensures))
+element-set-from-none : tie.Need-element-set-from-none
+element-set-from-none c = search needs
 
 returns-2 : tie.Need-returns-2
-returns-2 c = after-lift (c .before .before .before .before .before .before .before .before .before .before .before .before .before .before .pre) _ (lifts-it (c .before .before .before .before .before .before .before .before .before .before .before .before .before .before .pre) _ (c .before .before .before .before .before .before .before .before .before .before .if1 .left) _ ((c .before .before .before .before .before .before .before .before .before .no-transistor .ensures)) (c .before .before .before .before .before .before .before .before .before .before .before .before .before .before .args .transistor) (there (c .before .before .before .before .before .before .before .before .before .before)) _ ((c .before .settle .ensures)))
+returns-2 c = after-lift (c .before .before .before .before .before .before .before .before .before .before .before .before .before .before .before .pre) _ (lifts-it (c .before .before .before .before .before .before .before .before .before .before .before .before .before .before .before .pre) (c .before .before .before .before .before .before .before .before .before .before .before .before .before .before .before .args .transistor) _ (there (c .before .before .before .before .before .before .before .before .before .before .before)) _ (c .before .before .before .before .before .before .before .before .before .seat-of .ensures) (c .no-transistor .ensures) (c .before .take-out .ensures))
 
 pub lift-spec : {M : Type 1} → statement M
 lift-spec =
@@ -62,9 +80,14 @@ lift-spec =
     transistor-at-requires
     refused-requires
     returns
+    mul-t
+    array-copy-out-t
+    seat-of-requires
+    mul-c
+    element-copy-out-c
+    table-requires
+    take-out-requires
     no-transistor-requires
-    mul-new
-    array-set-from-new
-    only-requires
-    settle-requires
+    mul-none
+    element-set-from-none
     returns-2)

@@ -1,4 +1,4 @@
--- `move_to` changes one voltage, and settles the places that name its node.
+-- `move_to` changes one voltage, and settles the transistors that name its node.
 use mathlib.Core.Path.{_≡_, ap, subst, _∙_}
 use Prim.Native.Nat.{ℕ, _≤_, _<_}
 use borrow.Author.Needs.{needs}
@@ -43,20 +43,17 @@ mul-volts c = search needs
 array-write-volts : tie.Need-array-write-volts
 array-write-volts c = search needs
 
-naming-requires : tie.Need-naming-requires
-naming-requires c κs = search needs
-
 settle-requires : tie.Need-settle-requires
-settle-requires c κs = settling-move (c .before .before .before .before .before .before .before .before .before .before .before .before .pre) (c .before .before .before .before .before .before .before .before .before .before .before .before .args .node) (c .before .before .before .before .before .before .before .before .before .before .before .before .args .microvolts) _ _ (number (c .before .before .before .before .before .before .before .before .before .before .before)) (raised-is (c .before .before .before .before .before .before .before .before .before)) (c .before .before .before .before .before .before .before .before .before .before .if1 .left) (c .before .before .before .before .before .before .before .before .if2 .left) _ ((c .before .before .before .before .before .naming .ensures))
+settle-requires c κs = settling-move (c .before .before .before .before .before .before .before .before .before .before .before .pre) (c .before .before .before .before .before .before .before .before .before .before .before .args .node) (c .before .before .before .before .before .before .before .before .before .before .before .args .microvolts) _ _ (number (c .before .before .before .before .before .before .before .before .before .before)) (raised-is (c .before .before .before .before .before .before .before .before)) (c .before .before .before .before .before .before .before .before .before .if1 .left) (c .before .before .before .before .before .before .before .if2 .left)
 
 refused-requires-3 : tie.Need-refused-requires-3
 refused-requires-3 c κs = search needs
 
 returns-3 : tie.Need-returns-3
-returns-3 c = after-move (c .before .before .before .before .before .before .before .before .before .before .before .before .before .before .before .pre) _ _ (c .refused3 .ensures ∙ move-over (c .before .before .before .before .before .before .before .before .before .before .before .before .before .before .before .pre) (c .before .before .before .before .before .before .before .before .before .before .before .before .before .before .before .args .node) (c .before .before .before .before .before .before .before .before .before .before .before .before .before .before .before .args .microvolts) _ _ (number (c .before .before .before .before .before .before .before .before .before .before .before .before .before .before)) (raised-is (c .before .before .before .before .before .before .before .before .before .before .before .before)) (c .before .before .before .before .before .before .before .before .before .before .before .before .before .if1 .left) (c .before .before .before .before .before .before .before .before .before .before .before .if2 .left) _ ((c .before .before .settle .ensures)) (c .before .if3 .taken))
+returns-3 c = after-move (c .before .before .before .before .before .before .before .before .before .before .before .before .before .before .pre) _ _ (c .refused3 .ensures ∙ move-over (c .before .before .before .before .before .before .before .before .before .before .before .before .before .before .pre) (c .before .before .before .before .before .before .before .before .before .before .before .before .before .before .args .node) (c .before .before .before .before .before .before .before .before .before .before .before .before .before .before .args .microvolts) _ _ (number (c .before .before .before .before .before .before .before .before .before .before .before .before .before)) (raised-is (c .before .before .before .before .before .before .before .before .before .before .before)) (c .before .before .before .before .before .before .before .before .before .before .before .before .if1 .left) (c .before .before .before .before .before .before .before .before .before .before .if2 .left) _ (c .before .before .settle .ensures .0) (c .before .if3 .taken))
 
 returns-4 : tie.Need-returns-4
-returns-4 c = after-move (c .before .before .before .before .before .before .before .before .before .before .before .before .before .before .before .pre) _ _ (moves-it (c .before .before .before .before .before .before .before .before .before .before .before .before .before .before .before .pre) (c .before .before .before .before .before .before .before .before .before .before .before .before .before .before .before .args .node) (c .before .before .before .before .before .before .before .before .before .before .before .before .before .before .before .args .microvolts) _ _ (number (c .before .before .before .before .before .before .before .before .before .before .before .before .before .before)) (raised-is (c .before .before .before .before .before .before .before .before .before .before .before .before)) (c .before .before .before .before .before .before .before .before .before .before .before .before .before .if1 .left) (c .before .before .before .before .before .before .before .before .before .before .before .if2 .left) _ ((c .before .before .settle .ensures)) (c .before .if3 .left))
+returns-4 c = after-move (c .before .before .before .before .before .before .before .before .before .before .before .before .before .pre) _ _ (moves-it (c .before .before .before .before .before .before .before .before .before .before .before .before .before .pre) (c .before .before .before .before .before .before .before .before .before .before .before .before .before .args .node) (c .before .before .before .before .before .before .before .before .before .before .before .before .before .args .microvolts) _ _ (number (c .before .before .before .before .before .before .before .before .before .before .before .before)) (raised-is (c .before .before .before .before .before .before .before .before .before .before)) (c .before .before .before .before .before .before .before .before .before .before .before .if1 .left) (c .before .before .before .before .before .before .before .before .before .if2 .left) _ (c .before .settle .ensures .0) (c .if3 .left) (c .before .settle .ensures .1))
 
 pub move-to-spec : {M : Type 1} → statement M
 move-to-spec =
@@ -71,7 +68,6 @@ move-to-spec =
     returns-2
     mul-volts
     array-write-volts
-    naming-requires
     settle-requires
     refused-requires-3
     returns-3

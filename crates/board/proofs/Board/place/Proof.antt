@@ -1,4 +1,4 @@
--- `place` puts a transistor at the first free place, and settles that place alone.
+-- `place` puts a transistor at the first free place, and its currents into the totals.
 use mathlib.Core.Path.{_≡_, ap, _∙_}
 use native.Mathlib.Omega.{arith}
 use lib.ListN.{length}
@@ -7,7 +7,7 @@ use mir.Syntax.{w64}
 use mir.ValLaws.{toZ-ofZ}
 use Rattle.board.specs.Verdict.{issueOf}
 use Rattle.board.proofs.Reaches.{after-place}
-use Rattle.board.proofs.Changes.{place-stops, free-below, number-below, seat-below, settling-place, place-over, places-it}
+use Rattle.board.proofs.Changes.{place-stops, free-below, number-below, seat-below, place-works, place-over, places-it}
 use Rattle.board.proofs.Board.place.Statement.{statement}
 use Rattle.board.proofs.Board.place.Tie as tie
 
@@ -44,32 +44,32 @@ mul-c c = let h = seat-below (c .before .before .before .before .before .before 
 array-copy-out-c : tie.Need-array-copy-out-c
 array-copy-out-c c = seat-below (c .before .before .before .before .before .before .before .before .pre) (c .before .before .before .before .before .before .before .before .args .card) (c .before .before .before .before .before .before .before .before .args .nodes) _ _ (number (c .before .before .before .before .before .before .before)) ((c .before .before .before .before .before .before .nodes-of .ensures)) ((c .before .before .before .may-place .ensures)) _ _ ((c .before .way2 .given .1))
 
-cast-t28 : tie.Need-cast-t28
-cast-t28 c = let h = seat-below (c .before .before .before .before .before .before .before .before .before .pre) (c .before .before .before .before .before .before .before .before .before .args .card) (c .before .before .before .before .before .before .before .before .before .args .nodes) _ _ (number (c .before .before .before .before .before .before .before .before)) ((c .before .before .before .before .before .before .before .nodes-of .ensures)) ((c .before .before .before .before .may-place .ensures)) _ _ ((c .before .before .way2 .given .1)) in search needs
+cast-t27 : tie.Need-cast-t27
+cast-t27 c = let h = seat-below (c .before .before .before .before .before .before .before .before .before .pre) (c .before .before .before .before .before .before .before .before .before .args .card) (c .before .before .before .before .before .before .before .before .before .args .nodes) _ _ (number (c .before .before .before .before .before .before .before .before)) ((c .before .before .before .before .before .before .before .nodes-of .ensures)) ((c .before .before .before .before .may-place .ensures)) _ _ ((c .before .before .way2 .given .1)) in search needs
 
-mul-new : tie.Need-mul-new
-mul-new c = let h = free-below (c .before .before .before .before .before .before .before .before .before .pre) (c .before .before .before .before .before .before .before .before .before .args .card) (c .before .before .before .before .before .before .before .before .before .args .nodes) _ _ (number (c .before .before .before .before .before .before .before .before)) ((c .before .before .before .before .before .before .before .nodes-of .ensures)) ((c .before .before .before .before .may-place .ensures)) _ _ ((c .before .before .way2 .given .1)) in omega arith
+table-requires : tie.Need-table-requires
+table-requires c κs = search needs
 
-array-set-from-new : tie.Need-array-set-from-new
-array-set-from-new c = free-below (c .before .before .before .before .before .before .before .before .before .pre) (c .before .before .before .before .before .before .before .before .before .args .card) (c .before .before .before .before .before .before .before .before .before .args .nodes) _ _ (number (c .before .before .before .before .before .before .before .before)) ((c .before .before .before .before .before .before .before .nodes-of .ensures)) ((c .before .before .before .before .may-place .ensures)) _ _ ((c .before .before .way2 .given .1))
-
-only-requires : tie.Need-only-requires
-only-requires c κs = search needs
-
-settle-requires : tie.Need-settle-requires
-settle-requires c κs = settling-place (c .before .before .before .before .before .before .before .before .before .before .before .before .before .before .before .pre) (c .before .before .before .before .before .before .before .before .before .before .before .before .before .before .before .args .card) (c .before .before .before .before .before .before .before .before .before .before .before .before .before .before .before .args .nodes) _ _ (number (c .before .before .before .before .before .before .before .before .before .before .before .before .before .before)) ((c .before .before .before .before .before .before .before .before .before .before .before .before .before .nodes-of .ensures)) ((c .before .before .before .before .before .before .before .before .before .before .may-place .ensures)) _ _ ((c .before .before .before .before .before .before .before .before .way2 .given .1)) _ ((c .before .before .before .before .before .only .ensures))
+put-in-requires : tie.Need-put-in-requires
+put-in-requires c κs = place-works (c .before .before .before .before .before .before .before .before .before .before .before .before .before .before .before .pre) (c .before .before .before .before .before .before .before .before .before .before .before .before .before .before .before .args .card) (c .before .before .before .before .before .before .before .before .before .before .before .before .before .before .before .args .nodes) _ _ (number (c .before .before .before .before .before .before .before .before .before .before .before .before .before .before)) (c .before .before .before .before .before .before .before .before .before .before .before .before .before .nodes-of .ensures) (c .before .before .before .before .before .before .before .before .before .before .may-place .ensures) _ _ (c .before .before .before .before .before .before .before .before .way2 .given .1) _ (c .before .before .before .before .before .table .ensures)
 
 refused-requires-2 : tie.Need-refused-requires-2
 refused-requires-2 c κs = search needs
 
 returns : tie.Need-returns
-returns c = after-place (c .before .before .before .before .before .before .before .before .before .before .before .before .before .before .before .before .before .before .pre) _ _ (seven (c .before .before .before .before .before .before .before .before .before .before .before .before .before .before .before .before .before .before)) (c .refused2 .ensures ∙ place-over (c .before .before .before .before .before .before .before .before .before .before .before .before .before .before .before .before .before .before .pre) (c .before .before .before .before .before .before .before .before .before .before .before .before .before .before .before .before .before .before .args .card) (c .before .before .before .before .before .before .before .before .before .before .before .before .before .before .before .before .before .before .args .nodes) _ _ (number (c .before .before .before .before .before .before .before .before .before .before .before .before .before .before .before .before .before)) ((c .before .before .before .before .before .before .before .before .before .before .before .before .before .before .before .before .nodes-of .ensures)) ((c .before .before .before .before .before .before .before .before .before .before .before .before .before .may-place .ensures)) _ _ ((c .before .before .before .before .before .before .before .before .before .before .before .way2 .given .1)) _ ((c .before .before .settle .ensures)) (c .before .if1 .taken))
+returns c = after-place (c .before .before .before .before .before .before .before .before .before .before .before .before .before .before .before .before .before .before .pre) _ _ (seven (c .before .before .before .before .before .before .before .before .before .before .before .before .before .before .before .before .before .before)) (c .refused2 .ensures ∙ place-over (c .before .before .before .before .before .before .before .before .before .before .before .before .before .before .before .before .before .before .pre) (c .before .before .before .before .before .before .before .before .before .before .before .before .before .before .before .before .before .before .args .card) (c .before .before .before .before .before .before .before .before .before .before .before .before .before .before .before .before .before .before .args .nodes) _ _ (number (c .before .before .before .before .before .before .before .before .before .before .before .before .before .before .before .before .before)) (c .before .before .before .before .before .before .before .before .before .before .before .before .before .before .before .before .nodes-of .ensures) (c .before .before .before .before .before .before .before .before .before .before .before .before .before .may-place .ensures) _ _ (c .before .before .before .before .before .before .before .before .before .before .before .way2 .given .1) _ (c .before .before .put-in .ensures .0) (c .before .if1 .taken))
+
+mul-t : tie.Need-mul-t
+mul-t c = let h = free-below (c .before .before .before .before .before .before .before .before .before .before .before .before .before .before .before .before .before .pre) (c .before .before .before .before .before .before .before .before .before .before .before .before .before .before .before .before .before .args .card) (c .before .before .before .before .before .before .before .before .before .before .before .before .before .before .before .before .before .args .nodes) _ _ (number (c .before .before .before .before .before .before .before .before .before .before .before .before .before .before .before .before)) (c .before .before .before .before .before .before .before .before .before .before .before .before .before .before .before .nodes-of .ensures) (c .before .before .before .before .before .before .before .before .before .before .before .before .may-place .ensures) _ _ (c .before .before .before .before .before .before .before .before .before .before .way2 .given .1) in omega arith
+
+element-set-from-t : tie.Need-element-set-from-t
+element-set-from-t c = free-below (c .before .before .before .before .before .before .before .before .before .before .before .before .before .before .before .before .before .pre) (c .before .before .before .before .before .before .before .before .before .before .before .before .before .before .before .before .before .args .card) (c .before .before .before .before .before .before .before .before .before .before .before .before .before .before .before .before .before .args .nodes) _ _ (number (c .before .before .before .before .before .before .before .before .before .before .before .before .before .before .before .before)) (c .before .before .before .before .before .before .before .before .before .before .before .before .before .before .before .nodes-of .ensures) (c .before .before .before .before .before .before .before .before .before .before .before .before .may-place .ensures) _ _ (c .before .before .before .before .before .before .before .before .before .before .way2 .given .1)
 
 returns-2 : tie.Need-returns-2
 returns-2 c = after-place (c .before .before .before .before .before .before .before .before .before .pre) _ _ (seven (c .before .before .before .before .before .before .before .before .before)) (c .refused .ensures ∙ place-stops (c .before .before .before .before .before .before .before .before .before .pre) (c .before .before .before .before .before .before .before .before .before .args .card) (c .before .before .before .before .before .before .before .before .before .args .nodes) _ _ (number (c .before .before .before .before .before .before .before .before)) ((c .before .before .before .before .before .before .before .nodes-of .ensures)) ((c .before .before .before .before .may-place .ensures)) _ ((c .before .before .way .given .1)))
 
 returns-3 : tie.Need-returns-3
-returns-3 c = after-place (c .before .before .before .before .before .before .before .before .before .before .before .before .before .before .before .before .before .before .pre) _ _ (seven (c .before .before .before .before .before .before .before .before .before .before .before .before .before .before .before .before .before .before)) (places-it (c .before .before .before .before .before .before .before .before .before .before .before .before .before .before .before .before .before .before .pre) (c .before .before .before .before .before .before .before .before .before .before .before .before .before .before .before .before .before .before .args .card) (c .before .before .before .before .before .before .before .before .before .before .before .before .before .before .before .before .before .before .args .nodes) _ _ (number (c .before .before .before .before .before .before .before .before .before .before .before .before .before .before .before .before .before)) ((c .before .before .before .before .before .before .before .before .before .before .before .before .before .before .before .before .nodes-of .ensures)) ((c .before .before .before .before .before .before .before .before .before .before .before .before .before .may-place .ensures)) _ _ ((c .before .before .before .before .before .before .before .before .before .before .before .way2 .given .1)) _ ((c .before .before .settle .ensures)) (c .before .if1 .left))
+returns-3 c = after-place (c .before .before .before .before .before .before .before .before .before .before .before .before .before .before .before .before .before .pre) _ _ (seven (c .before .before .before .before .before .before .before .before .before .before .before .before .before .before .before .before .before)) (places-it (c .before .before .before .before .before .before .before .before .before .before .before .before .before .before .before .before .before .pre) (c .before .before .before .before .before .before .before .before .before .before .before .before .before .before .before .before .before .args .card) (c .before .before .before .before .before .before .before .before .before .before .before .before .before .before .before .before .before .args .nodes) _ _ (number (c .before .before .before .before .before .before .before .before .before .before .before .before .before .before .before .before)) (c .before .before .before .before .before .before .before .before .before .before .before .before .before .before .before .nodes-of .ensures) (c .before .before .before .before .before .before .before .before .before .before .before .before .may-place .ensures) _ _ (c .before .before .before .before .before .before .before .before .before .before .way2 .given .1) _ (c .before .put-in .ensures .0) (c .if1 .left) (c .before .put-in .ensures .1))
 
 pub place-spec : {M : Type 1} → statement M
 place-spec =
@@ -84,12 +84,12 @@ place-spec =
     add-following
     mul-c
     array-copy-out-c
-    cast-t28
-    mul-new
-    array-set-from-new
-    only-requires
-    settle-requires
+    cast-t27
+    table-requires
+    put-in-requires
     refused-requires-2
     returns
+    mul-t
+    element-set-from-t
     returns-2
     returns-3)

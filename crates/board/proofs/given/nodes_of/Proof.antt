@@ -5,7 +5,8 @@ use lib.ListN.{length, getD}
 use lib.IntN.{pos}
 use borrow.Author.Needs.{needs}
 use Rattle.board.specs.Parts.{nodeOf}
-use Rattle.board.proofs.Amounts.{held, seven}
+use Rattle.board.proofs.Amounts.{held}
+use Rattle.board.proofs.Roles.{seven}
 use Rattle.board.proofs.given.nodes_of.Statement.{statement}
 use Rattle.board.proofs.given.nodes_of.Tie as tie
 

@@ -1,54 +1,54 @@
--- `branch` gives to one node and takes from the other.
+-- `branch` gives to one role and takes from the other.
 use borrow.Author.Needs.{needs}
 use Rattle.board.proofs.Amounts.{room-from, room-to, branch-gives}
 use Rattle.board.proofs.sums.branch.Statement.{statement}
 use Rattle.board.proofs.sums.branch.Tie as tie
 
-mul-a : tie.Need-mul-a
-mul-a c = search needs
+mul-y : tie.Need-mul-y
+mul-y c = search needs
 
-element-copy-out-a : tie.Need-element-copy-out-a
-element-copy-out-a c = search needs
+element-copy-out-y : tie.Need-element-copy-out-y
+element-copy-out-y c = search needs
 
-add-a : tie.Need-add-a
-add-a c = room-from (c .before .args .l .now) (c .before .args .from) (c .before .args .to) (c .before .args .x) (c .before .pre)
+add-y : tie.Need-add-y
+add-y c = room-from (c .before .args .a .now) (c .before .args .from) (c .before .args .to) (c .before .args .x) (c .before .pre)
 
-mul-a-2 : tie.Need-mul-a-2
-mul-a-2 c = search needs
+mul-y-2 : tie.Need-mul-y-2
+mul-y-2 c = search needs
 
-element-set-from-a : tie.Need-element-set-from-a
-element-set-from-a c = search needs
+element-set-from-y : tie.Need-element-set-from-y
+element-set-from-y c = search needs
 
-mul-b : tie.Need-mul-b
-mul-b c = search needs
+mul-z : tie.Need-mul-z
+mul-z c = search needs
 
-element-copy-out-b : tie.Need-element-copy-out-b
-element-copy-out-b c = search needs
+element-copy-out-z : tie.Need-element-copy-out-z
+element-copy-out-z c = search needs
 
-sub-b : tie.Need-sub-b
-sub-b c = room-to (c .before .before .args .l .now) (c .before .before .args .from) (c .before .before .args .to) (c .before .before .args .x) (c .before .before .pre)
+sub-z : tie.Need-sub-z
+sub-z c = room-to (c .before .before .args .a .now) (c .before .before .args .from) (c .before .before .args .to) (c .before .before .args .x) (c .before .before .pre)
 
-mul-b-2 : tie.Need-mul-b-2
-mul-b-2 c = search needs
+mul-z-2 : tie.Need-mul-z-2
+mul-z-2 c = search needs
 
-element-set-from-b : tie.Need-element-set-from-b
-element-set-from-b c = search needs
+element-set-from-z : tie.Need-element-set-from-z
+element-set-from-z c = search needs
 
 returns : tie.Need-returns
-returns c = branch-gives (c .before .before .args .l .now) (c .before .before .args .from) (c .before .before .args .to) (c .before .before .args .x) (c .before .before .pre)
+returns c = branch-gives (c .before .before .args .a .now) (c .before .before .args .from) (c .before .before .args .to) (c .before .before .args .x) (c .before .before .pre)
 
 pub branch-spec : {M : Type 1} → statement M
 branch-spec =
     tie.close
     (tie.spec
-    mul-a
-    element-copy-out-a
-    add-a
-    mul-a-2
-    element-set-from-a
-    mul-b
-    element-copy-out-b
-    sub-b
-    mul-b-2
-    element-set-from-b
+    mul-y
+    element-copy-out-y
+    add-y
+    mul-y-2
+    element-set-from-y
+    mul-z
+    element-copy-out-z
+    sub-z
+    mul-z-2
+    element-set-from-z
     returns)

@@ -1,4 +1,4 @@
--- `give` has given the first k branches.
+-- `branches` has given the first k.
 use mathlib.Core.Path.{_≡_}
 use Prim.Native.Nat.{_≤_, _-_}
 use native.Mathlib.Omega.{arith}
@@ -7,14 +7,14 @@ use lib.IntN.{pos}
 use borrow.Author.Needs.{needs}
 use Rattle.board.specs.Parts.{More, endsGive}
 use Rattle.board.proofs.Amounts.{held, held-is, ends-none, ends-more, fair-next}
-use Rattle.board.proofs.sums.give.Statement.{statement}
-use Rattle.board.proofs.sums.give.Tie as tie
+use Rattle.board.proofs.sums.branches.Statement.{statement}
+use Rattle.board.proofs.sums.branches.Tie as tie
 
 abbrev Inv-loop : tie.InvT-loop
-Inv-loop l₀ from to ticks k₀ l k = (k ≤ 7) × More l₀ l (endsGive from to ticks k)
+Inv-loop a₀ from to ticks k₀ a k = (k ≤ 7) × More 7 a₀ a (endsGive from to ticks k)
 
 abbrev μ-loop : tie.MeasureT-loop
-μ-loop l₀ from to ticks k₀ l k = 7 - k
+μ-loop a₀ from to ticks k₀ a k = 7 - k
 
 x-is : (c : tie.After-x Inv-loop μ-loop) → held (getD (c .before .before .before .before .before .args .ticks .now) (c .before .before .before .before .loop .k) (pos 0)) ≡ getD (c .before .before .before .before .before .args .ticks .now) (c .before .before .before .before .loop .k) (pos 0)
 x-is c = let b = c .before .before .before .before .before .pre .3 .within (c .before .before .before .before .loop .k) in held-is _ (omega arith)
@@ -49,8 +49,8 @@ loop-again c = (omega arith, ends-more _ _ _ _ _ ((c .before .before .before .be
 returns : tie.Need-returns Inv-loop μ-loop
 returns c = let e : (c .before .loop .k) ≡ 7 = omega arith in rw e at ((c .before .loop .inv .1))
 
-pub give-spec : {M : Type 1} → statement M
-give-spec =
+pub branches-spec : {M : Type 1} → statement M
+branches-spec =
     tie.close
     (tie.spec
     Inv-loop
