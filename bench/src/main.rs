@@ -2,7 +2,7 @@
 //!
 //!   bench vectors FOLDER    this implementation against a folder of outside vectors
 //!   bench desk SCRIPT       what the desk must answer to a script
-//!   bench time NAME         one of the timed runs: root, exponential, currents, move, empty, pair, read, find
+//!   bench time NAME         one of the timed runs: root, exponential, currents, empty, still, move, all, pair, read, find
 //!   bench differ ROUNDS     random inputs through the built programs (`./desk`, `./listing` of the project) and this implementation
 
 mod board;
@@ -161,28 +161,22 @@ fn time_currents() {
     println!("{sum}");
 }
 
-fn time_move() {
+/// A voltage moved so often, on a board with so many transistors; the first move brings the collectors to 2 V.
+fn time_moves(times: i64, places: i64, node: impl Fn(i64) -> i64, microvolts: i64) {
     let mut b = board::Board::fresh();
     b.load(b"a", &timed_record()).unwrap();
-    for i in 0..64 {
+    for i in 0..places {
         let n = 1 + i % 8;
         b.place(1, &[0, n, n, 20, 20, 20, 0]).unwrap();
     }
-    b.shift(20, 2_000_000).unwrap();
     let mut x = 1u32;
-    for n in 0..200_000 {
+    let mut next = (20, 2_000_000);
+    for n in 0..times {
+        b.shift(next.0, next.1).unwrap();
         x = (x * 1103 + 12345) % 65536;
-        let _ = b.shift(1 + n % 8, 600_000 + x as i64);
+        next = (node(n), microvolts + x as i64);
     }
     println!("{:?}", b.node(20));
-}
-
-fn time_empty() {
-    let mut b = board::Board::fresh();
-    for n in 0..2_000_000 {
-        b.shift(n % 32, n % 65536).unwrap();
-    }
-    println!("{:?}", b.node(3));
 }
 
 fn time_pair() {
@@ -244,8 +238,10 @@ fn main() {
         ["time", "root"] => time_root(),
         ["time", "exponential"] => time_exponential(),
         ["time", "currents"] => time_currents(),
-        ["time", "move"] => time_move(),
-        ["time", "empty"] => time_empty(),
+        ["time", "empty"] => time_moves(1_000_000, 0, |n| 1 + n % 8, 600_000),
+        ["time", "still"] => time_moves(200_000, 64, |_| 31, 600_000),
+        ["time", "move"] => time_moves(200_000, 64, |n| 1 + n % 8, 600_000),
+        ["time", "all"] => time_moves(50_000, 64, |_| 20, 2_000_000),
         ["time", "pair"] => time_pair(),
         ["time", "read"] => time_read(),
         ["time", "find"] => time_find(),

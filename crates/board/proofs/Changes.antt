@@ -5,7 +5,7 @@ use mathlib.Core.List.{List, map}
 use Prim.Native.Nat.{ℕ, _+_, _*_, _^_, _≤_, _<_}
 use native.Mathlib.Omega.{arith}
 use lib.Dec.{leb}
-use lib.ListN.{getD, set}
+use lib.ListN.{length, getD, set, length-map}
 use lib.IntN.{ℤ, natAbs}
 use borrow.Author.Tests.{eqb-true, leb-false, ltb-false, ne-eqb}
 use Rattle.refusal.specs.declared.Refusal.{Refusal}
@@ -50,7 +50,7 @@ module _ {b : Board} (k : Reached b) (z : ℤ) (i : ℕ) (there : transistorPlac
   stands : leaver .issue ≡ 0 → ⊥
   stands e = placed-there .given (sym (placed-there .issue-is) ∙ e)
 
-  pub lift-works : (table : List ℕ) → table ≡ entries → Workable table (getD (b .cards) s noCard) leaver (b .volts) × Room nodesMost (880 * 2 ^ 53) (b .totals)
+  pub lift-works : (table : List ℕ) → table ≡ entries → Workable table (getD (b .cards) s noCard) (leaver .nodes) (b .volts) × Room nodesMost (880 * 2 ^ 53) (b .totals)
   lift-works table e = (workable-seated (b .cards) leaver stands (seated (good k) i stands) s at table (b .volts) e (volts-good (good k)), room-now (good k))
 
   pub lifts-it : {t : Transistor} → t ≡ emptyTransistor → {l : List ℤ} → More nodesMost (b .totals) l (backFlow (getD (b .cards) s noCard .ready .card) (leaver .nodes) (voltsOf b)) → record { board = record { cards = b .cards; transistors = set (b .transistors) i t; volts = b .volts; totals = l; next = b .next }; answer = Done } ≡ liftedOf b z
@@ -161,9 +161,9 @@ module _ {b : Board} (reached : Reached b) (card : ℤ) (nodes : List ℤ) (n : 
     abbrev newcomer : Transistor
     newcomer = record { issue = b .next; card = getD (b .cards) i noCard .issue; seat = i; nodes = on }
 
-    pub place-works : (table : List ℕ) → table ≡ entries → Workable table (getD (b .cards) i noCard) newcomer (b .volts) × Room nodesMost (880 * 2 ^ 53) (b .totals)
-    place-works table e = (
-      record { table-is = e; ready = good reached .ready i card-given; wired = λ k. rw on-is (on-nodes nodes (places (cardPlace (issueOf card) (b .cards)) passed .on) k); volts-are = volts-good (good reached) },
+    pub place-works : (table : List ℕ) → table ≡ entries → length nodes ≡ 7 → Workable table (getD (b .cards) i noCard) on (b .volts) × Room nodesMost (880 * 2 ^ 53) (b .totals)
+    place-works table e h = (
+      record { table-is = e; ready = good reached .ready i card-given; wired = λ k. rw on-is (on-nodes nodes (places (cardPlace (issueOf card) (b .cards)) passed .on) k); seven = ap length oe ∙ length-map nodes nodeOf ∙ h; volts-are = volts-good (good reached) },
       room-now (good reached),
     )
 

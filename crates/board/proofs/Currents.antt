@@ -70,8 +70,8 @@ module _ (cards : List Card) (t : Transistor) (stands : t .issue ≡ 0 → ⊥) 
   seat-is : k ≡ t .seat
   seat-is = at ∙ rw (lt-ltb _ _ (s .seat-there))
 
-  pub workable-seated : (table volts : List ℕ) → table ≡ entries → Volts volts → Workable table (getD cards k noCard) t volts
-  workable-seated table volts i w = record { table-is = i; ready = rw seat-is (s .ready); wired = s .wired; volts-are = w }
+  pub workable-seated : (table volts : List ℕ) → table ≡ entries → Volts volts → Workable table (getD cards k noCard) (t .nodes) volts
+  workable-seated table volts i w = record { table-is = i; ready = rw seat-is (s .ready); wired = s .wired; seven = s .seven; volts-are = w }
 
   pub seated-gives : (volts : List ℤ) (n : ℕ) → flow (getD cards k noCard .ready .card) (t .nodes) volts n ≡ placeGives cards volts n t
   unfolding placeGives

@@ -32,7 +32,7 @@ module _ {b : Board} (g : Good b) where
   pub seated : (i : ℕ) → (getD (b .transistors) i noTransistor .issue ≡ 0 → ⊥) → Seated (b .cards) (getD (b .transistors) i noTransistor)
   seated i h =
       let s = g .sits i h in
-      record { seat-there = s .seat-there; ready = g .ready (getD (b .transistors) i noTransistor .seat) (λ z. s .card-given (sym (s .card-there) ∙ z)); wired = s .wired }
+      record { seat-there = s .seat-there; ready = g .ready (getD (b .transistors) i noTransistor .seat) (λ z. s .card-given (sym (s .card-there) ∙ z)); wired = s .wired; seven = s .seven }
 
   quiet-now : (i : ℕ) → placeOverloads (b .cards) (voltsOf b) (getD (b .transistors) i noTransistor) ≡ false
   unfolding placeOverloads

@@ -18,11 +18,12 @@ pub record Volts (volts : List ℕ) : Type 0 where
   pub long : length volts ≡ nodesMost
   pub near : (k : ℕ) → getD volts k 0 ≤ 2 * reach
 
--- a transistor whose currents can be worked
-pub record Workable (table : List ℕ) (c : Card) (t : Transistor) (volts : List ℕ) : Type 0 where
+-- a card and nodes whose currents can be worked
+pub record Workable (table : List ℕ) (c : Card) (nodes volts : List ℕ) : Type 0 where
   pub table-is : table ≡ entries
   pub ready : IsReady (c .ready)
-  pub wired : (k : ℕ) → getD (t .nodes) k 0 < nodesMost
+  pub wired : (k : ℕ) → getD nodes k 0 < nodesMost
+  pub seven : length nodes ≡ 7
   pub volts-are : Volts volts
 
 -- a transistor on a card and on nodes that are there
@@ -30,6 +31,7 @@ pub record Seated (cards : List Card) (t : Transistor) : Type 0 where
   pub seat-there : t .seat < cardsMost
   pub ready : IsReady (getD cards (t .seat) noCard .ready)
   pub wired : (k : ℕ) → getD (t .nodes) k 0 < nodesMost
+  pub seven : length (t .nodes) ≡ 7
 
 -- From the old voltages to the new ones: a transistor that does not name the node n gives what it gave, and does not overload.
 pub record Settling (cards : List Card) (ts : List Transistor) (was volts : List ℕ) (n : ℕ) (totals : List ℤ) : Type 0 where

@@ -217,16 +217,17 @@ impl Board {
             Way::Go(seat, free) => {
                 let following = issue + 1;
                 let c = cards[seat];
+                let place = seat as u32;
                 let t = Transistor {
                     issue,
                     card: c.issue,
-                    seat: seat as u32,
+                    seat: place,
                     nodes: on,
                 };
                 let table = octave::table();
                 let volts = self.volts;
                 let mut totals = self.totals;
-                if worker::put_in(&mut totals, &table, c, t, &volts) {
+                if worker::put_in(&mut totals, &table, c, &on, &volts) {
                     return refused(self, Refusal::Overload);
                 }
                 self.transistors[free] = t;
@@ -290,7 +291,8 @@ impl Board {
         let table = octave::table();
         let volts = self.volts;
         let mut totals = self.totals;
-        worker::take_out(&mut totals, &table, c, t, &volts);
+        let nodes = t.nodes;
+        worker::take_out(&mut totals, &table, c, &nodes, &volts);
         let none = no_transistor();
         self.transistors[i] = none;
         self.totals = totals;

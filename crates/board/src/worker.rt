@@ -44,12 +44,11 @@ fn roles(volts: &[u32; Board::NODES], nodes: &[u8; 7]) -> [u32; 7]
 }
 
 // A transistor's currents.
-fn work(table: &Table, c: Card, t: Transistor, volts: &[u32; Board::NODES]) -> Outcome
-    requires { ⌜ Workable (now table) c t (now volts) ⌝ }
-    ensures { λ r. ⌜ r ≡ outcomeOf (c .ready .card) (rolesAt (map lowered (now (volts .entry))) (t .nodes)) ⌝ }
+fn work(table: &Table, c: Card, nodes: &[u8; 7], volts: &[u32; Board::NODES]) -> Outcome
+    requires { ⌜ Workable (now table) c (now nodes) (now volts) ⌝ }
+    ensures { λ r. ⌜ r ≡ outcomeOf (c .ready .card) (rolesAt (map lowered (now (volts .entry))) (now (nodes .entry))) ⌝ }
 {
-    let nodes = t.nodes;
-    let v = roles(volts, &nodes);
+    let v = roles(volts, nodes);
     let ready = c.ready;
     branch::work_out(table, ready, &v)
 }
@@ -69,17 +68,16 @@ pub(crate) fn put_in(
     l: &mut [i64; Board::NODES],
     table: &Table,
     c: Card,
-    t: Transistor,
+    nodes: &[u8; 7],
     volts: &[u32; Board::NODES],
 ) -> bool
-    requires { ⌜ Workable (now table) c t (now volts) × Room nodesMost (880 * 2 ^ 53) (now l) ⌝ }
-    ensures { λ r. ⌜ r ≡ overloads (c .ready .card) (t .nodes) (map lowered (now (volts .entry))) ⌝ }
-    ensures { λ _. ⌜ More nodesMost (now (l .entry)) (now (l .exit)) (flow (c .ready .card) (t .nodes) (map lowered (now (volts .entry)))) ⌝ }
+    requires { ⌜ Workable (now table) c (now nodes) (now volts) × Room nodesMost (880 * 2 ^ 53) (now l) ⌝ }
+    ensures { λ r. ⌜ r ≡ overloads (c .ready .card) (now (nodes .entry)) (map lowered (now (volts .entry))) ⌝ }
+    ensures { λ _. ⌜ More nodesMost (now (l .entry)) (now (l .exit)) (flow (c .ready .card) (now (nodes .entry)) (map lowered (now (volts .entry)))) ⌝ }
 {
-    let o = work(table, c, t, volts);
-    let nodes = t.nodes;
+    let o = work(table, c, nodes, volts);
     let ticks = o.ticks;
-    sums::put(l, &nodes, &ticks);
+    sums::put(l, nodes, &ticks);
     let over = o.over;
     is_over(over)
 }
@@ -89,16 +87,15 @@ pub(crate) fn take_out(
     l: &mut [i64; Board::NODES],
     table: &Table,
     c: Card,
-    t: Transistor,
+    nodes: &[u8; 7],
     volts: &[u32; Board::NODES],
 )
-    requires { ⌜ Workable (now table) c t (now volts) × Room nodesMost (880 * 2 ^ 53) (now l) ⌝ }
-    ensures { λ _. ⌜ More nodesMost (now (l .entry)) (now (l .exit)) (backFlow (c .ready .card) (t .nodes) (map lowered (now (volts .entry)))) ⌝ }
+    requires { ⌜ Workable (now table) c (now nodes) (now volts) × Room nodesMost (880 * 2 ^ 53) (now l) ⌝ }
+    ensures { λ _. ⌜ More nodesMost (now (l .entry)) (now (l .exit)) (backFlow (c .ready .card) (now (nodes .entry)) (map lowered (now (volts .entry)))) ⌝ }
 {
-    let o = work(table, c, t, volts);
-    let nodes = t.nodes;
+    let o = work(table, c, nodes, volts);
     let ticks = o.ticks;
-    sums::take(l, &nodes, &ticks);
+    sums::take(l, nodes, &ticks);
 }
 
 // The place of the card on which a transistor stands.
@@ -135,8 +132,9 @@ pub(crate) fn settle(
         if sets::is_at(t, n) {
             let s = seat_of(t);
             let c = cards[s];
-            take_out(l, &table, c, t, was);
-            let late = put_in(l, &table, c, t, volts);
+            let nodes = t.nodes;
+            take_out(l, &table, c, &nodes, was);
+            let late = put_in(l, &table, c, &nodes, volts);
             over = either(over, late);
         }
     }

@@ -58,7 +58,7 @@ table-requires : tie.Need-table-requires
 table-requires c κs = search needs
 
 take-out-requires : tie.Need-take-out-requires
-take-out-requires c κs = lift-works (c .before .before .before .before .before .before .before .before .before .before .before .before .before .pre) (c .before .before .before .before .before .before .before .before .before .before .before .before .before .args .transistor) _ (there (c .before .before .before .before .before .before .before .before .before)) _ (c .before .before .before .before .before .before .before .seat-of .ensures) _ (c .before .before .before .before .before .table .ensures)
+take-out-requires c κs = lift-works (c .before .before .before .before .before .before .before .before .before .before .before .before .before .before .before .pre) (c .before .before .before .before .before .before .before .before .before .before .before .before .before .before .before .args .transistor) _ (there (c .before .before .before .before .before .before .before .before .before .before .before)) _ (c .before .before .before .before .before .before .before .before .before .seat-of .ensures) _ (c .before .before .before .before .before .before .before .table .ensures)
 
 no-transistor-requires : tie.Need-no-transistor-requires
 no-transistor-requires c κs = search needs
@@ -70,7 +70,7 @@ element-set-from-none : tie.Need-element-set-from-none
 element-set-from-none c = search needs
 
 returns-2 : tie.Need-returns-2
-returns-2 c = after-lift (c .before .before .before .before .before .before .before .before .before .before .before .before .before .before .before .pre) _ (lifts-it (c .before .before .before .before .before .before .before .before .before .before .before .before .before .before .before .pre) (c .before .before .before .before .before .before .before .before .before .before .before .before .before .before .before .args .transistor) _ (there (c .before .before .before .before .before .before .before .before .before .before .before)) _ (c .before .before .before .before .before .before .before .before .before .seat-of .ensures) (c .no-transistor .ensures) (c .before .take-out .ensures))
+returns-2 c = after-lift (c .before .before .before .before .before .before .before .before .before .before .before .before .before .before .before .before .before .pre) _ (lifts-it (c .before .before .before .before .before .before .before .before .before .before .before .before .before .before .before .before .before .pre) (c .before .before .before .before .before .before .before .before .before .before .before .before .before .before .before .before .before .args .transistor) _ (there (c .before .before .before .before .before .before .before .before .before .before .before .before .before)) _ (c .before .before .before .before .before .before .before .before .before .before .before .seat-of .ensures) (c .no-transistor .ensures) (c .before .take-out .ensures))
 
 pub lift-spec : {M : Type 1} → statement M
 lift-spec =

@@ -44,32 +44,32 @@ mul-c c = let h = seat-below (c .before .before .before .before .before .before 
 array-copy-out-c : tie.Need-array-copy-out-c
 array-copy-out-c c = seat-below (c .before .before .before .before .before .before .before .before .pre) (c .before .before .before .before .before .before .before .before .args .card) (c .before .before .before .before .before .before .before .before .args .nodes) _ _ (number (c .before .before .before .before .before .before .before)) ((c .before .before .before .before .before .before .nodes-of .ensures)) ((c .before .before .before .may-place .ensures)) _ _ ((c .before .way2 .given .1))
 
-cast-t27 : tie.Need-cast-t27
-cast-t27 c = let h = seat-below (c .before .before .before .before .before .before .before .before .before .pre) (c .before .before .before .before .before .before .before .before .before .args .card) (c .before .before .before .before .before .before .before .before .before .args .nodes) _ _ (number (c .before .before .before .before .before .before .before .before)) ((c .before .before .before .before .before .before .before .nodes-of .ensures)) ((c .before .before .before .before .may-place .ensures)) _ _ ((c .before .before .way2 .given .1)) in search needs
+cast-place : tie.Need-cast-place
+cast-place c = let h = seat-below (c .before .before .before .before .before .before .before .before .before .pre) (c .before .before .before .before .before .before .before .before .before .args .card) (c .before .before .before .before .before .before .before .before .before .args .nodes) _ _ (number (c .before .before .before .before .before .before .before .before)) ((c .before .before .before .before .before .before .before .nodes-of .ensures)) ((c .before .before .before .before .may-place .ensures)) _ _ ((c .before .before .way2 .given .1)) in search needs
 
 table-requires : tie.Need-table-requires
 table-requires c κs = search needs
 
 put-in-requires : tie.Need-put-in-requires
-put-in-requires c κs = place-works (c .before .before .before .before .before .before .before .before .before .before .before .before .before .before .before .pre) (c .before .before .before .before .before .before .before .before .before .before .before .before .before .before .before .args .card) (c .before .before .before .before .before .before .before .before .before .before .before .before .before .before .before .args .nodes) _ _ (number (c .before .before .before .before .before .before .before .before .before .before .before .before .before .before)) (c .before .before .before .before .before .before .before .before .before .before .before .before .before .nodes-of .ensures) (c .before .before .before .before .before .before .before .before .before .before .may-place .ensures) _ _ (c .before .before .before .before .before .before .before .before .way2 .given .1) _ (c .before .before .before .before .before .table .ensures)
+put-in-requires c κs = place-works (c .before .before .before .before .before .before .before .before .before .before .before .before .before .before .before .before .pre) (c .before .before .before .before .before .before .before .before .before .before .before .before .before .before .before .before .args .card) (c .before .before .before .before .before .before .before .before .before .before .before .before .before .before .before .before .args .nodes) _ _ (number (c .before .before .before .before .before .before .before .before .before .before .before .before .before .before .before)) (c .before .before .before .before .before .before .before .before .before .before .before .before .before .before .nodes-of .ensures) (c .before .before .before .before .before .before .before .before .before .before .before .may-place .ensures) _ _ (c .before .before .before .before .before .before .before .before .before .way2 .given .1) _ (c .before .before .before .before .before .before .table .ensures) (seven (c .before .before .before .before .before .before .before .before .before .before .before .before .before .before .before .before))
 
 refused-requires-2 : tie.Need-refused-requires-2
 refused-requires-2 c κs = search needs
 
 returns : tie.Need-returns
-returns c = after-place (c .before .before .before .before .before .before .before .before .before .before .before .before .before .before .before .before .before .before .pre) _ _ (seven (c .before .before .before .before .before .before .before .before .before .before .before .before .before .before .before .before .before .before)) (c .refused2 .ensures ∙ place-over (c .before .before .before .before .before .before .before .before .before .before .before .before .before .before .before .before .before .before .pre) (c .before .before .before .before .before .before .before .before .before .before .before .before .before .before .before .before .before .before .args .card) (c .before .before .before .before .before .before .before .before .before .before .before .before .before .before .before .before .before .before .args .nodes) _ _ (number (c .before .before .before .before .before .before .before .before .before .before .before .before .before .before .before .before .before)) (c .before .before .before .before .before .before .before .before .before .before .before .before .before .before .before .before .nodes-of .ensures) (c .before .before .before .before .before .before .before .before .before .before .before .before .before .may-place .ensures) _ _ (c .before .before .before .before .before .before .before .before .before .before .before .way2 .given .1) _ (c .before .before .put-in .ensures .0) (c .before .if1 .taken))
+returns c = after-place (c .before .before .before .before .before .before .before .before .before .before .before .before .before .before .before .before .before .before .before .pre) _ _ (seven (c .before .before .before .before .before .before .before .before .before .before .before .before .before .before .before .before .before .before .before)) (c .refused2 .ensures ∙ place-over (c .before .before .before .before .before .before .before .before .before .before .before .before .before .before .before .before .before .before .before .pre) (c .before .before .before .before .before .before .before .before .before .before .before .before .before .before .before .before .before .before .before .args .card) (c .before .before .before .before .before .before .before .before .before .before .before .before .before .before .before .before .before .before .before .args .nodes) _ _ (number (c .before .before .before .before .before .before .before .before .before .before .before .before .before .before .before .before .before .before)) (c .before .before .before .before .before .before .before .before .before .before .before .before .before .before .before .before .before .nodes-of .ensures) (c .before .before .before .before .before .before .before .before .before .before .before .before .before .before .may-place .ensures) _ _ (c .before .before .before .before .before .before .before .before .before .before .before .before .way2 .given .1) _ (c .before .before .put-in .ensures .0) (c .before .if1 .taken))
 
 mul-t : tie.Need-mul-t
-mul-t c = let h = free-below (c .before .before .before .before .before .before .before .before .before .before .before .before .before .before .before .before .before .pre) (c .before .before .before .before .before .before .before .before .before .before .before .before .before .before .before .before .before .args .card) (c .before .before .before .before .before .before .before .before .before .before .before .before .before .before .before .before .before .args .nodes) _ _ (number (c .before .before .before .before .before .before .before .before .before .before .before .before .before .before .before .before)) (c .before .before .before .before .before .before .before .before .before .before .before .before .before .before .before .nodes-of .ensures) (c .before .before .before .before .before .before .before .before .before .before .before .before .may-place .ensures) _ _ (c .before .before .before .before .before .before .before .before .before .before .way2 .given .1) in omega arith
+mul-t c = let h = free-below (c .before .before .before .before .before .before .before .before .before .before .before .before .before .before .before .before .before .before .pre) (c .before .before .before .before .before .before .before .before .before .before .before .before .before .before .before .before .before .before .args .card) (c .before .before .before .before .before .before .before .before .before .before .before .before .before .before .before .before .before .before .args .nodes) _ _ (number (c .before .before .before .before .before .before .before .before .before .before .before .before .before .before .before .before .before)) (c .before .before .before .before .before .before .before .before .before .before .before .before .before .before .before .before .nodes-of .ensures) (c .before .before .before .before .before .before .before .before .before .before .before .before .before .may-place .ensures) _ _ (c .before .before .before .before .before .before .before .before .before .before .before .way2 .given .1) in omega arith
 
 element-set-from-t : tie.Need-element-set-from-t
-element-set-from-t c = free-below (c .before .before .before .before .before .before .before .before .before .before .before .before .before .before .before .before .before .pre) (c .before .before .before .before .before .before .before .before .before .before .before .before .before .before .before .before .before .args .card) (c .before .before .before .before .before .before .before .before .before .before .before .before .before .before .before .before .before .args .nodes) _ _ (number (c .before .before .before .before .before .before .before .before .before .before .before .before .before .before .before .before)) (c .before .before .before .before .before .before .before .before .before .before .before .before .before .before .before .nodes-of .ensures) (c .before .before .before .before .before .before .before .before .before .before .before .before .may-place .ensures) _ _ (c .before .before .before .before .before .before .before .before .before .before .way2 .given .1)
+element-set-from-t c = free-below (c .before .before .before .before .before .before .before .before .before .before .before .before .before .before .before .before .before .before .pre) (c .before .before .before .before .before .before .before .before .before .before .before .before .before .before .before .before .before .before .args .card) (c .before .before .before .before .before .before .before .before .before .before .before .before .before .before .before .before .before .before .args .nodes) _ _ (number (c .before .before .before .before .before .before .before .before .before .before .before .before .before .before .before .before .before)) (c .before .before .before .before .before .before .before .before .before .before .before .before .before .before .before .before .nodes-of .ensures) (c .before .before .before .before .before .before .before .before .before .before .before .before .before .may-place .ensures) _ _ (c .before .before .before .before .before .before .before .before .before .before .before .way2 .given .1)
 
 returns-2 : tie.Need-returns-2
 returns-2 c = after-place (c .before .before .before .before .before .before .before .before .before .pre) _ _ (seven (c .before .before .before .before .before .before .before .before .before)) (c .refused .ensures ∙ place-stops (c .before .before .before .before .before .before .before .before .before .pre) (c .before .before .before .before .before .before .before .before .before .args .card) (c .before .before .before .before .before .before .before .before .before .args .nodes) _ _ (number (c .before .before .before .before .before .before .before .before)) ((c .before .before .before .before .before .before .before .nodes-of .ensures)) ((c .before .before .before .before .may-place .ensures)) _ ((c .before .before .way .given .1)))
 
 returns-3 : tie.Need-returns-3
-returns-3 c = after-place (c .before .before .before .before .before .before .before .before .before .before .before .before .before .before .before .before .before .pre) _ _ (seven (c .before .before .before .before .before .before .before .before .before .before .before .before .before .before .before .before .before)) (places-it (c .before .before .before .before .before .before .before .before .before .before .before .before .before .before .before .before .before .pre) (c .before .before .before .before .before .before .before .before .before .before .before .before .before .before .before .before .before .args .card) (c .before .before .before .before .before .before .before .before .before .before .before .before .before .before .before .before .before .args .nodes) _ _ (number (c .before .before .before .before .before .before .before .before .before .before .before .before .before .before .before .before)) (c .before .before .before .before .before .before .before .before .before .before .before .before .before .before .before .nodes-of .ensures) (c .before .before .before .before .before .before .before .before .before .before .before .before .may-place .ensures) _ _ (c .before .before .before .before .before .before .before .before .before .before .way2 .given .1) _ (c .before .put-in .ensures .0) (c .if1 .left) (c .before .put-in .ensures .1))
+returns-3 c = after-place (c .before .before .before .before .before .before .before .before .before .before .before .before .before .before .before .before .before .before .pre) _ _ (seven (c .before .before .before .before .before .before .before .before .before .before .before .before .before .before .before .before .before .before)) (places-it (c .before .before .before .before .before .before .before .before .before .before .before .before .before .before .before .before .before .before .pre) (c .before .before .before .before .before .before .before .before .before .before .before .before .before .before .before .before .before .before .args .card) (c .before .before .before .before .before .before .before .before .before .before .before .before .before .before .before .before .before .before .args .nodes) _ _ (number (c .before .before .before .before .before .before .before .before .before .before .before .before .before .before .before .before .before)) (c .before .before .before .before .before .before .before .before .before .before .before .before .before .before .before .before .nodes-of .ensures) (c .before .before .before .before .before .before .before .before .before .before .before .before .before .may-place .ensures) _ _ (c .before .before .before .before .before .before .before .before .before .before .before .way2 .given .1) _ (c .before .put-in .ensures .0) (c .if1 .left) (c .before .put-in .ensures .1))
 
 pub place-spec : {M : Type 1} → statement M
 place-spec =
@@ -84,7 +84,7 @@ place-spec =
     add-following
     mul-c
     array-copy-out-c
-    cast-t27
+    cast-place
     table-requires
     put-in-requires
     refused-requires-2

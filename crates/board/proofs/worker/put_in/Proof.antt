@@ -12,14 +12,14 @@ work-requires : tie.Need-work-requires
 work-requires c κs = search needs
 
 put-requires : tie.Need-put-requires
-put-requires c κs = (record { wired = (c .before .before .before .before .before .before .pre .0 .wired) }, (c .before .before .before .before .before .before .pre .1), subst (λ (o : Outcome). Within (2 ^ 53) (o .ticks)) (sym (c .before .before .before .before .before .work .ensures)) (ticks-within _ _))
+put-requires c κs = (record { wired = (c .before .before .before .before .pre .0 .wired) }, (c .before .before .before .before .pre .1), subst (λ (o : Outcome). Within (2 ^ 53) (o .ticks)) (sym (c .before .before .before .work .ensures)) (ticks-within _ _))
 
 is-over-requires : tie.Need-is-over-requires
 is-over-requires c κs = search needs
 
 returns : tie.Need-returns
 returns c =
-    let o = (c .before .before .before .before .before .before .before .work .ensures) in
+    let o = (c .before .before .before .before .before .work .ensures) in
     (c .is-over .ensures ∙ over-told _ _ _ o, gives-flow _ _ _ (rw o at (c .before .put .ensures)))
 
 pub put-in-spec : {M : Type 1} → statement M

@@ -63,14 +63,14 @@ array-copy-out-c c = let b = seat-below (getD (c .before .before .before .before
 
 take-out-requires : tie.Need-take-out-requires Inv-loop μ-loop
 take-out-requires c κs = (
-  workable-seated _ _ (stands (c .before .before .before .before)) (sits (c .before .before .before .before)) _ (c .before .before .before .seat-of .ensures) _ _ (c .before .before .before .before .before .before .before .before .before .table .ensures) (c .before .before .before .before .before .before .before .before .before .before .pre .was-are),
-  room-less (omega arith) (mixed-room _ (long (c .before .before .before .before .before .before .before .before .before .before)) (c .before .before .before .before .before .before .before .before .loop .inv .1)),
+  workable-seated _ _ (stands (c .before .before .before .before .before .before)) (sits (c .before .before .before .before .before .before)) _ (c .before .before .before .before .before .seat-of .ensures) _ _ (c .before .before .before .before .before .before .before .before .before .before .before .table .ensures) (c .before .before .before .before .before .before .before .before .before .before .before .before .pre .was-are),
+  room-less (omega arith) (mixed-room _ (long (c .before .before .before .before .before .before .before .before .before .before .before .before)) (c .before .before .before .before .before .before .before .before .before .before .loop .inv .1)),
 )
 
 put-in-requires : tie.Need-put-in-requires Inv-loop μ-loop
 put-in-requires c κs = (
-  workable-seated _ _ (stands (c .before .before .before .before .before .before .before)) (sits (c .before .before .before .before .before .before .before)) _ (c .before .before .before .before .before .before .seat-of .ensures) _ _ (c .before .before .before .before .before .before .before .before .before .before .before .before .table .ensures) (c .before .before .before .before .before .before .before .before .before .before .before .before .before .pre .volts-are),
-  room-less (omega arith) (room-more (mixed-room _ (long (c .before .before .before .before .before .before .before .before .before .before .before .before .before)) (c .before .before .before .before .before .before .before .before .before .before .before .loop .inv .1)) (c .before .before .take-out .ensures) (takes-small _ _ _)),
+  workable-seated _ _ (stands (c .before .before .before .before .before .before .before .before .before .before)) (sits (c .before .before .before .before .before .before .before .before .before .before)) _ (c .before .before .before .before .before .before .before .before .before .seat-of .ensures) _ _ (c .before .before .before .before .before .before .before .before .before .before .before .before .before .before .before .table .ensures) (c .before .before .before .before .before .before .before .before .before .before .before .before .before .before .before .before .pre .volts-are),
+  room-less (omega arith) (room-more (mixed-room _ (long (c .before .before .before .before .before .before .before .before .before .before .before .before .before .before .before .before)) (c .before .before .before .before .before .before .before .before .before .before .before .before .before .before .loop .inv .1)) (c .before .before .before .take-out .ensures) (takes-small _ _ _)),
 )
 
 either-requires : tie.Need-either-requires Inv-loop μ-loop
@@ -93,8 +93,8 @@ loop-again c =
     let u = named-stands _ (getD (c .before .before .before .before .before .before .args .t3) i noTransistor) e in
     let s = p .seated i e in (
       omega arith,
-      rw (w .10) (mixed-works i (omega arith) (seated-takes _ _ u s _ (w .1 .ensures) _) (seated-gives _ _ u s _ (w .1 .ensures) _) (inv .1) (w .5 .ensures) (w .8 .ensures .1)),
-      rw (w .11, w .9 .ensures) (heard-more noTransistor (omega arith) _ (seated-overloads _ _ u s _ (w .1 .ensures) _ (w .8 .ensures .0)) (inv .2)),
+      rw (w .13) (mixed-works i (omega arith) (seated-takes _ _ u s _ (w .1 .ensures) _) (seated-gives _ _ u s _ (w .1 .ensures) _) (inv .1) (w .7 .ensures) (w .11 .ensures .1)),
+      rw (w .14, w .12 .ensures) (heard-more noTransistor (omega arith) _ (seated-overloads _ _ u s _ (w .1 .ensures) _ (w .11 .ensures .0)) (inv .2)),
     ))
     (λ w. let e = sym (c .before .is-at .ensures) ∙ w .0 .left in
     (omega arith, rw (w .1) (mixed-passes i (omega arith) (p .same i e) (inv .1)), rw (w .2) (heard-quiet noTransistor (omega arith) (p .quiet i e) (inv .2))))

@@ -12,10 +12,10 @@ work-requires : tie.Need-work-requires
 work-requires c κs = search needs
 
 take-requires : tie.Need-take-requires
-take-requires c κs = (record { wired = (c .before .before .before .before .before .before .pre .0 .wired) }, (c .before .before .before .before .before .before .pre .1), subst (λ (o : Outcome). Within (2 ^ 53) (o .ticks)) (sym (c .before .before .before .before .before .work .ensures)) (ticks-within _ _))
+take-requires c κs = (record { wired = (c .before .before .before .before .pre .0 .wired) }, (c .before .before .before .before .pre .1), subst (λ (o : Outcome). Within (2 ^ 53) (o .ticks)) (sym (c .before .before .before .work .ensures)) (ticks-within _ _))
 
 returns : tie.Need-returns
-returns c = takes-flow _ _ _ (rw (c .before .before .before .before .before .before .work .ensures) at (c .take .ensures))
+returns c = takes-flow _ _ _ (rw (c .before .before .before .before .work .ensures) at (c .take .ensures))
 
 pub take-out-spec : {M : Type 1} → statement M
 take-out-spec = tie.close (tie.spec work-requires take-requires returns)

@@ -1,32 +1,28 @@
 -- `work` works a prepared card at the voltages of the transistor's roles.
-use mathlib.Core.Path.{_≡_, sym, ap, subst, _∙_}
+use mathlib.Core.Path.{sym, ap, subst, _∙_}
 use mathlib.Core.List.{List, map}
 use Prim.Native.Nat.{ℕ}
-use lib.ListN.{length, length-map}
-use borrow.Author.Needs.{needs}
+use lib.ListN.{length-map}
 use Rattle.branch.specs.Ready.{lowered, Raised}
 use Rattle.branch.specs.Outcome.{outcomeOf}
 use Rattle.board.proofs.Currents.{roles-lowered, roles-near}
 use Rattle.board.proofs.worker.work.Statement.{statement}
 use Rattle.board.proofs.worker.work.Tie as tie
 
-long : (c : tie.Start) → length (c .args .t .nodes) ≡ 7
-long c = search needs
-
 roles-requires : tie.Need-roles-requires
-roles-requires c κs = (record { wired = (c .before .before .pre .wired) }, long (c .before .before))
+roles-requires c κs = (record { wired = c .pre .wired }, c .pre .seven)
 
 work-out-requires : tie.Need-work-out-requires
 work-out-requires c κs =
-    let p = (c .before .before .before .before .before .pre) in
-    record { table-is = p .table-is; ready = p .ready; raised = subst Raised (sym ((c .before .before .roles .ensures))) (record { seven = length-map ((c .before .before .before .before .before .args .t .nodes)) _ ∙ long (c .before .before .before .before .before); near = roles-near _ (p .volts-are) ((c .before .before .before .before .before .args .t .nodes)) }) }
+    let p = (c .before .before .before .pre) in
+    record { table-is = p .table-is; ready = p .ready; raised = subst Raised (sym (c .before .before .roles .ensures)) (record { seven = length-map (c .before .before .before .args .nodes .now) _ ∙ p .seven; near = roles-near _ (p .volts-are) (c .before .before .before .args .nodes .now) }) }
 
 returns : tie.Need-returns
 returns c =
-    let p = (c .before .before .before .before .before .before .pre) in
+    let p = (c .before .before .before .before .pre) in
     c .work-out .ensures
-    ∙ ap (λ (v : List ℕ). outcomeOf ((c .before .before .before .before .before .before .args .c .ready .card)) (map lowered v)) ((c .before .before .before .roles .ensures))
-    ∙ ap (outcomeOf ((c .before .before .before .before .before .before .args .c .ready .card))) (roles-lowered _ (p .volts-are) ((c .before .before .before .before .before .before .args .t .nodes)) (p .wired))
+    ∙ ap (λ (v : List ℕ). outcomeOf (c .before .before .before .before .args .c .ready .card) (map lowered v)) (c .before .before .before .roles .ensures)
+    ∙ ap (outcomeOf (c .before .before .before .before .args .c .ready .card)) (roles-lowered _ (p .volts-are) (c .before .before .before .before .args .nodes .now) (p .wired))
 
 pub work-spec : {M : Type 1} → statement M
 work-spec = tie.close (tie.spec roles-requires work-out-requires returns)
