@@ -1,6 +1,6 @@
 -- Where the tests of placing, moving and lifting lead, with what the worker gives.
-use mathlib.Core.Path.{_≡_, refl, sym, ap, _∙_, subst}
-use mathlib.Core.Bool.{Bool, true, false, cond}
+use mathlib.Core.Path.{_≡_, sym, ap, _∙_, subst}
+use mathlib.Core.Bool.{Bool, true, false}
 use mathlib.Core.List.{List, map}
 use Prim.Native.Nat.{ℕ, _+_, _*_, _^_, _≤_, _<_}
 use native.Mathlib.Omega.{arith}
@@ -19,13 +19,14 @@ use Rattle.board.specs.declared.rules.Way.{Way}
 use Rattle.board.specs.declared.rules.Way.the-variants.{Go, Stop}
 use Rattle.board.specs.Verdict.{nodesMost, transistorsMost, none, some, Verdict, yes, issueOf, offNode, moveVerdict, liftVerdict, placeVerdict}
 use Rattle.branch.specs.Currents.{offVolts}
+use Rattle.branch.proofs.Levels.{Leveled}
 use Rattle.board.specs.Desk.{overloads, flow, anyOf, usedUp}
 use Rattle.board.specs.Model.{isTransistor, cardPlace, transistorPlace, noTransistor, emptyTransistor, noCard, workedAt, placeGives, placeOverloads, totalsOf, voltsOf, refuse, freeTransistor, placedOf, mayPlace, movedOf, liftedOf, Reached}
-use Rattle.board.specs.Parts.{nodeOf, raisedOr, seatOr, More, Room, backFlow}
+use Rattle.board.specs.Parts.{nodeOf, seatOr, More, Room, backFlow}
 use Rattle.board.specs.Settle.{Workable, Settling}
 use Rattle.board.specs.Placing.{placing, wayOf}
 use Rattle.board.proofs.Lists.{first-passes}
-use Rattle.board.proofs.Good.{good, at-card, at-transistor, AtTransistor, on-nodes, raised-near}
+use Rattle.board.proofs.Good.{good, at-card, at-transistor, AtTransistor, on-nodes}
 use Rattle.board.proofs.Orderly.{orderly-after}
 use Rattle.board.proofs.Follows.{stands-after}
 use Rattle.board.proofs.Verdicts.{places}
@@ -65,36 +66,19 @@ pub move-off-node : (b : Board) (z v : ℤ) → nodesMost ≤ nodeOf z → refus
 unfolding movedOf moveVerdict
 move-off-node b z v h = rw (off-board z h)
 
-too-far : (v : ℤ) → 5000000 < raisedOr v → offVolts v ≡ true
-too-far v h = go (offVolts v) refl h
-  where
-    go : (t : Bool) → offVolts v ≡ t → 5000000 < cond t 5000001 (raised v) → offVolts v ≡ true
-    go true e k = e
-    go false e k = let n = raised-near v e in absurd (omega arith)
-
-in-range : (v : ℤ) → raisedOr v ≤ 5000000 → (offVolts v ≡ false) × (raisedOr v ≡ raised v)
-in-range v h = go (offVolts v) refl h
-  where
-    go : (t : Bool) → offVolts v ≡ t → cond t 5000001 (raised v) ≤ 5000000 → (offVolts v ≡ false) × (cond t 5000001 (raised v) ≡ raised v)
-    go true e k = absurd (omega arith)
-    go false e k = (e, refl)
-
-pub move-too-far : (b : Board) (z v : ℤ) → nodeOf z < nodesMost → 5000000 < raisedOr v → refuse b OutOfRange ≡ movedOf b z v
+pub move-too-far : (b : Board) (z v : ℤ) → nodeOf z < nodesMost → offVolts v ≡ true → refuse b OutOfRange ≡ movedOf b z v
 unfolding movedOf moveVerdict
-move-too-far b z v h k = rw (on-board z h .0, too-far v k)
+move-too-far b z v h k = rw (on-board z h .0, k)
 
-module _ {b : Board} (reached : Reached b) (z v : ℤ) (n x : ℕ) (ne : n ≡ nodeOf z) (xe : x ≡ raisedOr v) (below : n < nodesMost) (near : x ≤ 5000000) where
+module _ {b : Board} (reached : Reached b) (z v : ℤ) (n x : ℕ) (ne : n ≡ nodeOf z) (below : n < nodesMost) (level : Leveled v x) where
   on : (offNode z ≡ false) × (nodeOf z ≡ natAbs z)
   on = on-board z (subst (λ (m : ℕ). m < nodesMost) ne below)
 
-  close : (offVolts v ≡ false) × (raisedOr v ≡ raised v)
-  close = in-range v (subst (λ (m : ℕ). m ≤ 5000000) xe near)
-
   same-volts : set (b .volts) n x ≡ set (b .volts) (natAbs z) (raised v)
-  same-volts = ap (λ (m : ℕ). set (b .volts) m x) (ne ∙ on .1) ∙ ap (λ (y : ℕ). set (b .volts) (natAbs z) y) (xe ∙ close .1)
+  same-volts = ap (λ (m : ℕ). set (b .volts) m x) (ne ∙ on .1) ∙ ap (λ (y : ℕ). set (b .volts) (natAbs z) y) (level .from)
 
   pub settling-move : Settling (b .cards) (b .transistors) (b .volts) (set (b .volts) n x) n (b .totals)
-  settling-move = settling-moved (good reached) n x near
+  settling-move = settling-moved (good reached) n x (level .near)
 
   module _ (over : Bool) (oe : over ≡ anyOf (placeOverloads (b .cards) (map lowered (set (b .volts) n x))) (b .transistors)) where
     over-is : over ≡ anyOf (placeOverloads (b .cards) (map lowered (set (b .volts) (natAbs z) (raised v)))) (b .transistors)
@@ -102,11 +86,11 @@ module _ {b : Board} (reached : Reached b) (z v : ℤ) (n x : ℕ) (ne : n ≡ n
 
     pub move-over : over ≡ true → refuse b Overload ≡ movedOf b z v
     unfolding movedOf moveVerdict
-    move-over o = rw (on .0, close .0, sym over-is ∙ o)
+    move-over o = rw (on .0, level .on, sym over-is ∙ o)
 
     pub moves-it : over ≡ false → {l : List ℤ} → l ≡ totalsOf (b .cards) (b .transistors) (map lowered (set (b .volts) n x)) → record { board = record { cards = b .cards; transistors = b .transistors; volts = set (b .volts) n x; totals = l; next = b .next }; answer = Done } ≡ movedOf b z v
     unfolding movedOf moveVerdict
-    moves-it o totals = rw (on .0, close .0, sym over-is ∙ o, totals, same-volts)
+    moves-it o totals = rw (on .0, level .on, sym over-is ∙ o, totals, same-volts)
 
 -- ---- placing
 

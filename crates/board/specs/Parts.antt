@@ -10,7 +10,6 @@ use Rattle.branch.specs.Ready.{raised}
 use Rattle.card.specs.declared.WorkedCard.{WorkedCard}
 use Rattle.board.specs.declared.Transistor.{Transistor}
 use Rattle.board.specs.Verdict.{nodesMost, cardsMost, Found, none, some, offNode}
-use Rattle.branch.specs.Currents.{offVolts}
 use Rattle.board.specs.Desk.{flow, anyOf, atNode}
 
 -- ---- numbers of the caller
@@ -18,10 +17,6 @@ use Rattle.board.specs.Desk.{flow, anyOf, atNode}
 -- a node number in range, and the number of nodes for any other
 abbrev pub nodeOf : ℤ → ℕ
 nodeOf z = cond (offNode z) nodesMost (natAbs z)
-
--- a voltage in range raised, and the first number above those for any other
-abbrev pub raisedOr : ℤ → ℕ
-raisedOr v = cond (offVolts v) 5000001 (raised v)
 
 -- ---- places
 

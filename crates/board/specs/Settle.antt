@@ -1,4 +1,4 @@
--- What the worker asks and gives: totals anew from totals that were right, worked only where something changed.
+-- What the worker asks: a card, nodes and voltages that can be worked, and for a move totals that are right at the old voltages.
 use mathlib.Core.Path.{_≡_}
 use mathlib.Core.Bool.{true, false}
 use mathlib.Core.List.{List, map}

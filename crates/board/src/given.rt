@@ -3,7 +3,7 @@ ghost use mathlib.Core.Path.{_≡_};
 ghost use mathlib.Core.List.{map};
 ghost use Rattle.branch.specs.Ready.{lowered};
 ghost use Rattle.board.specs.Verdict.{issueOf};
-ghost use Rattle.board.specs.Parts.{nodeOf, raisedOr};
+ghost use Rattle.board.specs.Parts.{nodeOf};
 use whole::Int;
 
 // Half the span of the voltages, by which they are raised.
@@ -44,29 +44,6 @@ pub(crate) fn nodes_of(nodes: [i64; 7]) -> [u8; 7]
     let f = node_of(nodes[5]);
     let g = node_of(nodes[6]);
     [a, b, c, d, e, f, g]
-}
-
-// A voltage raised; 5000001 for one out of range.
-pub(crate) fn raised_of(v: i64) -> u32
-    ensures { λ r. ⌜ r ≡ raisedOr v ⌝ }
-{
-    let i = whole::open(v);
-    match i {
-        Int::Pos(k) => {
-            if k <= REACH {
-                (k + REACH) as u32
-            } else {
-                5000001
-            }
-        }
-        Int::NegSuc(k) => {
-            if k < REACH {
-                (REACH - 1 - k) as u32
-            } else {
-                5000001
-            }
-        }
-    }
 }
 
 // The voltage itself.

@@ -10,6 +10,7 @@ mod sets; // sets.rt: which transistors name a node
 mod sums; // sums.rt: what branches give to the totals
 mod worker; // worker.rt: currents put into the totals and taken out
 
+use branch::Level;
 use branch::Ready;
 use card::Judged;
 use card::WorkedCard;
@@ -56,10 +57,8 @@ pub struct Answered {
 // The last issue number.
 const ISSUES: u32 = 65535;
 
-// No volts, and the highest voltage, both raised.
+// No volts, raised.
 const ZERO: u32 = 2500000;
-
-const HIGHEST: u32 = 5000000;
 
 // A prepared card of zeros.
 fn no_ready() -> Ready
@@ -252,10 +251,9 @@ impl Board {
         if Board::NODES <= n {
             return refused(self, Refusal::OutOfRange);
         }
-        let v = given::raised_of(microvolts);
-        if HIGHEST < v {
+        let Level::At(v) = branch::raise(microvolts) else {
             return refused(self, Refusal::OutOfRange);
-        }
+        };
         let was = self.volts;
         let mut volts = was;
         volts[n] = v;

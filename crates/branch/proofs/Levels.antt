@@ -46,11 +46,12 @@ off-neg n e h = rw (← e, lt-ltb 2499999 n h)
 -- a kept voltage
 pub record Leveled (v : ℤ) (x : ℕ) : Type 0 where
   pub on : offVolts v ≡ false
+  pub from : x ≡ raised v
   pub is : lowered x ≡ v
   pub near : x ≤ 2 * reach
 
 pub kept : (v : ℤ) → offVolts v ≡ false → Leveled v (raised v)
-kept (pos n) e = record { on = e; is = sub-up (n + reach) reach (omega arith) ∙ ap pos (omega arith); near = let h = pos-near e in omega arith }
+kept (pos n) e = record { on = e; from = refl; is = sub-up (n + reach) reach (omega arith) ∙ ap pos (omega arith); near = let h = pos-near e in omega arith }
   where
     pos-near : offVolts (pos n) ≡ false → n ≤ 2500000
     pos-near e = go (ltb 2500000 n) refl e
@@ -58,7 +59,7 @@ kept (pos n) e = record { on = e; is = sub-up (n + reach) reach (omega arith) �
         go : (t : Bool) → ltb 2500000 n ≡ t → t || false ≡ false → n ≤ 2500000
         go true p q = let z : _≡_ {A = ℕ} 0 1 = cc in absurd (omega arith)
         go false p q = ltb-false 2500000 n p
-kept (negsuc n) e = let h = ltb-false 2499999 n e in record { on = e; is = sub-down (reach - suc n) reach (omega arith) ∙ ap negsuc (omega arith); near = omega arith }
+kept (negsuc n) e = let h = ltb-false 2499999 n e in record { on = e; from = refl; is = sub-down (reach - suc n) reach (omega arith) ∙ ap negsuc (omega arith); near = omega arith }
 
 pub leveled : {v w : ℤ} {l : Level} {x : ℕ} → w ≡ v → l ≡ levelOf w → l ≡ At x → Leveled v x
 leveled {v} {w} {l} {x} p q r = go (offVolts v) refl (sym (ap levelOf p) ∙ sym q ∙ r)

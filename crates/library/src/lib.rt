@@ -264,22 +264,18 @@ pub fn locate(library: &[u8], name: &[u8]) -> Located
     match inspect(library) {
         Look::Bad(f) => Located::Refused(f),
         Look::Good { cards, words } => {
-            if name::is_asked(name) {
-                let e = 16 + 16 * cards;
-                let wanted = name::pad(name);
-                let i = search(&library[16..e], &wanted);
-                if i < cards {
-                    let at = e + 8 * (words * i);
-                    Located::Record {
-                        at,
-                        size: 8 * words,
-                    }
-                } else {
-                    Located::Refused(Refusal::NameNotHeld)
-                }
-            } else {
-                Located::Refused(Refusal::BadName)
+            if !name::is_asked(name) {
+                return Located::Refused(Refusal::BadName);
             }
+            let e = 16 + 16 * cards;
+            let wanted = name::pad(name);
+            let i = search(&library[16..e], &wanted);
+            if cards <= i {
+                return Located::Refused(Refusal::NameNotHeld);
+            }
+            let at = e + 8 * (words * i);
+            let size = 8 * words;
+            Located::Record { at, size }
         }
     }
 }

@@ -6,6 +6,7 @@ use Rattle.name.specs.Name.{asked}
 use Rattle.library.specs.Answers.{toldLook}
 use Rattle.library.proofs.Ways.{Looked, looked, record-within, locate-bad, locate-name, locate-none, locate-at}
 use borrow.Author.Needs.{needs}
+use borrow.Author.Tests.{not-true, not-false}
 use Rattle.library.proofs.locate.Statement.{statement}
 use Rattle.library.proofs.locate.Tie as tie
 
@@ -13,8 +14,8 @@ use Rattle.library.proofs.locate.Tie as tie
 seen : (c : tie.After-cards) → Looked (c .before .before .before .before .before .args .library .now) (c .cards .given .0 .0) (c .cards .given .0 .1 .0)
 seen c = looked _ (sym (c .before .before .inspect .ensures) ∙ ap toldLook (c .cards .given .1))
 
-is-asked : (c : tie.Then1) → asked (c .before .before .before .before .before .before .before .before .args .name .now) ≡ true
-is-asked c = sym (c .before .is-asked .ensures) ∙ c .if1 .taken
+is-asked : (c : tie.Else1) → asked (c .before .before .before .before .before .before .before .before .args .name .now) ≡ true
+is-asked c = sym (c .before .is-asked .ensures) ∙ not-false _ (c .if1 .left)
 
 inspect-requires : tie.Need-inspect-requires
 inspect-requires c κs = search needs
@@ -50,28 +51,28 @@ search-requires : tie.Need-search-requires
 search-requires c κs = search needs
 
 mul-at : tie.Need-mul-at
-mul-at c = omega (arith, seen (c .before .before .before .before .before .before .before .before), record-within (c .before .before .before .before .before .before .before .before .cards .given .0 .1 .0) (c .if2 .taken))
+mul-at c = omega (arith, seen (c .before .before .before .before .before .before .before .before), record-within (c .before .before .before .before .before .before .before .before .cards .given .0 .1 .0) (c .if2 .left))
 
 mul-at-2 : tie.Need-mul-at-2
-mul-at-2 c = omega (arith, seen (c .before .before .before .before .before .before .before .before), record-within (c .before .before .before .before .before .before .before .before .cards .given .0 .1 .0) (c .if2 .taken))
+mul-at-2 c = omega (arith, seen (c .before .before .before .before .before .before .before .before), record-within (c .before .before .before .before .before .before .before .before .cards .given .0 .1 .0) (c .if2 .left))
 
 add-at : tie.Need-add-at
-add-at c = omega (arith, seen (c .before .before .before .before .before .before .before .before), record-within (c .before .before .before .before .before .before .before .before .cards .given .0 .1 .0) (c .if2 .taken))
+add-at c = omega (arith, seen (c .before .before .before .before .before .before .before .before), record-within (c .before .before .before .before .before .before .before .before .cards .given .0 .1 .0) (c .if2 .left))
 
-mul-t22 : tie.Need-mul-t22
-mul-t22 c = omega (arith, seen (c .before .before .before .before .before .before .before .before))
+mul-size : tie.Need-mul-size
+mul-size c = omega (arith, seen (c .before .before .before .before .before .before .before .before))
 
 returns : tie.Need-returns
-returns c = locate-bad _ _ (sym (c .before .before .before .inspect .ensures) ∙ ap toldLook (c .before .f .given .1))
+returns c = locate-name _ _ (seen (c .before .before .before)) (sym (c .before .is-asked .ensures) ∙ not-true _ (c .if1 .taken))
 
 returns-2 : tie.Need-returns-2
-returns-2 c = locate-at _ _ (seen (c .before .before .before .before .before .before .before .before)) (is-asked (c .before .before .before .before .before)) (c .before .before .before .before .pad .ensures) (c .before .search .ensures) (c .if2 .taken)
+returns-2 c = locate-none _ _ (seen (c .before .before .before .before .before .before .before .before)) (is-asked (c .before .before .before .before .before)) (c .before .before .before .before .pad .ensures) (c .before .search .ensures) (c .if2 .taken)
 
 returns-3 : tie.Need-returns-3
-returns-3 c = locate-none _ _ (seen (c .before .before .before .before .before .before .before .before)) (is-asked (c .before .before .before .before .before)) (c .before .before .before .before .pad .ensures) (c .before .search .ensures) (c .if2 .left)
+returns-3 c = locate-bad _ _ (sym (c .before .before .before .inspect .ensures) ∙ ap toldLook (c .before .f .given .1))
 
 returns-4 : tie.Need-returns-4
-returns-4 c = locate-name _ _ (seen (c .before .before .before)) (sym (c .before .is-asked .ensures) ∙ c .if1 .left)
+returns-4 c = locate-at _ _ (seen (c .before .before .before .before .before .before .before .before)) (is-asked (c .before .before .before .before .before)) (c .before .before .before .before .pad .ensures) (c .before .search .ensures) (c .if2 .left)
 
 pub locate-spec : {M : Type 1} → statement M
 locate-spec =
@@ -81,6 +82,7 @@ locate-spec =
     enum-known-f
     enum-known-cards
     is-asked-requires
+    returns
     mul-e
     add-e
     pad-requires
@@ -88,11 +90,10 @@ locate-spec =
     part-search-start
     part-search-end
     search-requires
+    returns-2
     mul-at
     mul-at-2
     add-at
-    mul-t22
-    returns
-    returns-2
+    mul-size
     returns-3
     returns-4)
