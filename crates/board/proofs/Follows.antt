@@ -56,11 +56,6 @@ module _ {A B : Type 0} (g : A → B) where
   map-lift none = refl
   map-lift (some a) = refl
 
-  map-withdraw : (found : Found A) (inUse : B → Bool) → withdrawVerdict (mapFound g found) inUse ≡ mapVerdict g (withdrawVerdict found (λ (a : A). inUse (g a)))
-  unfolding withdrawVerdict
-  map-withdraw none inUse = refl
-  map-withdraw (some a) inUse = sym (map-unless g (inUse (g a)) _ _)
-
 -- ---- where board and desk agree
 
 map-set : {A B : Type 0} (f : A → B) (l : List A) (i : ℕ) (x : A) → map f (set l i x) ≡ set (map f l) i (f x)

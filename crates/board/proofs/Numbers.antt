@@ -55,10 +55,6 @@ pub data Falls : ℕ → List ℕ → Type 0 where
   end : {top : ℕ} → Falls top []
   next : {top n : ℕ} {rest : List ℕ} → n < top → 1 ≤ n → n ≤ issuesMost → Falls n rest → Falls top (n ∷ rest)
 
-falls-later : {top : ℕ} {l : List ℕ} → Falls top l → Falls (top + 1) l
-falls-later end = end
-falls-later {top} (next {n = n} a b c d) = let h : n < top + 1 = omega arith in next h b c d
-
 one-more : {n : ℕ} {l : List ℕ} → 1 ≤ n → ltb issuesMost n ≡ false → Falls n l → Falls (n + 1) (n ∷ l)
 one-more {n} p q f = let h : n < n + 1 = omega arith in next h p (ltb-false issuesMost n q) f
 

@@ -16,12 +16,6 @@ pub perm-self : {A : Type 0} (xs : List A) → Perm xs xs
 perm-self [] = empty
 perm-self (a ∷ xs) = keep (perm-self xs)
 
-pub perm-back : {A : Type 0} {xs ys : List A} → Perm xs ys → Perm ys xs
-perm-back empty = empty
-perm-back (keep p) = keep (perm-back p)
-perm-back swap = swap
-perm-back (then p q) = then (perm-back q) (perm-back p)
-
 -- a newcomer that is known by another name
 pub perm-join : {A : Type 0} {a c : A} {xs ys zs : List A} → Perm xs (a ∷ ys) → a ≡ c → Perm ys zs → Perm xs (c ∷ zs)
 perm-join {A = A} {a = a} {ys = ys} {zs = zs} p e q = then p (subst (λ (x : A). Perm (a ∷ ys) (x ∷ zs)) e (keep q))

@@ -58,9 +58,6 @@ seatOf C4 = 5
 seatOf S = 6
 
 -- the voltage of a junction: that of its first role less that of its second
-Bias : Type 0
-Bias = Role → Role → ℤ
-
 abbrev pub biasOf : List ℤ → Role → Role → ℤ
 biasOf volts p q = getD volts (seatOf p) (pos 0) -ℤ getD volts (seatOf q) (pos 0)
 

@@ -2,14 +2,14 @@
 use mathlib.Core.Path.{_≡_, sym, ap, ap₂, subst, _∙_}
 use mathlib.Core.Logic.{_⊎_, inl, inr}
 use Prim.Native.Nat.{ℕ, suc, _+_, _*_, _-_, _/_, _%_, _≤_, _<_}
-use native.Mathlib.Nat.{add-mul-div-right, div-eq-of-lt-le, div-add-mod', mod-lt, div-le-of-le-mul, zero-div, le-div-iff-mul-le}
+use native.Mathlib.Nat.{add-mul-div-right, div-eq-of-lt-le, div-add-mod', mod-lt, div-le-of-le-mul}
 use native.Mathlib.Numerals.{add-one}
 use native.Mathlib.Omega.{arith}
 use lib.IntN.{ℤ, pos, negsuc, natAbs, subℕ, _+ℤ_, _*ℤ_}
 use Rattle.whole.specs.Biased.{below-or-not, sub-up, sub-down, sub-add, turned}
 use Rattle.whole.specs.Floor.{floorDiv, floorMod}
 use Rattle.octave.specs.declared.Gain.{Gain}
-use Rattle.octave.specs.Table.{parts, mantissaOf, mantissa-low, mantissa-high, mantissa-zero}
+use Rattle.octave.specs.Table.{parts, mantissaOf}
 use Rattle.octave.specs.Position.{positionOf, wholeOf, partOf, InRange}
 use Rattle.octave.specs.Gain.{gainOf, bias}
 use Rattle.octave.specs.Worked.{reach, offsetOf, placeOf}
@@ -85,63 +85,8 @@ module _ (u w : ℕ) (l : 1000000 ≤ w) where
   pub gain-exponent : subℕ (gainOf (subℕ u reach) w .whole) bias ≡ wholeOf (subℕ u reach) w
   gain-exponent = ap (λ (g : Gain). subℕ (g .whole) bias) gain-raised ∙ sym whole-is
 
--- how large an exponential's two numbers are
-pub record Sized (g : Gain) : Type 0 where
-  pub m-low : 1073741824 ≤ g .m
-  pub m-high : g .m ≤ 2147483648
-  pub whole-low : 3192 ≤ g .whole
-  pub whole-high : g .whole ≤ 13192
-
 module _ (u w : ℕ) (h : u ≤ 2 * reach) (r : InRange w) where
-  -- 5000 octaves to either side of the bias
-  pub place-low : 209190912 ≤ placeOf u w
-  unfolding placeOf
-  place-low =
-      let e : 209190912 * w ≤ u * (1000 * parts) + offsetOf w = omega (arith, r) in
-      let pw : 0 < w = omega (arith, r) in
-      le-div-iff-mul-le pw .1 e
-
+  -- at most 5000 octaves above the bias
   pub place-high : placeOf u w ≤ 864550912
   unfolding placeOf
   place-high = div-le-of-le-mul w (omega (arith, r))
-
-  pub gain-sized : Sized (gainOf (subℕ u reach) w)
-  gain-sized =
-      let p = placeOf u w in
-      let a = place-low in
-      let b = place-high in
-      subst Sized (sym (gain-raised u w (r .least))) (record {
-        m-low = mantissa-low (p % parts) (omega arith);
-        m-high = mantissa-high (p % parts) (omega arith);
-        whole-low = omega arith;
-        whole-high = omega arith;
-      })
-
--- a voltage raised
-abbrev pub raisedOf : ℤ → ℕ
-raisedOf v = natAbs (v +ℤ pos reach)
-
--- within reach, that is V + reach
-raised : (v : ℤ) → natAbs v ≤ reach → (subℕ (raisedOf v) reach ≡ v) × (raisedOf v ≤ 2 * reach)
-raised (pos n) h = let e : n + reach - reach ≡ n = omega arith in (sub-up (n + reach) reach (omega arith) ∙ ap pos e, omega arith)
-raised (negsuc n) h =
-    let s : subℕ reach (suc n) ≡ pos (reach - suc n) = sub-up reach (suc n) h in
-    let e : natAbs (subℕ reach (suc n)) ≡ reach - suc n = ap natAbs s in
-    (ap (λ (u : ℕ). subℕ u reach) e ∙ sub-down (reach - suc n) reach (omega arith) ∙ ap negsuc (omega arith), omega (arith, e))
-
-pub raised-is : (v : ℤ) → natAbs v ≤ reach → subℕ (raisedOf v) reach ≡ v
-raised-is v h = raised v h .0
-
-pub raised-near : (v : ℤ) → natAbs v ≤ reach → raisedOf v ≤ 2 * reach
-raised-near v h = raised v h .1
-
--- the bounds for a voltage of either sign
-pub gain-sized-at : (v : ℤ) (w : ℕ) → natAbs v ≤ reach → InRange w → Sized (gainOf v w)
-gain-sized-at v w h r = subst (λ (z : ℤ). Sized (gainOf z w)) (raised-is v h) (gain-sized (raisedOf v) w (raised-near v h) r)
-
--- at no voltage the exponential is 1: 2^30 with n = 0
-pub gain-at-zero : (w : ℕ) → gainOf (pos 0) w ≡ record { m = 1073741824; whole = bias }
-unfolding gainOf
-gain-at-zero w =
-    ap (λ (k : ℕ). record { m = mantissaOf (k % parts); whole = natAbs (pos (k / parts) +ℤ pos bias) }) (zero-div w)
-    ∙ ap (λ (t : ℕ). record { m = t; whole = bias }) mantissa-zero

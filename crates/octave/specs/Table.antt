@@ -76,20 +76,13 @@ between i j t u h p q = le-of-suc-le-suc (lt-of-not-le (λ (l : suc u ≤ t). ab
 pub entry-only : (j t : ℕ) → j ≤ points → IsEntry j t → t ≡ entryOf j
 entry-only j t h p = le-antisymm (between j j t (entryOf j) (omega arith) p (rule j h)) (between j j (entryOf j) t (omega arith) (rule j h) p)
 
--- the entries rise, from 2^30 to 2^31
+-- the entries rise to 2^31
 pub entry-rises : (j : ℕ) → j < points → entryOf j ≤ entryOf (suc j)
 entry-rises j h = between j (suc j) (entryOf j) (entryOf (suc j)) (omega arith) (rule j (omega arith)) (rule (suc j) h)
-
-first : entryOf 0 ≡ 2 ^ 30
-unfolding entryOf entries
-first = refl
 
 last : entryOf points ≡ 2 ^ 31
 unfolding entryOf entries
 last = refl
-
-pub entry-low : (j : ℕ) → j ≤ points → 1073741824 ≤ entryOf j
-entry-low j h = subst (λ (t : ℕ). t ≤ entryOf j) first (between 0 j (entryOf 0) (entryOf j) (omega arith) (rule 0 (omega arith)) (rule j h))
 
 pub entry-high : (j : ℕ) → j ≤ points → entryOf j ≤ 2147483648
 entry-high j h = subst (λ (t : ℕ). entryOf j ≤ t) last (between j points (entryOf j) (entryOf points) h (rule j h) (rule points (omega arith)))
@@ -97,15 +90,3 @@ entry-high j h = subst (λ (t : ℕ). entryOf j ≤ t) last (between j points (e
 -- no more than the whole way from an entry to the next
 pub share-within : (d f : ℕ) → d * (f % steps) / steps ≤ d
 share-within d f = div-le-of-le-mul steps (le-trans (mul-le-mul-left d (le-of-lt (mod-lt f (lit< tt)))) (le-of-eq (mul-comm d steps)))
-
-pub mantissa-low : (f : ℕ) → f < parts → 1073741824 ≤ mantissaOf f
-mantissa-low f h = omega (arith, entry-low (f / steps) (omega arith))
-
-pub mantissa-high : (f : ℕ) → f < parts → mantissaOf f ≤ 2147483648
-mantissa-high f h =
-    let j : f / steps < points = omega arith in
-    omega (arith, entry-rises (f / steps) j, entry-high (suc (f / steps)) j, share-within (entryOf (suc (f / steps)) - entryOf (f / steps)) f)
-
-pub mantissa-zero : mantissaOf 0 ≡ 1073741824
-unfolding entryOf entries
-mantissa-zero = refl

@@ -3,7 +3,6 @@ use mathlib.Core.Path.{_≡_, ap, _∙_}
 use mathlib.Core.Bool.{cond}
 use mathlib.Core.Logic.{_⊎_, inl, inr}
 use Prim.Native.Nat.{ℕ, suc, _*_, _-_, _/_, _^_, _≤_, _<_}
-use native.Mathlib.Nat.{zero-mul, zero-div}
 use native.Mathlib.Omega.{arith}
 use lib.Dec.{leb}
 use lib.IntN.{ℤ, pos, negsuc, subℕ}
@@ -26,10 +25,6 @@ reaches over t h = rw (le-leb over t h)
 pub stays-below : (over t : ℕ) → t < over → atMost over t ≡ t
 unfolding atMost
 stays-below over t h = rw (lt-leb over t h)
-
-pub scale-none : (e : ℤ) → floorScale 0 e ≡ 0
-scale-none (pos e) = zero-mul (2 ^ e)
-scale-none (negsuc e) = zero-div (2 ^ suc e)
 
 pub scale-up : (x up down : ℕ) → down ≤ up → floorScale x (subℕ up down) ≡ x * 2 ^ (up - down)
 scale-up x up down h = ap (floorScale x) (sub-up up down h)
