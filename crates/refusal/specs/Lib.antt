@@ -1,2 +1,3 @@
 pub mod Told
+pub mod Order
 pub mod Unique

@@ -1,0 +1,58 @@
+-- The order of a call's refusals: one test after the other, each with the refusal that it draws; and what the call tells of its verdict.
+use mathlib.Core.Path.{_≡_, refl, sym, ap}
+use mathlib.Core.Bool.{Bool, true, false}
+use mathlib.Core.List.{List}
+use Prim.Native.Nat.{ℕ}
+use native.Mathlib.Omega.{arith}
+use Rattle.refusal.specs.declared.Refusal.{Refusal}
+use Rattle.refusal.specs.Told.{numberOf, told, told-injective}
+
+-- a refusal, or what the call goes on with
+pub data Verdict (A : Type 0) : Type 0 where
+  no : Refusal → Verdict A
+  yes : A → Verdict A
+
+-- one test: the refusal that it draws where it is true, and what comes after it where it is not
+abbrev pub refuseIf : {A : Type 0} → Bool → Refusal → Verdict A → Verdict A
+refuseIf true f next = no f
+refuseIf false f next = next
+
+-- an earlier verdict, and what comes after it where that refuses nothing
+abbrev pub andThen : {A B : Type 0} → Verdict A → (A → Verdict B) → Verdict B
+andThen (no f) next = no f
+andThen (yes a) next = next a
+
+-- ---- what is told
+
+-- the refusal's number with the values beside it, or what was asked for
+pub data Answer (A : Type 0) : Type 0 where
+  refused : List ℕ → Answer A
+  given : A → Answer A
+
+abbrev pub tells : {A : Type 0} → Verdict A → Answer A
+tells (no f) = refused (told f)
+tells (yes a) = given a
+
+-- the number alone; 0 where nothing is refused
+abbrev pub numberTold : {A : Type 0} → Verdict A → ℕ
+numberTold (no f) = numberOf f
+numberTold (yes a) = 0
+
+-- one test of an order of numbers
+abbrev pub numberIf : Bool → ℕ → ℕ → ℕ
+numberIf true n next = n
+numberIf false n next = next
+
+-- ---- laws
+
+-- what is told leaves no two verdicts
+pub tells-one : {A : Type 0} (v w : Verdict A) → tells v ≡ tells w → v ≡ w
+tells-one (no f) (no g) e = let h : told f ≡ told g = cc in ap no (told-injective f g h)
+tells-one (no f) (yes b) e = let z : _≡_ {A = ℕ} 0 1 = cc in absurd (omega arith)
+tells-one (yes a) (no g) e = let z : _≡_ {A = ℕ} 0 1 = cc in absurd (omega arith)
+tells-one (yes a) (yes b) e = cc
+
+-- a test that is true draws its refusal, with its number; one that is not leaves what comes after
+pub number-if : {A : Type 0} (b : Bool) (f : Refusal) (v : Verdict A) (n : ℕ) → numberTold v ≡ n → numberTold (refuseIf b f v) ≡ numberIf b (numberOf f) n
+number-if true f v n e = refl
+number-if false f v n e = e
