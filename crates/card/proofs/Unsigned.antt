@@ -14,7 +14,7 @@ use Rattle.card.specs.Limits.{zero, one, pico, tenth-milli, tenth-nano, 
 use Rattle.card.specs.Clip.{clippedAt, clippedUp}
 use Rattle.card.specs.Work.{four, sfOf, workedOf, Nine}
 use Rattle.card.specs.Judge.{at, parametersOf}
-use Rattle.card.specs.Sign.{unsigned, Unsigned}
+use Rattle.card.specs.laws.Sign.{unsigned, Unsigned}
 use Rattle.card.proofs.Range.{holds}
 use Rattle.card.proofs.Clipped.{each-finite, each-clipped}
 use Rattle.card.proofs.Signs.{plus, plus-unsigned, zero-plus, kept-plus, least-plus, between-plus, mul-unsigned, div-unsigned, sub-unsigned}

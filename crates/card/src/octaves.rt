@@ -2,7 +2,7 @@
 ghost use mathlib.Core.Path.{_≡_};
 ghost use lib.Dec.{T};
 ghost use lib.Ieee.Positive.{above};
-ghost use Rattle.card.specs.Octave.{octaveOf, secondOf};
+ghost use Rattle.card.specs.inner.Octaves.{octaveOf, secondOf};
 
 pub enum Octave {
     Nanovolts(u32),

@@ -57,6 +57,10 @@ pub number-if : {A : Type 0} (b : Bool) (f : Refusal) (v : Verdict A) (n : ℕ) 
 number-if true f v n e = refl
 number-if false f v n e = e
 
+-- the same, without a name for the number of what comes after
+pub number-first : {A : Type 0} (b : Bool) (f : Refusal) (v : Verdict A) → numberTold (refuseIf b f v) ≡ numberIf b (numberOf f) (numberTold v)
+number-first b f v = number-if b f v (numberTold v) refl
+
 -- what is given has passed the test
 pub passes-if : {A : Type 0} (b : Bool) (f : Refusal) (v : Verdict A) (a : A) → refuseIf b f v ≡ yes a → (b ≡ false) × (v ≡ yes a)
 passes-if true f v a e = clash cc
