@@ -114,8 +114,8 @@ cond-le : (b : Bool) (n : ℕ) → cond b n 0 ≤ n
 cond-le true n = omega arith
 cond-le false n = omega arith
 
-pub small : (b : Bool) (bit w : ℕ) → w ≡ cond b bit 0 → w ≤ bit
-small b bit w e = let l = cond-le b bit in omega arith
+pub small : (x y : Float) (bit w : ℕ) → w ≡ cond (ne x y) bit 0 → w ≤ bit
+small x y bit w e = let l = cond-le (ne x y) bit in omega arith
 
 module _ {n : ℕ} {s : List ℕ} {numbers : List Float} {mask bit i : ℕ} (p : Passed n s numbers mask bit i) (h : i < n) (x y : Float) (w : ℕ) (ew : w ≡ cond (ne x y) bit 0) (f : finite (numberAt s i) ≡ true) (ex : x ≡ numberAt s i) (ey : y ≡ clippedAt s i) where
   more : Passed n s (set numbers i y) (mask + w) (bit * 2) (suc i)
@@ -126,7 +126,7 @@ module _ {n : ℕ} {s : List ℕ} {numbers : List Float} {mask bit i : ℕ} (p :
     done = take-suc-set numbers i y (omega (arith, p .long)) ∙ ap₂ (λ (l : List Float) (v : Float). l ++ (v ∷ [])) (p .done) ey ∙ sym (numbers-more s i);
     bits = ap₂ _+_ (p .bits) (ew ∙ cc (ex, ey, p .power)) ∙ sym (mask-more s i);
     power = ap (λ (k : ℕ). k * 2) (p .power) ∙ sym (pow-suc 2 i);
-    under = omega (arith, small (ne x y) bit w ew, p .under);
+    under = omega (arith, small x y bit w ew, p .under);
   }
 
   pub turn : Passed n s (set numbers i y) (mask + w) (bit * 2) (i + 1)

@@ -1,6 +1,7 @@
 -- 'Working a card': nine values in f64, one rounding per operation, in the order written.
 use mathlib.Core.Bool.{Bool, true, cond, _&&_}
 use mathlib.Core.List.{List, [], _∷_}
+use Prim.Native.Nat.{ℕ}
 use lib.Ieee.{Float, binary64, ofBits, lt, mul, div, sub}
 use lib.Ieee.Scale.{finite}
 use Rattle.card.specs.declared.working.Parameters.{Parameters}
@@ -28,6 +29,10 @@ workedOf p =
       rex = div binary64 (mul binary64 four (p .is)) (p .ik);
       rsub = div binary64 (mul binary64 four (p .is)) (p .iks);
     }
+
+-- how many values are worked
+abbrev pub valueCount : ℕ
+valueCount = 9
 
 -- the nine in a row
 abbrev pub valuesOf : Worked → List Float

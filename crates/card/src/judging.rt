@@ -75,8 +75,14 @@ pub(crate) fn judge_numbers(x: &[f64; WIDTH]) -> Judged
         return Judged::Refused(Refusal::OutOfReach);
     };
     let w = working::work(parameters(x));
-    if working::all_finite(&working::values(w)) {
-        Judged::Card(card(w, octave, second, x[numbers::EXSUB] == 1.0, x[numbers::RCBLI] == 0.0))
+    if working::all_finite(working::values(w)) {
+        Judged::Card(card(
+            w,
+            octave,
+            second,
+            x[numbers::EXSUB] == 1.0,
+            x[numbers::RCBLI] == 0.0,
+        ))
     } else {
         Judged::Refused(Refusal::OutOfReach)
     }

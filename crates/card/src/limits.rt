@@ -14,7 +14,10 @@ pub(crate) fn rule_of(i: usize) -> Rule
     ensures { λ r. ⌜ r ≡ ruleOf i ⌝ }
 {
     match i {
-        numbers::MULT..=numbers::IS | numbers::IBF | numbers::ISS | numbers::RCBLX..=numbers::RCBLI => Rule::AtLeast(0.0),
+        numbers::MULT..=numbers::IS
+        | numbers::IBF
+        | numbers::ISS
+        | numbers::RCBLX..=numbers::RCBLI => Rule::AtLeast(0.0),
         numbers::IK | numbers::IKS => Rule::AtLeast(1e-12),
         numbers::BF => Rule::AtLeast(1e-4),
         numbers::XIBI | numbers::EXSUB => Rule::Between(0.0, 1.0),

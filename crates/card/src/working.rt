@@ -62,11 +62,21 @@ pub(crate) fn work(p: Parameters) -> Worked
 pub(crate) fn values(w: Worked) -> [f64; VALUES]
     ensures { λ r. ⌜ r ≡ valuesOf w ⌝ }
 {
-    [w.sn, w.bulk, w.side, w.nonideal, w.ex, w.sub, w.sf, w.rex, w.rsub]
+    [
+        w.sn,
+        w.bulk,
+        w.side,
+        w.nonideal,
+        w.ex,
+        w.sub,
+        w.sf,
+        w.rex,
+        w.rsub,
+    ]
 }
 
-pub(crate) fn all_finite(x: &[f64; VALUES]) -> bool
-    ensures { λ r. ⌜ r ≡ all finite (now (x .entry)) ⌝ }
+pub(crate) fn all_finite(x: [f64; VALUES]) -> bool
+    ensures { λ r. ⌜ r ≡ all finite x ⌝ }
 {
     let mut i: usize = 0;
     while i < VALUES {
