@@ -14,11 +14,12 @@ use Rattle.refusal.specs.Told.{told}
 use Rattle.refusal.specs.Clash.{clash}
 use Rattle.refusal.specs.Order.{Answer, refused, given, tells}
 use Rattle.card.specs.declared.octaves.Octave.the-variants.{Nanovolts, Out}
+use Rattle.card.specs.declared.working.Worked.{Worked}
 use Rattle.card.specs.declared.WorkedCard.{WorkedCard}
 use Rattle.card.specs.Limits.{zero, one, tenth}
 use Rattle.card.specs.Work.{workedOf, allFinite}
 use Rattle.card.specs.Octave.{ten-million, fifty-million, octaveGood, secondGood}
-use Rattle.card.specs.Judge.{parametersOf, exsub, rcbli, octave, level, mlf, product, cardFrom, level504, isSwitch, withinReach, judgeNumbers}
+use Rattle.card.specs.Judge.{parametersOf, exsub, rcbli, octave, level, mlf, product, cardFrom, cardOf, level504, isSwitch, withinReach, judgeNumbers}
 use Rattle.card.specs.inner.Octaves.{octaveIf, octaveOf, secondOf}
 use Rattle.card.specs.inner.Worked.{GoodMlf}
 use Rattle.card.proofs.Whole.{positive-of}
@@ -90,14 +91,15 @@ module _ (x : List Float) where
         pub at-10 : secondOf (product x) ≡ Out → refused (told OutOfReach) ≡ answer
         at-10 p = out-of-reach (rw (told-out (secondGood (product x)) _ p))
 
-        module _ (k : ℕ) (p : secondOf (product x) ≡ Nanovolts k) where
-          reach : withinReach x ≡ allFinite (workedOf (parametersOf x))
-          reach = rw (told-octave (secondGood (product x)) _ k p .0)
+        module _ (k : ℕ) (p : secondOf (product x) ≡ Nanovolts k) (w : Worked) (ew : w ≡ workedOf (parametersOf x)) where
+          reach : withinReach x ≡ allFinite w
+          reach = rw (told-octave (secondGood (product x)) _ k p .0, ew)
 
-          pub not-all : allFinite (workedOf (parametersOf x)) ≡ false → refused (told OutOfReach) ≡ answer
+          pub not-all : allFinite w ≡ false → refused (told OutOfReach) ≡ answer
           not-all a = out-of-reach (reach ∙ a)
 
-          pub taken : allFinite (workedOf (parametersOf x)) ≡ true → given (cardFrom (workedOf (parametersOf x)) n k (eq (exsub x) one) (eq (rcbli x) zero)) ≡ answer
-          taken a =
-              ap₂ (λ (u v : ℕ). given (cardFrom (workedOf (parametersOf x)) u v (eq (exsub x) one) (eq (rcbli x) zero))) (told-octave (octaveGood (octave x)) _ n o .1) (told-octave (secondGood (product x)) _ k p .1)
-              ∙ rw (is-504, e, good-octave, reach, a)
+          is-card : cardFrom w n k (eq (exsub x) one) (eq (rcbli x) zero) ≡ cardOf x
+          is-card = rw (told-octave (octaveGood (octave x)) _ n o .1, told-octave (secondGood (product x)) _ k p .1, ew)
+
+          pub taken : (c : WorkedCard) → c ≡ cardFrom w n k (eq (exsub x) one) (eq (rcbli x) zero) → allFinite w ≡ true → given c ≡ answer
+          taken c ec a = ap given (ec ∙ is-card) ∙ rw (is-504, e, good-octave, reach, a)

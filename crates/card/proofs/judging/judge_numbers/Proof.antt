@@ -5,7 +5,6 @@ use mathlib.Core.List.{List}
 use lib.Ieee.{Float, ne}
 use borrow.Author.Needs.{needs}
 use borrow.Author.Tests.{not-true, not-false}
-use Rattle.refusal.specs.Order.{given}
 use Rattle.card.specs.declared.octaves.Octave.the-variants.{Nanovolts}
 use Rattle.card.specs.Work.{workedOf, allFinite}
 use Rattle.card.specs.Judge.{level, level504, exsub, isSwitch, octave, product, parametersOf}
@@ -47,8 +46,8 @@ module _ (c : tie.After-all-finite) where
   is-worked : c .before .before .work .result ≡ workedOf (parametersOf (numbers (tested (before-second beyond-second))))
   is-worked = c .before .before .work .ensures ∙ ap workedOf (c .before .before .before .parameters .ensures)
 
-  finite-told : allFinite (workedOf (parametersOf (numbers (tested (before-second beyond-second))))) ≡ c .all-finite .result
-  finite-told = cc (is-worked)
+  finite-told : allFinite (c .before .before .work .result) ≡ c .all-finite .result
+  finite-told = cc
 
 returns-2 : tie.Need-returns-2
 returns-2 c =
@@ -81,8 +80,8 @@ returns-5 c =
     let n = beyond-second all in
     let o = before-second n in
     let t = tested o in
-    ap given (rw (is-worked all) at (c .card .ensures))
-    ∙ taken (numbers t) (is-504 t) (is-a-switch t) _ (is-octave o) _ (is-second n) (finite-told all ∙ c .before .before .before .if3 .taken)
+    let f = finite-told all ∙ c .before .before .before .if3 .taken in
+    taken (numbers t) (is-504 t) (is-a-switch t) _ (is-octave o) _ (is-second n) _ (is-worked all) _ (c .card .ensures) f
 
 returns-6 : tie.Need-returns-6
 returns-6 c =
@@ -90,7 +89,8 @@ returns-6 c =
     let n = beyond-second all in
     let o = before-second n in
     let t = tested o in
-    not-all (numbers t) (is-504 t) (is-a-switch t) _ (is-octave o) _ (is-second n) (finite-told all ∙ c .if3 .left)
+    let f = finite-told all ∙ c .if3 .left in
+    not-all (numbers t) (is-504 t) (is-a-switch t) _ (is-octave o) _ (is-second n) _ (is-worked all) f
 
 pub judge-numbers-spec : {M : Type 1} → statement M
 judge-numbers-spec =
