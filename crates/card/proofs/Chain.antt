@@ -10,12 +10,18 @@ use lib.Ieee.{Float, fin, binary64, ofBits, eq, ne, le, mul}
 use lib.Ieee.Positive.{above, positive, above-of-le, mul-mono}
 use borrow.Author.Tests.{not-true, not-false}
 use Rattle.refusal.specs.declared.Refusal.the-variants.{WrongLevel, BadExsub, BadOctave, OutOfReach}
+use Rattle.refusal.specs.Told.{told}
+use Rattle.refusal.specs.Clash.{clash}
+use Rattle.refusal.specs.Order.{Answer, refused, given, tells}
 use Rattle.card.specs.declared.octaves.Octave.the-variants.{Nanovolts, Out}
-use Rattle.card.specs.declared.Judged.the-variants.{Card, Refused}
+use Rattle.card.specs.declared.working.Worked.{Worked}
+use Rattle.card.specs.declared.WorkedCard.{WorkedCard}
 use Rattle.card.specs.Limits.{zero, one, tenth}
 use Rattle.card.specs.Work.{workedOf, allFinite}
-use Rattle.card.specs.Octave.{ten-million, fifty-million, octaveGood, secondGood, octaveIf, octaveOf, secondOf}
-use Rattle.card.specs.Judge.{parametersOf, exsub, rcbli, octave, level, mlf, product, cardFrom, level504, withinReach, judgeFrom7, GoodMlf}
+use Rattle.card.specs.Octave.{ten-million, fifty-million, octaveGood, secondGood}
+use Rattle.card.specs.Judge.{parametersOf, exsub, rcbli, octave, level, mlf, product, cardFrom, cardOf, level504, isSwitch, withinReach, judgeNumbers}
+use Rattle.card.specs.inner.Octaves.{octaveIf, octaveOf, secondOf}
+use Rattle.card.specs.inner.Worked.{GoodMlf}
 use Rattle.card.proofs.Whole.{positive-of}
 use Rattle.card.proofs.Range.{in-range, from}
 use Rattle.card.proofs.Clipped.{and-true}
@@ -23,10 +29,10 @@ use Rattle.card.proofs.Clipped.{and-true}
 -- ---- an octave's answer
 told-octave : (b : Bool) (k n : ℕ) → octaveIf b k ≡ Nanovolts n → (b ≡ true) × (n ≡ k)
 told-octave true k n e = (refl, cc)
-told-octave false k n e = let z : _≡_ {A = ℕ} 0 1 = cc in absurd (omega arith)
+told-octave false k n e = clash cc
 
 told-out : (b : Bool) (k : ℕ) → octaveIf b k ≡ Out → b ≡ false
-told-out true k e = let z : _≡_ {A = ℕ} 0 1 = cc in absurd (omega arith)
+told-out true k e = clash cc
 told-out false k e = refl
 
 -- ---- the product is at least 1,000,000
@@ -56,7 +62,10 @@ mlf-positive x g =
 
 -- ---- the tests, in their order
 module _ (x : List Float) where
-  pub at-7 : ne (level x) level504 ≡ true → Refused WrongLevel ≡ judgeFrom7 x
+  abbrev answer : Answer WorkedCard
+  answer = tells (judgeNumbers x)
+
+  pub at-7 : ne (level x) level504 ≡ true → refused (told WrongLevel) ≡ answer
   unfolding ne
   at-7 e = rw (not-true (eq (level x) level504) e)
 
@@ -65,31 +74,32 @@ module _ (x : List Float) where
     unfolding ne
     is-504 = not-false (eq (level x) level504) l
 
-    pub at-8 : (eq (exsub x) zero || eq (exsub x) one) ≡ false → Refused BadExsub ≡ judgeFrom7 x
+    pub at-8 : isSwitch (exsub x) ≡ false → refused (told BadExsub) ≡ answer
     at-8 e = rw (is-504, e)
 
-    module _ (e : (eq (exsub x) zero || eq (exsub x) one) ≡ true) where
-      pub at-9 : octaveOf (octave x) ≡ Out → Refused BadOctave ≡ judgeFrom7 x
+    module _ (e : isSwitch (exsub x) ≡ true) where
+      pub at-9 : octaveOf (octave x) ≡ Out → refused (told BadOctave) ≡ answer
       at-9 o = rw (is-504, e, told-out (octaveGood (octave x)) _ o)
 
       module _ (n : ℕ) (o : octaveOf (octave x) ≡ Nanovolts n) where
         pub good-octave : octaveGood (octave x) ≡ true
         good-octave = told-octave (octaveGood (octave x)) _ n o .0
 
-        out-of-reach : withinReach x ≡ false → Refused OutOfReach ≡ judgeFrom7 x
+        out-of-reach : withinReach x ≡ false → refused (told OutOfReach) ≡ answer
         out-of-reach r = rw (is-504, e, good-octave, r)
 
-        pub at-10 : secondOf (product x) ≡ Out → Refused OutOfReach ≡ judgeFrom7 x
-        at-10 p = out-of-reach (ap (λ (b : Bool). b && allFinite (workedOf (parametersOf x))) (told-out (secondGood (product x)) _ p))
+        pub at-10 : secondOf (product x) ≡ Out → refused (told OutOfReach) ≡ answer
+        at-10 p = out-of-reach (rw (told-out (secondGood (product x)) _ p))
 
-        module _ (k : ℕ) (p : secondOf (product x) ≡ Nanovolts k) where
-          reach : withinReach x ≡ allFinite (workedOf (parametersOf x))
-          reach = ap (λ (b : Bool). b && allFinite (workedOf (parametersOf x))) (told-octave (secondGood (product x)) _ k p .0)
+        module _ (k : ℕ) (p : secondOf (product x) ≡ Nanovolts k) (w : Worked) (ew : w ≡ workedOf (parametersOf x)) where
+          reach : withinReach x ≡ allFinite w
+          reach = rw (told-octave (secondGood (product x)) _ k p .0, ew)
 
-          pub not-all : allFinite (workedOf (parametersOf x)) ≡ false → Refused OutOfReach ≡ judgeFrom7 x
+          pub not-all : allFinite w ≡ false → refused (told OutOfReach) ≡ answer
           not-all a = out-of-reach (reach ∙ a)
 
-          pub taken : allFinite (workedOf (parametersOf x)) ≡ true → Card (cardFrom (workedOf (parametersOf x)) n k (eq (exsub x) one) (eq (rcbli x) zero)) ≡ judgeFrom7 x
-          taken a =
-              ap₂ (λ (u v : ℕ). Card (cardFrom (workedOf (parametersOf x)) u v (eq (exsub x) one) (eq (rcbli x) zero))) (told-octave (octaveGood (octave x)) _ n o .1) (told-octave (secondGood (product x)) _ k p .1)
-              ∙ rw (is-504, e, good-octave, reach, a)
+          is-card : cardFrom w n k (eq (exsub x) one) (eq (rcbli x) zero) ≡ cardOf x
+          is-card = rw (told-octave (octaveGood (octave x)) _ n o .1, told-octave (secondGood (product x)) _ k p .1, ew)
+
+          pub taken : (c : WorkedCard) → c ≡ cardFrom w n k (eq (exsub x) one) (eq (rcbli x) zero) → allFinite w ≡ true → given c ≡ answer
+          taken c ec a = ap given (ec ∙ is-card) ∙ rw (is-504, e, good-octave, reach, a)

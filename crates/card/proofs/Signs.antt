@@ -14,7 +14,7 @@ use borrow.Author.Tests.{ltb-false, eq-eqb}
 use Rattle.card.specs.declared.limits.Rule.the-variants.{AtLeast, Between}
 use Rattle.card.specs.Limits as limits
 use Rattle.card.specs.Limits.{plainOf, clipTo}
-use Rattle.card.specs.Sign.{unsigned}
+use Rattle.card.specs.laws.Sign.{unsigned}
 use Rattle.card.proofs.Raise.{zero-is}
 
 -- a finite number without a minus sign

@@ -1,4 +1,4 @@
--- Every finite f64 is some units of 2^-1074, so its split is within bounds, and 2048 added to its power loses nothing.
+-- Every finite f64 is some units of 2^-1074, so its split is within bounds, and the bias added to its power loses nothing.
 use mathlib.Core.Path.{_≡_, sym, ap, subst, _∙_}
 use mathlib.Core.Bool.{Bool}
 use Prim.Native.Nat.{ℕ, zero, suc, _+_, _/_, _%_, _^_, _≤_, _<_}
@@ -9,7 +9,7 @@ use lib.Ieee.{Float, binary64, fits, odd, ofBits, toBits, ofFields}
 use lib.Ieee.Bits.{ofBits-toBits}
 use lib.Ieee.Digits.{size-le}
 use lib.Ieee.Scale.{finite}
-use Rattle.float.specs.Split.{wholeF, splitB, splitOf, IsSplit}
+use Rattle.float.specs.Split.{wholeF, splitB, splitOf, bias, IsSplit}
 use Rattle.float.proofs.Digits.{filled, some-digit}
 use Rattle.float.proofs.Units.{unitsOf, odd-split, odd-power, unled-value, led-value}
 use Rattle.float.proofs.Words.{all-ones}
@@ -63,7 +63,7 @@ module _ (x : Float) (f : T (fits binary64 x)) (g : T (finite x)) where
   is-split = let u = in-units x f g in subst IsSplit (sym same-split) (bounds (u .q) (u .k) (u .few) (u .near))
 
   -- the power that a caller reads off is the paper's b
-  pub power-kept : subℕ (splitOf x .up) 2048 ≡ splitB x
+  pub power-kept : subℕ (splitOf x .up) bias ≡ splitB x
   power-kept =
       let u = in-units x f g in
-      ap (λ v. subℕ (v .up) 2048) same-split ∙ odd-power (u .sign) (u .q) (u .k) (u .few) ∙ ap splitB (sym (u .value))
+      ap (λ v. subℕ (v .up) bias) same-split ∙ odd-power (u .sign) (u .q) (u .k) (u .few) ∙ ap splitB (sym (u .value))

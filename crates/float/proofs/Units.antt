@@ -12,7 +12,7 @@ use lib.Ieee.{Float, nan, inf, fin, binary64, odd, minus, size, ofFields}
 use lib.Ieee.Digits.{size-le}
 use lib.Ieee.Scale.{finite}
 use Rattle.float.specs.declared.Split.{Split}
-use Rattle.float.specs.Split.{wholeF, powerK, splitA, splitB, splitOf, biased}
+use Rattle.float.specs.Split.{wholeF, powerK, splitA, splitB, splitOf, bias, biased}
 use Rattle.float.proofs.Difference.{same-difference, sum-difference, minus-difference, biased-difference}
 use Rattle.float.proofs.Digits.{size-is, size-shifted, zeros-back}
 
@@ -77,7 +77,7 @@ module _ (s : Bool) (q k : ℕ) (h : suc q < 2 ^ 53) where
 
 -- the split by its units, in the numbers that the code has
 abbrev pub unitsOf : ℕ → ℕ → Split
-unitsOf zero k = record { a = 0; up = 2048 }
+unitsOf zero k = record { a = 0; up = bias }
 unitsOf (suc q) k = record { a = wholeF (suc q) / 2 ^ 22; up = k + size (suc q) + 943 }
 
 kept : (x : ℕ) → biased (subℕ x 1105) ≡ x + 943
@@ -92,10 +92,10 @@ odd-split s zero k h = ap splitOf (odd-zero s k)
 odd-split s (suc q) k h =
     ap₂ (λ (x y : ℕ). record { a = x; up = y }) (odd-a s q k h) (ap biased (odd-b s q k h) ∙ kept (k + size (suc q)))
 
-pub odd-power : (s : Bool) (q k : ℕ) → q < 2 ^ 53 → subℕ (unitsOf q k .up) 2048 ≡ splitB (odd 53 s q k 1074)
+pub odd-power : (s : Bool) (q k : ℕ) → q < 2 ^ 53 → subℕ (unitsOf q k .up) bias ≡ splitB (odd 53 s q k 1074)
 odd-power s zero k h = ap splitB (sym (odd-zero s k))
 odd-power s (suc q) k h =
-    same-difference (k + size (suc q) + 943) 2048 (k + size (suc q)) 1105 (omega arith) ∙ sym (odd-b s q k h)
+    same-difference (k + size (suc q) + 943) bias (k + size (suc q)) 1105 (omega arith) ∙ sym (odd-b s q k h)
 
 -- as many units, whatever their form
 pub plain-split : (n : ℕ) → splitOf (fin false n (negsuc 1073)) ≡ unitsOf n 0

@@ -25,13 +25,20 @@ splitB (inf s) = pos 0
 splitB (fin s zero e) = pos 0
 splitB (fin s (suc m) e) = powerK (suc m) e +ℤ pos 22
 
--- how the desk keeps b: as b + 2048, which is never negative (`power-kept` in proofs/Kept)
+-- how the desk keeps b: with the bias added, so that it is never negative (`power-kept` in proofs/Kept)
+abbrev pub bias : ℕ
+bias = 2048
+
 abbrev pub biased : ℤ → ℕ
-biased (pos n) = n + 2048
-biased (negsuc n) = 2048 - suc n
+biased (pos n) = n + bias
+biased (negsuc n) = bias - suc n
 
 abbrev pub splitOf : Float → Split
 splitOf x = record { a = splitA x; up = biased (splitB x) }
+
+-- what stands where there is no value
+abbrev pub noSplit : Split
+noSplit = record { a = 0; up = 0 }
 
 -- what the split of a finite value is sure to be (`is-split` in proofs/Kept)
 pub record IsSplit (v : Split) : Type 0 where

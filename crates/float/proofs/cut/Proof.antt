@@ -9,7 +9,7 @@ use lib.Ieee.{Float, nan, inf, fin, binary64, fits, ofFields}
 use lib.Ieee.Scale.{finite}
 use borrow.Author.Needs.{needs}
 use Rattle.float.specs.declared.Split.{Split}
-use Rattle.float.specs.Split.{splitOf}
+use Rattle.float.specs.Split.{splitOf, bias}
 use Rattle.float.proofs.Words.{finite-no-nan}
 use Rattle.float.proofs.Units.{odd-split, plain-split, led-units, led-value, unled-value}
 use Rattle.float.proofs.Kept.{read-back}
@@ -27,7 +27,7 @@ high x s (suc j) n e z l f =
     sym (led-units n j l) ∙ sym (odd-split s (2 ^ 52 + n) j (omega arith))
     ∙ ap splitOf (sym (led-value s j n (subst (λ (y : Float). T (finite y)) (sym e) f)) ∙ e)
 
-none : (x : Float) → finite x ≡ false → record { a = 0; up = 2048 } ≡ splitOf x
+none : (x : Float) → finite x ≡ false → record { a = 0; up = bias } ≡ splitOf x
 none nan e = refl
 none (inf s) e = refl
 none (fin s m d) e = absurd (subst T e tt)

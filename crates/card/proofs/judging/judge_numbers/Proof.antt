@@ -1,16 +1,14 @@
 -- `card::judging::judge_numbers` meets its contract: each return is the answer of the test that led there.
 use mathlib.Core.Path.{_≡_, sym, ap, _∙_}
-use mathlib.Core.Bool.{_||_, true, false}
+use mathlib.Core.Bool.{true, false}
 use mathlib.Core.List.{List}
-use lib.Ieee.{Float, eq, ne}
+use lib.Ieee.{Float, ne}
 use borrow.Author.Needs.{needs}
 use borrow.Author.Tests.{not-true, not-false}
 use Rattle.card.specs.declared.octaves.Octave.the-variants.{Nanovolts}
-use Rattle.card.specs.declared.Judged.the-variants.{Card}
-use Rattle.card.specs.Limits.{zero, one}
 use Rattle.card.specs.Work.{workedOf, allFinite}
-use Rattle.card.specs.Octave.{octaveOf, secondOf}
-use Rattle.card.specs.Judge.{level, level504, exsub, octave, product}
+use Rattle.card.specs.Judge.{level, level504, exsub, isSwitch, octave, product, parametersOf}
+use Rattle.card.specs.inner.Octaves.{octaveOf, secondOf}
 use Rattle.card.proofs.Chain.{at-7, at-8, at-9, at-10, good-octave, product-above, mlf-positive, not-all, taken}
 use Rattle.card.proofs.judging.judge_numbers.Statement.{statement}
 use Rattle.card.proofs.judging.judge_numbers.Tie as tie
@@ -23,7 +21,7 @@ module _ (c : tie.Else2) where
   is-504 : ne (level numbers) level504 ≡ false
   is-504 = c .before .before .before .if1 .left
 
-  is-a-switch : (eq (exsub numbers) zero || eq (exsub numbers) one) ≡ true
+  is-a-switch : isSwitch (exsub numbers) ≡ true
   is-a-switch = sym (c .before .is-switch .ensures) ∙ not-false (c .before .is-switch .result) (c .if2 .left)
 
 module _ (c : tie.After-octave) where
@@ -40,46 +38,27 @@ module _ (c : tie.After-second) where
   is-second : secondOf (product (numbers (tested before-second))) ≡ Nanovolts (c .second .given .0 .0)
   is-second = sym (c .before .before .second-of .ensures) ∙ c .second .given .1
 
-element-copy-out-if1 : tie.Need-element-copy-out-if1
-element-copy-out-if1 c = search needs
+-- all the values are worked, and whether they are finite is known
+module _ (c : tie.After-all-finite) where
+  abbrev beyond-second : tie.After-second
+  beyond-second = c .before .before .before .before .before
 
-returns : tie.Need-returns
-returns c = at-7 (c .before .before .args .x .now) (c .if1 .taken)
+  is-worked : c .before .before .work .result ≡ workedOf (parametersOf (numbers (tested (before-second beyond-second))))
+  is-worked = c .before .before .work .ensures ∙ ap workedOf (c .before .before .before .parameters .ensures)
 
-element-copy-out-is-switch : tie.Need-element-copy-out-is-switch
-element-copy-out-is-switch c = search needs
-
-is-switch-requires : tie.Need-is-switch-requires
-is-switch-requires c κs = search needs
+  finite-told : allFinite (c .before .before .work .result) ≡ c .all-finite .result
+  finite-told = cc
 
 returns-2 : tie.Need-returns-2
 returns-2 c =
     let at = c .before .before .before in
     at-8 (at .before .before .args .x .now) (at .if1 .left) (sym (c .before .is-switch .ensures) ∙ not-true (c .before .is-switch .result) (c .if2 .taken))
 
-element-copy-out-octave-of : tie.Need-element-copy-out-octave-of
-element-copy-out-octave-of c = search needs
-
-octave-of-requires : tie.Need-octave-of-requires
-octave-of-requires c κs = search needs
-
-enum-known-octave : tie.Need-enum-known-octave
-enum-known-octave c = search needs
-
-enum-told : tie.Need-enum-told
-enum-told c = search needs
-
 returns-3 : tie.Need-returns-3
 returns-3 c =
     let octave = c .before .before in
     let t = octave .before .before in
     at-9 (numbers t) (is-504 t) (is-a-switch t) (sym (octave .octave-of .ensures) ∙ c .enum-told .given .1)
-
-element-copy-out-second-of : tie.Need-element-copy-out-second-of
-element-copy-out-second-of c = search needs
-
-element-copy-out-second-of-2 : tie.Need-element-copy-out-second-of-2
-element-copy-out-second-of-2 c = search needs
 
 second-of-requires : tie.Need-second-of-requires
 second-of-requires c κs =
@@ -88,12 +67,6 @@ second-of-requires c κs =
     let g = t .before .before .before .before .before .pre in
     product-above _ _ (mlf-positive (numbers t) g) (g .least) (good-octave (numbers t) (is-504 t) (is-a-switch t) _ (is-octave o))
 
-enum-known-second : tie.Need-enum-known-second
-enum-known-second c = search needs
-
-enum-told-2 : tie.Need-enum-told-2
-enum-told-2 c = search needs
-
 returns-4 : tie.Need-returns-4
 returns-4 c =
     let second = c .before .before in
@@ -101,68 +74,50 @@ returns-4 c =
     let t = tested o in
     at-10 (numbers t) (is-504 t) (is-a-switch t) _ (is-octave o) (sym (second .second-of .ensures) ∙ c .enum-told2 .given .1)
 
-parameters-requires : tie.Need-parameters-requires
-parameters-requires c κs = search needs
-
-work-requires : tie.Need-work-requires
-work-requires c κs = search needs
-
-all-finite-requires : tie.Need-all-finite-requires
-all-finite-requires c κs = search needs
-
-element-copy-out-card : tie.Need-element-copy-out-card
-element-copy-out-card c = search needs
-
-element-copy-out-card-2 : tie.Need-element-copy-out-card-2
-element-copy-out-card-2 c = search needs
-
-card-requires : tie.Need-card-requires
-card-requires c κs = search needs
-
 returns-5 : tie.Need-returns-5
 returns-5 c =
     let all = c .before .before .before .before in
-    let n = all .before .before .before .before in
+    let n = beyond-second all in
     let o = before-second n in
     let t = tested o in
-    let w = all .before .work .ensures ∙ ap workedOf (all .before .before .parameters .ensures) in
-    ap Card (rw w at (c .card .ensures))
-    ∙ taken (numbers t) (is-504 t) (is-a-switch t) _ (is-octave o) _ (is-second n) (ap allFinite (sym w) ∙ sym (all .all-finite .ensures) ∙ c .before .before .before .if3 .taken)
+    let f = finite-told all ∙ c .before .before .before .if3 .taken in
+    taken (numbers t) (is-504 t) (is-a-switch t) _ (is-octave o) _ (is-second n) _ (is-worked all) _ (c .card .ensures) f
 
 returns-6 : tie.Need-returns-6
 returns-6 c =
     let all = c .before in
-    let n = all .before .before .before .before in
+    let n = beyond-second all in
     let o = before-second n in
     let t = tested o in
-    let w = all .before .work .ensures ∙ ap workedOf (all .before .before .parameters .ensures) in
-    not-all (numbers t) (is-504 t) (is-a-switch t) _ (is-octave o) _ (is-second n) (ap allFinite (sym w) ∙ sym (all .all-finite .ensures) ∙ c .if3 .left)
+    let f = finite-told all ∙ c .if3 .left in
+    not-all (numbers t) (is-504 t) (is-a-switch t) _ (is-octave o) _ (is-second n) _ (is-worked all) f
 
 pub judge-numbers-spec : {M : Type 1} → statement M
 judge-numbers-spec =
     tie.close
     (tie.spec
-    element-copy-out-if1
-    returns
-    element-copy-out-is-switch
-    is-switch-requires
+    (λ c. search needs)
+    (λ c. at-7 (c .before .before .args .x .now) (c .if1 .taken))
+    (λ c. search needs)
+    (λ c κs. search needs)
     returns-2
-    element-copy-out-octave-of
-    octave-of-requires
-    enum-known-octave
-    enum-told
+    (λ c. search needs)
+    (λ c κs. search needs)
+    (λ c. search needs)
+    (λ c. search needs)
     returns-3
-    element-copy-out-second-of
-    element-copy-out-second-of-2
+    (λ c. search needs)
+    (λ c. search needs)
     second-of-requires
-    enum-known-second
-    enum-told-2
+    (λ c. search needs)
+    (λ c. search needs)
     returns-4
-    parameters-requires
-    work-requires
-    all-finite-requires
-    element-copy-out-card
-    element-copy-out-card-2
-    card-requires
+    (λ c κs. search needs)
+    (λ c κs. search needs)
+    (λ c κs. search needs)
+    (λ c κs. search needs)
+    (λ c. search needs)
+    (λ c. search needs)
+    (λ c κs. search needs)
     returns-5
     returns-6)

@@ -1,0 +1,4 @@
+-- Words that inner contracts use, and what callers may count on.
+pub mod Refused
+pub mod Octaves
+pub mod Worked
