@@ -13,7 +13,7 @@ use lib.Ieee.Scale.{finite}
 use borrow.Author.Tests.{leb-true, not-false}
 use Rattle.refusal.specs.declared.Refusal.the-variants.{Malformed, NotFinite, WrongLevel, BadExsub, BadOctave, OutOfReach}
 use Rattle.refusal.specs.Order.{Verdict, yes, refuseIf, passes-if}
-use Rattle.float.specs.Split.{splitB, splitOf, bias, IsSplit}
+use Rattle.float.specs.Split.{splitB, splitOf, splitBias, IsSplit}
 use Rattle.float.proofs.Kept.{is-split, power-kept}
 use Rattle.card.specs.declared.working.Parameters.{Parameters}
 use Rattle.card.specs.declared.WorkedCard.{WorkedCard}
@@ -100,8 +100,8 @@ judged-is-worked s c e =
     subst IsWorked (sym (p .card)) (card-is-worked (clippedUp s width) g (p .octave) (p .reach))
 
 -- the power that a caller reads off a card's split is the paper's b
-pub judged-powers : (s : List ℕ) (c : WorkedCard) → judgeOf s ≡ yes c → Each (λ v. subℕ (splitOf v .up) bias ≡ splitB v) (valuesOf (workedOf (parametersOf (clippedUp s width))))
+pub judged-powers : (s : List ℕ) (c : WorkedCard) → judgeOf s ≡ yes c → Each (λ v. subℕ splitBias (splitOf v .down) ≡ splitB v) (valuesOf (workedOf (parametersOf (clippedUp s width))))
 judged-powers s c e =
     let p = passes s c e in
     let x = clippedUp s width in
-    each-worked (λ v. subℕ (splitOf v .up) bias ≡ splitB v) power-kept (parametersOf x) (and-true (secondGood (product x)) _ (p .reach) .1)
+    each-worked (λ v. subℕ splitBias (splitOf v .down) ≡ splitB v) power-kept (parametersOf x) (and-true (secondGood (product x)) _ (p .reach) .1)

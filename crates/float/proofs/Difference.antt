@@ -1,4 +1,4 @@
--- The difference of two natural numbers as a whole number, and how it is kept with the bias added.
+-- The difference of two natural numbers as a whole number, and how it is kept, taken from the bias.
 use mathlib.Core.Path.{_≡_, sym, ap, ap₂, _∙_}
 use mathlib.Core.Logic.{_⊎_, inl, inr}
 use Prim.Native.Nat.{ℕ, suc, _+_, _-_, _≤_, _<_}
@@ -7,7 +7,7 @@ use native.Mathlib.Decide.{decLt}
 use lib.IntN.{ℤ, pos, negsuc, subℕ, _+ℤ_}
 use lib.Ieee.{minus}
 use borrow.Author.Tests.{le-ltb, lt-ltb, le-leb, lt-leb}
-use Rattle.float.specs.Split.{bias, biased}
+use Rattle.float.specs.Split.{splitBias, keptPower}
 
 side : (a b : ℕ) → (a < b) ⊎ (b ≤ a)
 side a b = of (decLt a b)
@@ -46,9 +46,9 @@ minus-difference a b = of (side a b)
     of (inl h) = rw (lt-leb b a h) (sym (under a b h))
     of (inr h) = rw (le-leb b a h) (sym (over a b h))
 
-pub biased-difference : (a b : ℕ) → b ≤ a + bias → biased (subℕ a b) ≡ a + bias - b
-biased-difference a b l = of (side a b)
+pub kept-difference : (a b : ℕ) → a ≤ b + splitBias → keptPower (subℕ a b) ≡ b + splitBias - a
+kept-difference a b l = of (side a b)
   where
-    of : (a < b) ⊎ (b ≤ a) → biased (subℕ a b) ≡ a + bias - b
-    of (inl h) = ap biased (under a b h) ∙ omega arith
-    of (inr h) = ap biased (over a b h) ∙ omega arith
+    of : (a < b) ⊎ (b ≤ a) → keptPower (subℕ a b) ≡ b + splitBias - a
+    of (inl h) = ap keptPower (under a b h) ∙ omega arith
+    of (inr h) = ap keptPower (over a b h) ∙ omega arith

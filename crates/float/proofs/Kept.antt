@@ -9,7 +9,7 @@ use lib.Ieee.{Float, binary64, fits, odd, ofBits, toBits, ofFields}
 use lib.Ieee.Bits.{ofBits-toBits}
 use lib.Ieee.Digits.{size-le}
 use lib.Ieee.Scale.{finite}
-use Rattle.float.specs.Split.{wholeF, splitB, splitOf, bias, IsSplit}
+use Rattle.float.specs.Split.{wholeF, splitB, splitOf, splitBias, IsSplit}
 use Rattle.float.proofs.Digits.{filled, some-digit}
 use Rattle.float.proofs.Units.{unitsOf, odd-split, odd-power, unled-value, led-value}
 use Rattle.float.proofs.Words.{all-ones}
@@ -55,15 +55,18 @@ bounds (suc q) k h l =
     sized : (x : ℕ) → 2 ^ 52 ≤ x → x < 2 ^ 53 → (x / 2 ^ 22 < 2147483648) × (1073741824 ≤ x / 2 ^ 22)
     sized x a b = (omega arith, omega arith)
 
+near-enough : {k : ℕ} → k ≤ 2045 → k ≤ 2047
+near-enough h = omega arith
+
 module _ (x : Float) (f : T (fits binary64 x)) (g : T (finite x)) where
   same-split : splitOf x ≡ unitsOf (in-units x f g .q) (in-units x f g .k)
-  same-split = let u = in-units x f g in ap splitOf (u .value) ∙ odd-split (u .sign) (u .q) (u .k) (u .few)
+  same-split = let u = in-units x f g in ap splitOf (u .value) ∙ odd-split (u .sign) (u .q) (u .k) (u .few) (near-enough (u .near))
 
   pub is-split : IsSplit (splitOf x)
   is-split = let u = in-units x f g in subst IsSplit (sym same-split) (bounds (u .q) (u .k) (u .few) (u .near))
 
   -- the power that a caller reads off is the paper's b
-  pub power-kept : subℕ (splitOf x .up) bias ≡ splitB x
+  pub power-kept : subℕ splitBias (splitOf x .down) ≡ splitB x
   power-kept =
       let u = in-units x f g in
-      ap (λ v. subℕ (v .up) bias) same-split ∙ odd-power (u .sign) (u .q) (u .k) (u .few) ∙ ap splitB (sym (u .value))
+      ap (λ v. subℕ splitBias (v .down)) same-split ∙ odd-power (u .sign) (u .q) (u .k) (u .few) (near-enough (u .near)) ∙ ap splitB (sym (u .value))
