@@ -1,6 +1,3 @@
-pub mod Powers
-pub mod Readied
-pub mod Dividing
-pub mod Outcomes
-pub mod Laws
-pub mod Levels
+pub mod Tests
+pub mod Roots
+pub mod RowLaws

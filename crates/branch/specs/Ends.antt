@@ -3,15 +3,14 @@ use mathlib.Core.Path.{_≡_, refl}
 use mathlib.Core.Bool.{Bool, true, false}
 use mathlib.Core.List.{List, map}
 use Prim.Native.Nat.{ℕ}
-use Rattle.branch.specs.Rows.{Row, rowsFor}
-use Rattle.branch.specs.Ticks.{seatOf}
+use Rattle.branch.specs.Rows.{Row, roleIndex, rowsFor}
 
 -- of any rows
 abbrev pub fromsOf : List Row → List ℕ
-fromsOf rows = map (λ (r : Row). seatOf (r .from)) rows
+fromsOf rows = map (λ (r : Row). roleIndex (r .from)) rows
 
 abbrev pub tosOf : List Row → List ℕ
-tosOf rows = map (λ (r : Row). seatOf (r .to)) rows
+tosOf rows = map (λ (r : Row). roleIndex (r .to)) rows
 
 -- of a transistor's
 abbrev pub fromRoles : List ℕ

@@ -1,27 +1,38 @@
-// T's and ratios of a card at given voltages, each held at the first number that is too much.
+// T's and ratios of a card at given voltages. Above its limit a number need not be right, but only above it.
 ghost use mathlib.Core.Path.{_≡_};
 ghost use mathlib.Core.List.{map};
 ghost use Prim.Native.Nat.{_<_};
 ghost use lib.ListN.{getD};
 ghost use lib.IntN.{pos, _-ℤ_};
+ghost use Rattle.volts.specs.Volts.{givenBack, AllNear};
+ghost use Rattle.float.specs.Split.{IsSplit};
 ghost use Rattle.octave.specs.Table.{entries};
-ghost use Rattle.octave.specs.Worked.{Worked};
-ghost use Rattle.branch.specs.Rows.{back};
-ghost use Rattle.branch.specs.Ticks.{valueAt, wholeTicks, wholeParts, times, expOf, tickOf, biasOf};
-ghost use Rattle.branch.specs.Ready.{aloneOf, heldTicks, heldParts, gainAt, termsOf, lowered, Raised, Askable};
+ghost use Rattle.octave.specs.inner.Reciprocal.{IsReciprocal};
+ghost use Rattle.card.specs.inner.Worked.{IsWorked};
+ghost use Rattle.branch.specs.Rows.{roles, termX};
+ghost use Rattle.branch.specs.Ticks.{expOf, biasOf, tickOf};
+ghost use Rattle.branch.specs.Outcome.{tickLimit};
+ghost use Rattle.branch.specs.inner.Ready.{aloneOf, quietOf, quieter, expAt, Askable};
+ghost use Rattle.branch.specs.inner.Terms.{UpTo, scaledOf, Sized, CollectorTerms, TermsOf};
+use crate::ROLES;
 use crate::Ready;
 use crate::Terms;
+use card::WorkedCard;
 use float::Split;
-use octave::Gain;
-use octave::Octave;
+use octave::Exponential;
+use octave::Reciprocal;
 use octave::Table;
 
-// The first numbers that are too much for a T and for a ratio.
-pub(crate) const TICKS_OVER: u64 = 9007199254740993;
+// The first number that is too much for a T by itself.
+const TICKS_OVER: u64 = 9007199254740993;
 
-pub(crate) const PARTS_OVER: u64 = 1099511627777;
+// By how much more a ratio is shifted down than ticks are: it counts parts of 2^-20, they 2^-50.
+const PARTS: u64 = 30;
 
-// The places of the roles among the seven voltages.
+// Shifted down by so many places or more, nothing is left of a product.
+const NOTHING: u64 = 63;
+
+// The roles' places among the voltages.
 const E1: usize = 0;
 
 const B1: usize = 1;
@@ -36,91 +47,117 @@ const C4: usize = 5;
 
 const S: usize = 6;
 
-fn wide(x: u32) -> u64
-    ensures { λ r. ⌜ r ≡ x ⌝ }
-{
-    x as u64
-}
+// Ticks of a value whose power is kept as `down`: 2^50 of them make an ampere.
+const ALONE: u64 = float::BIAS as u64 + 50;
 
-// T of a value by itself.
+// T of a value by itself, held at the first number that is too much.
 pub(crate) fn alone(x: Split) -> u64
     ensures { λ r. ⌜ r ≡ aloneOf x ⌝ }
 {
-    whole::capped(x.a as u64, x.up as u64, 1998, TICKS_OVER)
+    whole::floor_scale(x.a as u64, ALONE, x.down as u64, TICKS_OVER)
 }
 
-// T of a value times an exponential.
-fn ticks(x: Split, g: Gain) -> u64
-    ensures { λ r. ⌜ r ≡ heldTicks (wholeTicks (times (valueAt x) (gainAt g))) ⌝ }
+fn quieter_of(x: Split, least: u64) -> u64
+    ensures { λ r. ⌜ r ≡ quieter x least ⌝ }
 {
-    whole::capped(
-        (x.a as u64) * (g.m as u64),
-        x.up as u64 + g.whole as u64,
-        10220,
-        TICKS_OVER,
-    )
+    let down = x.down as u64;
+    if down < least { down } else { least }
 }
 
-// A ratio times an exponential, in parts of 2^-20.
-fn parts(x: Split, g: Gain) -> u64
-    ensures { λ r. ⌜ r ≡ heldParts (wholeParts (times (valueAt x) (gainAt g))) ⌝ }
+// Below this n of the exponential from B1 to C4, every T and ratio that is worked with it is 0.
+pub(crate) fn quiet_below(c: WorkedCard) -> u64
+    ensures { λ r. ⌜ r ≡ quietOf c ⌝ }
 {
-    whole::capped(
-        (x.a as u64) * (g.m as u64),
-        x.up as u64 + g.whole as u64,
-        10250,
-        PARTS_OVER,
-    )
+    let a = quieter_of(c.ex, c.sub.down as u64);
+    let b = quieter_of(c.rex, a);
+    whole::excess(quieter_of(c.rsub, b), NOTHING)
+}
+
+// A value times an exponential: in ticks, or with `more` binary places fewer.
+fn scaled(x: Split, g: Exponential, more: u64) -> u64
+    requires { ⌜ IsSplit x × (Sized g × (more ≤ moreParts)) ⌝ }
+    ensures { λ r. ⌜ r ≡ scaledOf x g more ⌝ }
+{
+    whole::shift_down((x.a as u64) * g.m, whole::excess(x.down as u64 + more, g.n))
 }
 
 // The exponential of the voltage from role p to role q.
-fn gain(t: &Table, v: &[u32; 7], p: usize, q: usize, o: Octave) -> Gain
-    requires { ⌜ (p < 7) × (q < 7) ⌝ }
-    requires { ⌜ now t ≡ entries ⌝ }
-    requires { ⌜ Raised (now v) ⌝ }
-    requires { ⌜ Worked o ⌝ }
-    ensures { λ r. ⌜ gainAt r ≡ expOf (getD (map lowered (now (v .entry))) p (pos 0) -ℤ getD (map lowered (now (v .entry))) q (pos 0)) (o .w) ⌝ }
+fn exponential(t: &Table, v: &[u32; ROLES], p: usize, q: usize, o: Reciprocal) -> Exponential
+    requires { ⌜ (p < roles) × ((q < roles) × ((now t ≡ entries) × (AllNear (now v) × IsReciprocal o))) ⌝ }
+    ensures { λ r. ⌜ IsExp (o .w) (getD (map givenBack (now (v .entry))) p (pos 0) -ℤ getD (map givenBack (now (v .entry))) q (pos 0)) r ⌝ }
 {
-    let u = wide(v[p]) + 5000000 - wide(v[q]);
-    octave::gain_at(t, u, o)
+    let a = v[p];
+    let b = v[q];
+    octave::exponential_at(t, volts::across(a, b), o)
 }
 
-// What row 6 is less than: the card's own T, or with EXSUB the T at the voltage from S to C4.
-fn back_of(t: &Table, r: Ready, v: &[u32; 7]) -> u64
+// What rows 5 and 6 work with the exponential from B1 to C4.
+pub(crate) struct Collector {
+    ex: u64,
+    sub: u64,
+    exratio: u64,
+    subratio: u64,
+}
+
+// All four are 0 where the junction is far below conducting, as it mostly is: then none is worked.
+fn collector(r: Ready, g: Exponential) -> Collector
+    requires { ⌜ IsReady r × Sized g ⌝ }
+    ensures { λ x. ⌜ CollectorTerms (r .card) (expAt g) x ⌝ }
+{
+    if g.n < r.quiet {
+        return Collector {
+            ex: 0,
+            sub: 0,
+            exratio: 0,
+            subratio: 0,
+        };
+    }
+    let c = r.card;
+    Collector {
+        ex: scaled(c.ex, g, 0),
+        sub: scaled(c.sub, g, 0),
+        exratio: scaled(c.rex, g, PARTS),
+        subratio: scaled(c.rsub, g, PARTS),
+    }
+}
+
+// X of row 6: the card's own T, or with EXSUB the T at the voltage from S to C4.
+fn term_x(t: &Table, r: Ready, v: &[u32; ROLES]) -> u64
     requires { ⌜ Askable (now t) r (now v) ⌝ }
-    ensures { λ x. ⌜ x ≡ heldTicks (tickOf (r .card) (biasOf (map lowered (now (v .entry)))) (back (r .card .exsub))) ⌝ }
+    ensures { λ x. ⌜ UpTo tickLimit x (tickOf (r .card) (biasOf (map givenBack (now (v .entry)))) (termX (r .card .exsub))) ⌝ }
 {
     let c = r.card;
     if c.exsub {
-        ticks(c.sub, gain(t, v, S, C4, r.plain))
+        scaled(c.sub, exponential(t, v, S, C4, r.plain), 0)
     } else {
         r.sub
     }
 }
 
-// The T's and ratios of all rows: each exponential is worked once.
-pub(crate) fn all_terms(t: &Table, r: Ready, v: &[u32; 7]) -> Terms
+// The T's and ratios of all rows: each exponential is worked once. These four arrays are the rows as the code has them.
+pub(crate) fn all_terms(t: &Table, r: Ready, v: &[u32; ROLES]) -> Terms
     requires { ⌜ Askable (now t) r (now v) ⌝ }
-    ensures { λ x. ⌜ x ≡ termsOf (r .card) (biasOf (map lowered (now (v .entry)))) ⌝ }
+    ensures { λ x. ⌜ TermsOf (r .card) (biasOf (map givenBack (now (v .entry)))) x ⌝ }
 {
     let c = r.card;
-    let b2e1 = gain(t, v, B2, E1, r.plain);
-    let b2c2 = gain(t, v, B2, C2, r.plain);
-    let b1e1 = gain(t, v, B1, E1, r.plain);
-    let second = gain(t, v, B2, E1, r.second);
-    let b1c4 = gain(t, v, B1, C4, r.plain);
-    let sc1 = gain(t, v, S, C1, r.plain);
+    let b2e1 = exponential(t, v, B2, E1, r.plain);
+    let b2c2 = exponential(t, v, B2, C2, r.plain);
+    let b1e1 = exponential(t, v, B1, E1, r.plain);
+    let second = exponential(t, v, B2, E1, r.second);
+    let b1c4 = exponential(t, v, B1, C4, r.plain);
+    let sc1 = exponential(t, v, S, C1, r.plain);
+    let main = scaled(c.sn, b2e1, 0);
+    let bulk = scaled(c.bulk, b2e1, 0);
+    let side = scaled(c.side, b1e1, 0);
+    let nonideal = scaled(c.nonideal, second, 0);
+    let k = collector(r, b1c4);
+    let sf = scaled(c.sf, sc1, 0);
+    let back = scaled(c.sn, b2c2, 0);
+    let x = term_x(t, r, v);
     Terms {
-        forward: ticks(c.sn, b2e1),
-        reverse: ticks(c.sn, b2c2),
-        bulk: ticks(c.bulk, b2e1),
-        side: ticks(c.side, b1e1),
-        nonideal: ticks(c.nonideal, second),
-        ex: ticks(c.ex, b1c4),
-        exratio: parts(c.rex, b1c4),
-        sub: ticks(c.sub, b1c4),
-        subratio: parts(c.rsub, b1c4),
-        back: back_of(t, r, v),
-        sf: ticks(c.sf, sc1),
+        plus: [main, bulk, side, nonideal, k.ex, k.sub, sf],
+        minus: [back, r.bulk, r.side, r.nonideal, r.ex, x, r.sf],
+        left: [0, 0, 0, 0, 0, 0, 0],
+        right: [0, 0, 0, 0, k.exratio, k.subratio, 0],
     }
 }

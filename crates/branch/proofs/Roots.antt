@@ -1,0 +1,54 @@
+-- The divisor of a row: the size of its roots, and what it is where both floors are 0.
+use mathlib.Core.Path.{_≡_, refl, sym, ap, _∙_}
+use mathlib.Core.Logic.{_⊎_, inl, inr}
+use Prim.Native.Nat.{ℕ, _+_, _-_, _*_, _/_, _^_, _≤_, _<_}
+use native.Mathlib.Nat.{mul-le-mul}
+use native.Mathlib.Omega.{arith}
+use lib.IntN.{pos, negsuc, natAbs, subℕ}
+use Rattle.whole.specs.laws.Biased.{below-or-not, sub-up, sub-down}
+use Rattle.whole.specs.Root.{IsRoot, rootOf, rootBits, root-is}
+use Rattle.whole.specs.Quotient.{quotientOf, quotient-up, quotient-down}
+use Rattle.branch.specs.Ticks.{rootFor}
+use Rattle.branch.specs.Outcome.{ratioLimit}
+use Rattle.branch.specs.inner.Terms.{dividedOf}
+
+pub record RootSize (r : ℕ) : Type 0 where
+  pub least : 2 ^ 20 ≤ r
+  pub most : r < 2 ^ 31
+
+root-size : (x r : ℕ) → 2 ^ 40 ≤ x → x < 2 ^ 62 → IsRoot x r → RootSize r
+root-size x r low high i = record { least = least (below-or-not r (2 ^ 20)); most = most (below-or-not r (2 ^ 31)) }
+  where
+    least : (r < 2 ^ 20) ⊎ (2 ^ 20 ≤ r) → 2 ^ 20 ≤ r
+    least (inl h) = let k : r + 1 ≤ 2 ^ 20 = omega arith in let p = i .greatest in let m = mul-le-mul k k in absurd (omega arith)
+    least (inr h) = h
+
+    most : (r < 2 ^ 31) ⊎ (2 ^ 31 ≤ r) → r < 2 ^ 31
+    most (inl h) = h
+    most (inr h) = let p = i .within in let m = mul-le-mul h h in absurd (omega arith)
+
+pub root-sized : (ratio : ℕ) → ratio ≤ ratioLimit → RootSize (rootFor ratio)
+unfolding rootFor
+root-sized ratio h =
+    root-size ((2 ^ 20 + ratio) * 2 ^ 20) (rootFor ratio) (omega arith) (omega arith) (root-is ((2 ^ 20 + ratio) * 2 ^ 20) (omega arith))
+
+-- the root for the floor 0 is the unit
+pub root-unit : rootFor 0 ≡ 2 ^ 20
+unfolding rootFor rootOf rootBits
+root-unit = refl
+
+-- over two units, 2^21, the quotient is the number itself
+pub quotient-plain : (a b : ℕ) → quotientOf (subℕ a b) 21 (2 ^ 20 + 2 ^ 20) ≡ subℕ a b
+quotient-plain a b = go (below-or-not a b)
+  where
+    go : (a < b) ⊎ (b ≤ a) → quotientOf (subℕ a b) 21 (2 ^ 20 + 2 ^ 20) ≡ subℕ a b
+    go (inl h) =
+        quotient-down a b 21 (2 ^ 20 + 2 ^ 20) h ∙ sub-down 0 ((b - a) * 2097152 / 2097152) (omega arith)
+        ∙ ap negsuc (omega arith)
+        ∙ sym (sub-down a b h)
+    go (inr h) = quotient-up a b 21 (2 ^ 20 + 2 ^ 20) h ∙ ap pos (omega arith) ∙ sym (sub-up a b h)
+
+-- so a row with two floors of 0 is its difference
+pub divided-plain : (plus minus : ℕ) → dividedOf plus minus 0 0 ≡ subℕ plus minus
+unfolding dividedOf
+divided-plain plus minus = rw root-unit (quotient-plain plus minus)
