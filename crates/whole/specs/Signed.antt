@@ -1,5 +1,5 @@
 -- A signed number in its two halves: n itself, or -(n + 1).
-use mathlib.Core.Path.{_≡_, refl}
+use mathlib.Core.Path.{_≡_, refl, sym, ap, _∙_}
 use Prim.Native.Nat.{ℕ, _<_, _^_}
 use native.Mathlib.Omega.{arith}
 use lib.IntN.{ℤ, pos, negsuc}
@@ -28,6 +28,10 @@ magnitudeOf (NegSuc n) = n
 pub signed-of-int : (z : ℤ) → signedOf (intOf z) ≡ z
 signed-of-int (pos n) = refl
 signed-of-int (negsuc n) = refl
+
+-- a number by its opened half
+pub opened : {v w : ℤ} {i j : Int} → w ≡ v → i ≡ intOf w → i ≡ j → signedOf j ≡ v
+opened {v} {w} p q r = ap signedOf (sym r ∙ q) ∙ signed-of-int w ∙ p
 
 -- asked by `close`: the number has a place among the signed words
 pub record Closable (i : Int) : Type 0 where
