@@ -5,17 +5,17 @@ use lib.IntN.{pos}
 use mir.Syntax.{w64}
 use mir.ValLaws.{toZ-pos}
 use Rattle.whole.specs.declared.Int.{Int}
-use Rattle.whole.specs.Signed.{valueOf, heldOf}
+use Rattle.whole.specs.Signed.{signedOf, magnitudeOf}
 use Rattle.whole.proofs.Halves.{less-fits, less-back}
 use borrow.Author.Needs.{needs}
 use Rattle.whole.proofs.close.Statement.{statement}
 use Rattle.whole.proofs.close.Tie as tie
 
 small : (c : tie.After-known-told) → c .before .i .given .0 .0 < 2 ^ 63
-small c = subst (λ (j : Int). heldOf j < 2 ^ 63) (c .before .i .given .1) (c .before .before .before .pre .held-small)
+small c = subst (λ (j : Int). magnitudeOf j < 2 ^ 63) (c .before .i .given .1) (c .before .before .before .pre .magnitude-small)
 
 small-2 : (c : tie.After-known-told2) → c .before .i2 .given .0 .0 < 2 ^ 63
-small-2 c = subst (λ (j : Int). heldOf j < 2 ^ 63) (c .before .i2 .given .1) (c .before .before .before .pre .held-small)
+small-2 c = subst (λ (j : Int). magnitudeOf j < 2 ^ 63) (c .before .i2 .given .1) (c .before .before .before .pre .magnitude-small)
 
 enum-known-i : tie.Need-enum-known-i
 enum-known-i c = search needs
@@ -33,10 +33,10 @@ sub-result : tie.Need-sub-result
 sub-result c = less-fits (pos (c .before .i2 .given .0 .0)) (record { sfits = small-2 c })
 
 returns : tie.Need-returns
-returns c = toZ-pos w64 (c .before .i .given .0 .0) (small c) ∙ sym (ap valueOf (c .before .i .given .1))
+returns c = toZ-pos w64 (c .before .i .given .0 .0) (small c) ∙ sym (ap signedOf (c .before .i .given .1))
 
 returns-2 : tie.Need-returns-2
-returns-2 c = less-back (pos (c .before .i2 .given .0 .0)) (record { sfits = small-2 c }) ∙ sym (ap valueOf (c .before .i2 .given .1))
+returns-2 c = less-back (pos (c .before .i2 .given .0 .0)) (record { sfits = small-2 c }) ∙ sym (ap signedOf (c .before .i2 .given .1))
 
 pub close-spec : {M : Type 1} → statement M
 close-spec =

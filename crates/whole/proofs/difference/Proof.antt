@@ -5,7 +5,7 @@ use native.Mathlib.Omega.{arith}
 use lib.IntN.{negsuc}
 use mir.Syntax.{w64}
 use mir.ValLaws.{toZ-ofZ}
-use Rattle.whole.specs.Biased.{sub-up, sub-down}
+use Rattle.whole.specs.laws.Biased.{sub-up, sub-down}
 use borrow.Author.Needs.{needs}
 use Rattle.whole.proofs.difference.Statement.{statement}
 use Rattle.whole.proofs.difference.Tie as tie

@@ -5,7 +5,7 @@ use native.Mathlib.Omega.{arith}
 use lib.IntN.{subℕ}
 use mir.Syntax.{w64}
 use mir.ValLaws.{toZ-ofZ}
-use Rattle.whole.specs.Biased.{sub-from-zero, turned}
+use Rattle.whole.specs.laws.Biased.{sub-from-zero, turned}
 use borrow.Author.Needs.{needs}
 use Rattle.whole.proofs.minus.Statement.{statement}
 use Rattle.whole.proofs.minus.Tie as tie
