@@ -18,6 +18,5 @@ pub fn no_ready() -> Ready
         ex: 0,
         sub: 0,
         sf: 0,
-        quiet: 0,
     }
 }

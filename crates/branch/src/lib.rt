@@ -41,8 +41,7 @@ pub struct Outcome {
     pub ticks: [i64; BRANCHES],
 }
 
-// A card with what depends on it alone: the octaves' reciprocals, each T without an exponential, and how low the exponential from B1 to C4 must be
-// for all that is worked with it to be 0.
+// A card with what depends on it alone: the octaves' reciprocals, and each T without an exponential.
 pub struct Ready {
     pub card: WorkedCard,
     pub plain: Reciprocal,
@@ -53,7 +52,6 @@ pub struct Ready {
     pub ex: u64,
     pub sub: u64,
     pub sf: u64,
-    pub quiet: u64,
 }
 
 // The T's that each row adds and takes away, and the floors of the two ratios in its divisor: 0 where it has none, whose root is 2^20.
@@ -80,8 +78,8 @@ pub fn prepare(c: WorkedCard) -> Ready
     requires { ⌜ IsWorked c ⌝ }
     ensures { λ r. ⌜ r ≡ readyOf c ⌝ }
 {
-    let plain = octave::reciprocal(c.octave as u64);
-    let second = octave::reciprocal(c.second as u64);
+    let plain = octave::reciprocal_of(c.octave as u64);
+    let second = octave::reciprocal_of(c.second as u64);
     Ready {
         card: c,
         plain: plain,
@@ -92,7 +90,6 @@ pub fn prepare(c: WorkedCard) -> Ready
         ex: values::alone(c.ex),
         sub: values::alone(c.sub),
         sf: values::alone(c.sf),
-        quiet: values::quiet_below(c),
     }
 }
 

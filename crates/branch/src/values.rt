@@ -1,23 +1,21 @@
 // T's and ratios of a card at given voltages. Above its limit a number need not be right, but only above it.
 ghost use mathlib.Core.Path.{_≡_};
 ghost use mathlib.Core.List.{map};
-ghost use Prim.Native.Nat.{_<_};
+ghost use Prim.Native.Nat.{_≤_, _<_};
 ghost use lib.ListN.{getD};
 ghost use lib.IntN.{pos, _-ℤ_};
 ghost use Rattle.volts.specs.Volts.{givenBack, AllNear};
 ghost use Rattle.float.specs.Split.{IsSplit};
 ghost use Rattle.octave.specs.Table.{entries};
 ghost use Rattle.octave.specs.inner.Reciprocal.{IsReciprocal};
-ghost use Rattle.card.specs.inner.Worked.{IsWorked};
 ghost use Rattle.branch.specs.Rows.{roles, termX};
-ghost use Rattle.branch.specs.Ticks.{expOf, biasOf, tickOf};
+ghost use Rattle.branch.specs.Ticks.{biasOf, tickOf};
 ghost use Rattle.branch.specs.Outcome.{tickLimit};
-ghost use Rattle.branch.specs.inner.Ready.{aloneOf, quietOf, quieter, expAt, Askable};
-ghost use Rattle.branch.specs.inner.Terms.{UpTo, scaledOf, Sized, CollectorTerms, TermsOf};
+ghost use Rattle.branch.specs.inner.Ready.{aloneOf, Askable};
+ghost use Rattle.branch.specs.inner.Terms.{UpTo, moreParts, scaledOf, Sized, IsExp, TermsOf};
 use crate::ROLES;
 use crate::Ready;
 use crate::Terms;
-use card::WorkedCard;
 use float::Split;
 use octave::Exponential;
 use octave::Reciprocal;
@@ -57,28 +55,23 @@ pub(crate) fn alone(x: Split) -> u64
     whole::floor_scale(x.a as u64, ALONE, x.down as u64, TICKS_OVER)
 }
 
-fn quieter_of(x: Split, least: u64) -> u64
-    ensures { λ r. ⌜ r ≡ quieter x least ⌝ }
-{
-    let down = x.down as u64;
-    if down < least { down } else { least }
-}
-
-// Below this n of the exponential from B1 to C4, every T and ratio that is worked with it is 0.
-pub(crate) fn quiet_below(c: WorkedCard) -> u64
-    ensures { λ r. ⌜ r ≡ quietOf c ⌝ }
-{
-    let a = quieter_of(c.ex, c.sub.down as u64);
-    let b = quieter_of(c.rex, a);
-    whole::excess(quieter_of(c.rsub, b), NOTHING)
-}
-
 // A value times an exponential: in ticks, or with `more` binary places fewer.
 fn scaled(x: Split, g: Exponential, more: u64) -> u64
     requires { ⌜ IsSplit x × (Sized g × (more ≤ moreParts)) ⌝ }
     ensures { λ r. ⌜ r ≡ scaledOf x g more ⌝ }
 {
     whole::shift_down((x.a as u64) * g.m, whole::excess(x.down as u64 + more, g.n))
+}
+
+// The same for a junction that is mostly far below conducting: then nothing is left, and nothing is worked.
+fn faint(x: Split, g: Exponential, more: u64) -> u64
+    requires { ⌜ IsSplit x × (Sized g × (more ≤ moreParts)) ⌝ }
+    ensures { λ r. ⌜ r ≡ scaledOf x g more ⌝ }
+{
+    if g.n + NOTHING <= x.down as u64 {
+        return 0;
+    }
+    scaled(x, g, more)
 }
 
 // The exponential of the voltage from role p to role q.
@@ -89,36 +82,6 @@ fn exponential(t: &Table, v: &[u32; ROLES], p: usize, q: usize, o: Reciprocal) -
     let a = v[p];
     let b = v[q];
     octave::exponential_at(t, volts::across(a, b), o)
-}
-
-// What rows 5 and 6 work with the exponential from B1 to C4.
-pub(crate) struct Collector {
-    ex: u64,
-    sub: u64,
-    exratio: u64,
-    subratio: u64,
-}
-
-// All four are 0 where the junction is far below conducting, as it mostly is: then none is worked.
-fn collector(r: Ready, g: Exponential) -> Collector
-    requires { ⌜ IsReady r × Sized g ⌝ }
-    ensures { λ x. ⌜ CollectorTerms (r .card) (expAt g) x ⌝ }
-{
-    if g.n < r.quiet {
-        return Collector {
-            ex: 0,
-            sub: 0,
-            exratio: 0,
-            subratio: 0,
-        };
-    }
-    let c = r.card;
-    Collector {
-        ex: scaled(c.ex, g, 0),
-        sub: scaled(c.sub, g, 0),
-        exratio: scaled(c.rex, g, PARTS),
-        subratio: scaled(c.rsub, g, PARTS),
-    }
 }
 
 // X of row 6: the card's own T, or with EXSUB the T at the voltage from S to C4.
@@ -146,18 +109,21 @@ pub(crate) fn all_terms(t: &Table, r: Ready, v: &[u32; ROLES]) -> Terms
     let second = exponential(t, v, B2, E1, r.second);
     let b1c4 = exponential(t, v, B1, C4, r.plain);
     let sc1 = exponential(t, v, S, C1, r.plain);
-    let main = scaled(c.sn, b2e1, 0);
+    let forward = scaled(c.sn, b2e1, 0);
     let bulk = scaled(c.bulk, b2e1, 0);
     let side = scaled(c.side, b1e1, 0);
     let nonideal = scaled(c.nonideal, second, 0);
-    let k = collector(r, b1c4);
-    let sf = scaled(c.sf, sc1, 0);
-    let back = scaled(c.sn, b2c2, 0);
+    let ex = faint(c.ex, b1c4, 0);
+    let sub = faint(c.sub, b1c4, 0);
+    let exratio = faint(c.rex, b1c4, PARTS);
+    let subratio = faint(c.rsub, b1c4, PARTS);
+    let sf = faint(c.sf, sc1, 0);
+    let reverse = faint(c.sn, b2c2, 0);
     let x = term_x(t, r, v);
     Terms {
-        plus: [main, bulk, side, nonideal, k.ex, k.sub, sf],
-        minus: [back, r.bulk, r.side, r.nonideal, r.ex, x, r.sf],
+        plus: [forward, bulk, side, nonideal, ex, sub, sf],
+        minus: [reverse, r.bulk, r.side, r.nonideal, r.ex, x, r.sf],
         left: [0, 0, 0, 0, 0, 0, 0],
-        right: [0, 0, 0, 0, k.exratio, k.subratio, 0],
+        right: [0, 0, 0, 0, exratio, subratio, 0],
     }
 }

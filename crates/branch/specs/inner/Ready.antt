@@ -1,9 +1,7 @@
 -- What is worked once for a card, and what `work_out` asks.
 use mathlib.Core.Path.{_≡_}
-use mathlib.Core.Bool.{cond}
 use mathlib.Core.List.{List}
-use Prim.Native.Nat.{ℕ, suc, _+_, _-_}
-use lib.Dec.{ltb}
+use Prim.Native.Nat.{ℕ, suc, _+_}
 use lib.ListN.{length}
 use lib.IntN.{subℕ}
 use Rattle.whole.specs.Scale.{heldAt}
@@ -25,18 +23,6 @@ use Rattle.branch.specs.Outcome.{tickLimit}
 abbrev pub aloneOf : Split → ℕ
 aloneOf x = heldAt (suc tickLimit) (wholeTicks (valueAt x))
 
--- by how many places a product must be shifted down for nothing to be left of it
-abbrev pub nothingLeft : ℕ
-nothingLeft = 63
-
--- the smaller of what is kept of a value's power and another such number
-abbrev pub quieter : Split → ℕ → ℕ
-quieter x least = cond (ltb (x .down) least) (x .down) least
-
--- below this n of the exponential from B1 to C4, every number that is worked with it is 0
-abbrev pub quietOf : WorkedCard → ℕ
-quietOf c = quieter (c .rsub) (quieter (c .rex) (quieter (c .ex) (c .sub .down))) - nothingLeft
-
 unfoldable pub readyOf : WorkedCard → Ready
 readyOf c =
     record {
@@ -49,7 +35,6 @@ readyOf c =
       ex = aloneOf (c .ex);
       sub = aloneOf (c .sub);
       sf = aloneOf (c .sf);
-      quiet = quietOf c;
     }
 
 -- what stands where there is no card
@@ -65,7 +50,6 @@ noReady =
       ex = 0;
       sub = 0;
       sf = 0;
-      quiet = 0;
     }
 
 -- a card made ready

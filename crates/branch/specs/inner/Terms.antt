@@ -1,11 +1,10 @@
 -- The rows' T's and ratios as the code has them: right up to their limits, and above them only known to be above; and the code's way from these to an outcome.
 use mathlib.Core.Path.{_≡_}
-use mathlib.Core.Bool.{Bool}
 use mathlib.Core.List.{List, [], _∷_}
 use Prim.Native.Nat.{ℕ, zero, suc, _+_, _-_, _*_, _/_, _^_, _≤_, _<_}
 use lib.Dec.{ltb}
-use lib.ListN.{getD, length}
-use lib.IntN.{ℤ, pos, subℕ, _-ℤ_}
+use lib.ListN.{getD}
+use lib.IntN.{ℤ, subℕ}
 use Rattle.whole.specs.Quotient.{quotientOf}
 use Rattle.float.specs.declared.Split.{Split}
 use Rattle.octave.specs.declared.Exponential.{Exponential}
@@ -14,9 +13,8 @@ use Rattle.branch.specs.declared.Over.{Over}
 use Rattle.branch.specs.declared.Over.the-variants.{Within}
 use Rattle.branch.specs.declared.Outcome.{Outcome}
 use Rattle.branch.specs.declared.Terms.{Terms}
-use Rattle.branch.specs.declared.values.Collector.{Collector}
 use Rattle.branch.specs.Rows.{Role, Divisor, undivided, sumOf, Row, rowsFor, branches}
-use Rattle.branch.specs.Ticks.{Scaled, valueAt, expOf, times, wholeTicks, wholeParts, tickOf, ratioOf, rootFor}
+use Rattle.branch.specs.Ticks.{expOf, tickOf, ratioOf, rootFor}
 use Rattle.branch.specs.Outcome.{tickLimit, ratioLimit, someAbove, overAt, outcomeAt}
 use Rattle.branch.specs.inner.Ready.{expAt}
 
@@ -44,13 +42,6 @@ moreParts = 30
 -- a value times an exponential, shifted down
 abbrev pub scaledOf : Split → Exponential → ℕ → ℕ
 scaledOf x g more = x .a * g .m / 2 ^ (x .down + more - g .n)
-
--- what rows 5 and 6 work with one exponential
-pub record CollectorTerms (c : WorkedCard) (e : Scaled) (x : Collector) : Type 0 where
-  pub ex : UpTo tickLimit (x .ex) (wholeTicks (times (valueAt (c .ex)) e))
-  pub sub : UpTo tickLimit (x .sub) (wholeTicks (times (valueAt (c .sub)) e))
-  pub exratio : UpTo ratioLimit (x .exratio) (wholeParts (times (valueAt (c .rex)) e))
-  pub subratio : UpTo ratioLimit (x .subratio) (wholeParts (times (valueAt (c .rsub)) e))
 
 -- the floors of the two ratios of a divisor; 0 where there is none
 abbrev pub leftOf : WorkedCard → (Role → Role → ℤ) → Divisor → ℕ
