@@ -143,5 +143,5 @@ module _ (w : ℕ) (r : InRange w) where
       let m : offsetOf w % w * 2 ^ 34 < 2 ^ 64 = omega (arith, r, mod-lt (offsetOf w) (there w r)) in
       let g : offsetOf w % w * 2 ^ 34 * 2 ^ 20 ≡ offsetOf w % w * unit = omega arith in
       let s : shiftedQuotient ((offsetOf w % w * 2 ^ 34) % 2 ^ 64) 20 w ≡ restOf w =
-        ap (λ (y : ℕ). shiftedQuotient y 20 w) (mod-eq-of-lt m) ∙ ap (λ (y : ℕ). y / w) g in
+      ap (λ (y : ℕ). shiftedQuotient y 20 w) (mod-eq-of-lt m) ∙ ap (λ (y : ℕ). y / w) g in
       e ∙ ap (heldAt (2 ^ 64 - 1)) s ∙ stays-below (2 ^ 64 - 1) (restOf w) (omega (arith, rest-small w r))
