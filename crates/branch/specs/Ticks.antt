@@ -6,7 +6,7 @@ use lib.IntN.{ℤ, pos, subℕ, _+ℤ_, _-ℤ_}
 use Rattle.whole.specs.Scale.{floorScale}
 use Rattle.whole.specs.Root.{rootOf}
 use Rattle.whole.specs.Quotient.{quotientOf}
-use Rattle.octave.specs.Table.{mantissaOf}
+use Rattle.octave.specs.Table.{places, mantissaOf}
 use Rattle.octave.specs.Position.{wholeOf, partOf}
 use Rattle.float.specs.declared.Split.{Split}
 use Rattle.float.specs.Split.{splitBias}
@@ -35,7 +35,7 @@ valueOf c rSub = valueAt (c .rsub)
 
 -- G(V) = m * 2^(n - 30) for an octave of w nanovolts
 unfoldable pub expOf : ℤ → ℕ → Scaled
-expOf v w = record { digits = mantissaOf (partOf v w); power = wholeOf v w -ℤ pos 30 }
+expOf v w = record { digits = mantissaOf (partOf v w); power = wholeOf v w -ℤ pos places }
 
 abbrev pub times : Scaled → Scaled → Scaled
 times x y = record { digits = x .digits * y .digits; power = x .power +ℤ y .power }

@@ -8,7 +8,7 @@ use Rattle.whole.specs.Scale.{heldAt}
 use Rattle.volts.specs.Volts.{AllNear}
 use Rattle.float.specs.declared.Split.{Split}
 use Rattle.octave.specs.declared.Exponential.{Exponential}
-use Rattle.octave.specs.Table.{entries}
+use Rattle.octave.specs.Table.{places, entries}
 use Rattle.octave.specs.Exponential.{bias}
 use Rattle.octave.specs.inner.Reciprocal.{reciprocalOf, noReciprocal}
 use Rattle.card.specs.declared.WorkedCard.{WorkedCard}
@@ -59,7 +59,7 @@ pub record IsReady (r : Ready) : Type 0 where
 
 -- the exponential m * 2^(n - 30) as the code has it, with n raised by a bias
 unfoldable pub expAt : Exponential → Scaled
-expAt g = record { digits = g .m; power = subℕ (g .n) (bias + 30) }
+expAt g = record { digits = g .m; power = subℕ (g .n) (bias + places) }
 
 -- asked by `work_out`: the table, a card made ready, and the kept voltages of its roles
 pub record Askable (table : List ℕ) (r : Ready) (v : List ℕ) : Type 0 where

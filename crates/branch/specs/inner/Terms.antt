@@ -8,6 +8,8 @@ use lib.IntN.{ℤ, subℕ}
 use Rattle.whole.specs.Quotient.{quotientOf}
 use Rattle.float.specs.declared.Split.{Split}
 use Rattle.octave.specs.declared.Exponential.{Exponential}
+use Rattle.octave.specs.Table.{IsMantissa}
+use Rattle.octave.specs.laws.Places.{exponentMost}
 use Rattle.card.specs.declared.WorkedCard.{WorkedCard}
 use Rattle.branch.specs.declared.Over.{Over}
 use Rattle.branch.specs.declared.Over.the-variants.{Within}
@@ -24,11 +26,10 @@ pub record UpTo (limit x t : ℕ) : Type 0 where
   pub same : x ≤ limit → x ≡ t
   pub small : x < 2 ^ 62
 
--- the size of an exponential's digits: a product with a value's has 60 to 62 binary places, or is 0
+-- the size of an exponential: a product of its digits with a value's is 0 or from 2^60 to 2^62
 pub record Sized (g : Exponential) : Type 0 where
-  pub least : 2 ^ 30 ≤ g .m
-  pub most : g .m ≤ 2 ^ 31
-  pub low : g .n ≤ 2 ^ 20
+  pub digits : IsMantissa (g .m)
+  pub small : g .n ≤ exponentMost
 
 -- the exponential of a voltage for an octave
 pub record IsExp (w : ℕ) (v : ℤ) (g : Exponential) : Type 0 where
