@@ -1,3 +1,4 @@
 pub mod Tests
 pub mod Roots
 pub mod RowLaws
+pub mod Scaling

@@ -5,7 +5,7 @@ use Prim.Native.Nat.{ℕ, _+_, _-_, _*_, _/_, _^_, _≤_, _<_}
 use native.Mathlib.Nat.{mul-le-mul}
 use native.Mathlib.Omega.{arith}
 use lib.IntN.{pos, negsuc, natAbs, subℕ}
-use Rattle.whole.specs.laws.Biased.{below-or-not, sub-up, sub-down}
+use Rattle.whole.specs.laws.Biased.{below-or-not, sub-up, sub-down, turned}
 use Rattle.whole.specs.Root.{IsRoot, rootOf, rootBits, root-is}
 use Rattle.whole.specs.Quotient.{quotientOf, quotient-up, quotient-down}
 use Rattle.branch.specs.Ticks.{rootFor}
@@ -43,7 +43,7 @@ quotient-plain a b = go (below-or-not a b)
   where
     go : (a < b) ⊎ (b ≤ a) → quotientOf (subℕ a b) 21 (2 ^ 20 + 2 ^ 20) ≡ subℕ a b
     go (inl h) =
-        quotient-down a b 21 (2 ^ 20 + 2 ^ 20) h ∙ sub-down 0 ((b - a) * 2097152 / 2097152) (omega arith)
+        quotient-down a b 21 (2 ^ 20 + 2 ^ 20) h ∙ turned ((b - a) * 2097152 / 2097152) (omega arith)
         ∙ ap negsuc (omega arith)
         ∙ sym (sub-down a b h)
     go (inr h) = quotient-up a b 21 (2 ^ 20 + 2 ^ 20) h ∙ ap pos (omega arith) ∙ sym (sub-up a b h)

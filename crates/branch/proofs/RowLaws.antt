@@ -26,7 +26,7 @@ use Rattle.branch.proofs.Roots.{root-unit, divided-plain}
 same-test : {limit x y s t : ℕ} → UpTo limit x s → UpTo limit y t → someAbove limit (x ∷ y ∷ []) ≡ someAbove limit (s ∷ t ∷ [])
 same-test a b = ap₂ (λ (m n : Bool). m || (n || false)) (a .above) (b .above)
 
-module _ {c : WorkedCard} {v : Role → Role → ℤ} where
+module _ (c : WorkedCard) (v : Role → Role → ℤ) where
   same-ratios : (d : Divisor) {l g : ℕ} → UpTo ratioLimit l (leftOf c v d) → UpTo ratioLimit g (rightOf c v d) →
       someAbove ratioLimit (l ∷ g ∷ []) ≡ someAbove ratioLimit (ratiosIn c v d)
   same-ratios undivided a b = same-test a b
@@ -49,10 +49,6 @@ module _ {c : WorkedCard} {v : Role → Role → ℤ} where
   divided-is undivided p m = divided-plain p m
   divided-is (sumOf s t) p m =
       ap₂ (λ (a b : ℕ). quotientOf (subℕ p m) 21 (a + b)) (summand-root s) (summand-root t)
-
-  -- a test that comes out false shows numbers that are within
-  pub upto-same : {limit x t : ℕ} → UpTo limit x t → x ≤ limit → x ≡ t
-  upto-same u h = u .same h
 
   row-is : {r : Row} {p m l g : ℕ} → RowTerms c v r p m l g → BothWithin tickLimit p m → BothWithin ratioLimit l g →
       dividedOf p m l g ≡ rowTicks c v r
@@ -78,11 +74,12 @@ module _ {c : WorkedCard} {v : Role → Role → ℤ} where
   small-at : {x : Terms} {k : ℕ} {rows : List Row} → RowsAt c v x k rows → (i : ℕ) → k ≤ i → i < k + length rows →
       (getD (x .plus) i 0 < 2 ^ 62) × (getD (x .minus) i 0 < 2 ^ 62)
   small-at {k = k} none i a b = absurd (omega arith)
-  small-at {x} (more {k = k} {r = r} {rs = rs} t rest) i a b = go (below-or-not k i)
+  small-at {x} (more {k = k} {r = r} {rs = rs} t rest) i a b = go (below-or-not k i) (λ h. small-at rest i h (omega arith))
     where
-      go : (k < i) ⊎ (i ≤ k) → (getD (x .plus) i 0 < 2 ^ 62) × (getD (x .minus) i 0 < 2 ^ 62)
-      go (inl h) = small-at rest i h (omega arith)
-      go (inr h) = let e : k ≡ i = omega arith in rw e at (t .plus .small, t .minus .small)
+      go : (k < i) ⊎ (i ≤ k) → (k < i → (getD (x .plus) i 0 < 2 ^ 62) × (getD (x .minus) i 0 < 2 ^ 62)) →
+          (getD (x .plus) i 0 < 2 ^ 62) × (getD (x .minus) i 0 < 2 ^ 62)
+      go (inl h) later = later h
+      go (inr h) later = let e : k ≡ i = omega arith in rw (← e) (t .plus .small, t .minus .small)
 
   pub terms-small : {x : Terms} → TermsOf c v x → Small x
   terms-small t =
@@ -92,11 +89,11 @@ module _ {c : WorkedCard} {v : Role → Role → ℤ} where
       }
 
   pub outcome-is : {x : Terms} → TermsOf c v x → outcomeFrom x ≡ outcomeAt (firstOver c v 1 (rowsFor (c .exsub))) (map (rowTicks c v) (rowsFor (c .exsub)))
+  unfolding listUp
   outcome-is {x} t = go (overUp x branches 0) refl (over-is (t .rows))
     where
       go : (o : Over) → overUp x branches 0 ≡ o → overUp x branches 0 ≡ firstOver c v 1 (rowsFor (c .exsub)) →
           outcomeFrom x ≡ outcomeAt (firstOver c v 1 (rowsFor (c .exsub))) (map (rowTicks c v) (rowsFor (c .exsub)))
-      unfolding listUp
       go Within e f = rw (← f, e, ticks-are (t .rows) e)
       go (Ticks k) e f = rw (← f, e)
       go (Injection k) e f = rw (← f, e)
@@ -104,23 +101,26 @@ module _ {c : WorkedCard} {v : Role → Role → ℤ} where
 -- ---- terms that are within, and rows of which none overloads
 
 module _ (x : Terms) where
-  pub not-over : (n k : ℕ) → overUp x n k ≡ Within → (i : ℕ) → k ≤ i → i < k + n → NotOver x i
+  passes-row : (n k : ℕ) → overUp x (suc n) k ≡ Within →
+      Passes (someAbove tickLimit (getD (x .plus) k 0 ∷ getD (x .minus) k 0 ∷ [])) (someAbove ratioLimit (getD (x .left) k 0 ∷ getD (x .right) k 0 ∷ [])) (overUp x n (suc k))
   unfolding overUp
-  not-over zero k e i a b = absurd (omega arith)
-  not-over (suc n) k e i a b = go (below-or-not k i)
-    where
-      f : Passes (someAbove tickLimit (getD (x .plus) k 0 ∷ getD (x .minus) k 0 ∷ [])) (someAbove ratioLimit (getD (x .left) k 0 ∷ getD (x .right) k 0 ∷ [])) (overUp x n (suc k))
-      f = passes _ _ (suc k) _ e
+  passes-row n k e = passes (someAbove tickLimit (getD (x .plus) k 0 ∷ getD (x .minus) k 0 ∷ [])) (someAbove ratioLimit (getD (x .left) k 0 ∷ getD (x .right) k 0 ∷ [])) (suc k) (overUp x n (suc k)) e
 
+  pub not-over : (n k : ℕ) → overUp x n k ≡ Within → (i : ℕ) → k ≤ i → i < k + n → NotOver x i
+  not-over zero k e i a b = absurd (omega arith)
+  not-over (suc n) k e i a b =
+      go (below-or-not k i) (λ h. not-over n (suc k) (passes-row n k e .later) i h (omega arith))
+    where
       here : NotOver x k
       here =
+          let f = passes-row n k e in
           let p = both-within _ _ _ (f .ticks) in
           let q = both-within _ _ _ (f .ratio) in
           record { plus = p .first; minus = p .second; left = q .first; right = q .second }
 
-      go : (k < i) ⊎ (i ≤ k) → NotOver x i
-      go (inl h) = not-over n (suc k) (f .later) i h (omega arith)
-      go (inr h) = let s : k ≡ i = omega arith in rw s at here
+      go : (k < i) ⊎ (i ≤ k) → (k < i → NotOver x i) → NotOver x i
+      go (inl h) later = later h
+      go (inr h) later = let s : k ≡ i = omega arith in rw s at here
 
   pub none-over : (n k : ℕ) → ((i : ℕ) → k ≤ i → i < k + n → NotOver x i) → overUp x n k ≡ Within
   unfolding overUp
@@ -133,7 +133,7 @@ module _ (x : Terms) where
   fine e = record { at = λ k h. not-over branches 0 e k (omega arith) (omega arith) }
 
   -- a low sum of T's, and floors that are within
-  pub low-within : (sum most : ℕ) → Below (x .plus) (x .minus) sum → sum < 2 ^ 43 → Most (x .left) (x .right) most → most ≤ ratioLimit → overUp x branches 0 ≡ Within
+  pub low-within : (sum most : ℕ) → Below x sum → sum < 2 ^ 43 → Most x most → most ≤ ratioLimit → overUp x branches 0 ≡ Within
   low-within sum most b l m h = none-over branches 0 (λ i p q. at i (omega arith))
     where
       at : (i : ℕ) → i < branches → NotOver x i

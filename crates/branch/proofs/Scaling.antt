@@ -75,7 +75,7 @@ shifted {limit} {x} n d p h = go (below-or-not n d)
     up : d ≤ n → (x ≡ 0) ⊎ (2 ^ 60 ≤ x) → UpTo limit (x / 2 ^ (d - n)) (floorScale x (subℕ n d))
     up k (inl z) = upto-equal (whole k ∙ z ∙ sym (scale-up x n d k ∙ ap (λ (y : ℕ). y * 2 ^ (n - d)) z ∙ zero-mul (2 ^ (n - d)))) less
     up k (inr l) =
-        let m = le-mul-of-pos-right {2 ^ (n - d)} x (one-le-pow (n - d) 2 (lit< tt)) in
+        let m = le-mul-of-pos-right {m = 2 ^ (n - d)} x (one-le-pow (n - d) 2 (lit< tt)) in
         let e = whole k in
         let s = scale-up x n d k in
         upto-above (omega arith) (omega arith) less
@@ -88,7 +88,7 @@ shifted {limit} {x} n d p h = go (below-or-not n d)
 pub none-left : {s : Split} {g : Exponential} (more : ℕ) → IsSplit s → Sized g → g .n + 63 ≤ s .down → 0 ≡ scaledOf s g more
 none-left {s} {g} more i z h =
     let p = product i z .small in
-    let w = pow-le-pow-right {2} (lit< tt) {63} {s .down + more - g .n} (omega arith) in
+    let w = pow-le-pow-right {n = 2} (lit< tt) {i = 63} {j = s .down + more - g .n} (omega arith) in
     sym (div-eq-of-lt (omega arith))
 
 -- ---- the powers that code and definitions have

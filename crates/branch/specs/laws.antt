@@ -1,4 +1,2 @@
 -- What follows from the definitions.
 pub mod Filled
-pub mod Sizes
-pub mod Tells

@@ -9,16 +9,15 @@ ghost use Rattle.branch.specs.inner.Ready.{readyOf, Askable};
 
 mod values; // values.rt: T's and ratios at given voltages
 mod rows; // rows.rt: which row overloads, and each row's ticks
-mod reply; // reply.rt: from a card and voltages to a reply
+mod answering; // answering.rt: from a card and voltages to a reply
 mod ends; // ends.rt: where the branches start and end
 mod empty; // empty.rt: a ready card of zeros
 
-pub use ends::from_roles;
-pub use ends::to_roles;
-pub use empty::no_ready;
-
 use card::Judged;
 use card::WorkedCard;
+pub use empty::no_ready;
+pub use ends::from_roles;
+pub use ends::to_roles;
 use octave::Reciprocal;
 use octave::Table;
 use refusal::Refusal;
@@ -107,7 +106,7 @@ pub fn currents(bytes: &[u8], volts: &[i64; ROLES]) -> Reply
     ensures { λ r. ⌜ Replies (now (bytes .entry)) (now (volts .entry)) r ⌝ }
 {
     match card::judge(bytes) {
-        Judged::Refused(f) => reply::turned_away(f),
-        Judged::Card(c) => reply::card_currents(c, volts),
+        Judged::Refused(f) => answering::turned_away(f),
+        Judged::Card(c) => answering::card_currents(c, volts),
     }
 }

@@ -39,7 +39,7 @@ fn larger(a: u64, b: u64) -> u64
 // The sum of all T's without their last places: where it is low, so is each.
 fn sum_of_ticks(x: Terms) -> u64
     requires { ⌜ Small x ⌝ }
-    ensures { λ r. ⌜ Below (x .plus) (x .minus) r ⌝ }
+    ensures { λ r. ⌜ Below x r ⌝ }
 {
     let mut sum: u64 = 0;
     for k in 0..BRANCHES {
@@ -50,7 +50,7 @@ fn sum_of_ticks(x: Terms) -> u64
 
 // The largest floor of a ratio.
 fn largest_ratio(x: Terms) -> u64
-    ensures { λ r. ⌜ Most (x .left) (x .right) r ⌝ }
+    ensures { λ r. ⌜ Most x r ⌝ }
 {
     let mut most: u64 = 0;
     for k in 0..BRANCHES {
@@ -123,7 +123,7 @@ fn all_divided(x: Terms) -> [i64; BRANCHES]
 
 // The same where every floor is 0.
 fn all_plain(x: Terms) -> [i64; BRANCHES]
-    requires { ⌜ Fine x × Most (x .left) (x .right) 0 ⌝ }
+    requires { ⌜ Fine x × Most x 0 ⌝ }
     ensures { λ r. ⌜ r ≡ allTicks x ⌝ }
 {
     let mut ticks = [0i64; BRANCHES];
@@ -135,7 +135,7 @@ fn all_plain(x: Terms) -> [i64; BRANCHES]
 }
 
 fn ticks_of(x: Terms, most: u64) -> [i64; BRANCHES]
-    requires { ⌜ Fine x × Most (x .left) (x .right) most ⌝ }
+    requires { ⌜ Fine x × Most x most ⌝ }
     ensures { λ r. ⌜ r ≡ allTicks x ⌝ }
 {
     if most == 0 {
@@ -146,7 +146,7 @@ fn ticks_of(x: Terms, most: u64) -> [i64; BRANCHES]
 
 // The first row that overloads. Where the sum of T's is low and no floor is over its limit, none does, and no row is looked at by itself.
 fn judged(x: Terms, most: u64) -> Over
-    requires { ⌜ Small x × Most (x .left) (x .right) most ⌝ }
+    requires { ⌜ Small x × Most x most ⌝ }
     ensures { λ r. ⌜ r ≡ overUp x branches 0 ⌝ }
 {
     if most <= PARTS_MOST {

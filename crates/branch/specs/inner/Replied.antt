@@ -10,7 +10,7 @@ use Rattle.refusal.specs.Order.{Verdict, no, yes}
 use Rattle.volts.specs.Volts.{keptAs, someOff, AllNear}
 use Rattle.branch.specs.declared.Admission.the-variants.{Given, Refused}
 use Rattle.branch.specs.declared.Reply.{Reply}
-use Rattle.branch.specs.declared.reply.Keeping.{Keeping}
+use Rattle.branch.specs.declared.answering.Keeping.{Keeping}
 use Rattle.branch.specs.Rows.{branches}
 
 abbrev pub refusedReply : Refusal → Reply

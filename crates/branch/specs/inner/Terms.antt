@@ -76,15 +76,19 @@ pub record Small (x : Terms) : Type 0 where
   pub plus : (k : ℕ) → k < branches → getD (x .plus) k 0 < 2 ^ 62
   pub minus : (k : ℕ) → k < branches → getD (x .minus) k 0 < 2 ^ 62
 
+-- T's are added up without their last places, so that a sum of them stays within 64 bits
+abbrev pub lastPlaces : ℕ
+lastPlaces = 10
+
 -- every T, without its last places, is at most this sum
-pub record Below (plus minus : List ℕ) (sum : ℕ) : Type 0 where
-  pub plus : (k : ℕ) → k < branches → getD plus k 0 / 1024 ≤ sum
-  pub minus : (k : ℕ) → k < branches → getD minus k 0 / 1024 ≤ sum
+pub record Below (x : Terms) (sum : ℕ) : Type 0 where
+  pub plus : (k : ℕ) → k < branches → getD (x .plus) k 0 / 2 ^ lastPlaces ≤ sum
+  pub minus : (k : ℕ) → k < branches → getD (x .minus) k 0 / 2 ^ lastPlaces ≤ sum
 
 -- every floor of a ratio is at most this
-pub record Most (left right : List ℕ) (most : ℕ) : Type 0 where
-  pub left : (k : ℕ) → k < branches → getD left k 0 ≤ most
-  pub right : (k : ℕ) → k < branches → getD right k 0 ≤ most
+pub record Most (x : Terms) (most : ℕ) : Type 0 where
+  pub left : (k : ℕ) → k < branches → getD (x .left) k 0 ≤ most
+  pub right : (k : ℕ) → k < branches → getD (x .right) k 0 ≤ most
 
 -- whether row k + 1 overloads, and if not what comes after it
 abbrev pub rowOver : Terms → ℕ → Over → Over
