@@ -1,18 +1,14 @@
 // T's and ratios of a card at given voltages. Above its limit a number need not be right, but only above it.
 ghost use mathlib.Core.Path.{_≡_};
 ghost use mathlib.Core.List.{map};
-ghost use Prim.Native.Nat.{_≤_, _<_};
 ghost use lib.ListN.{getD};
 ghost use lib.IntN.{pos, _-ℤ_};
-ghost use Rattle.volts.specs.Volts.{givenBack, AllNear};
-ghost use Rattle.float.specs.Split.{IsSplit};
-ghost use Rattle.octave.specs.Table.{entries};
-ghost use Rattle.octave.specs.inner.Reciprocal.{IsReciprocal};
-ghost use Rattle.branch.specs.Rows.{roles, termX};
+ghost use Rattle.volts.specs.Volts.{givenBack};
+ghost use Rattle.branch.specs.Rows.{termX};
 ghost use Rattle.branch.specs.Ticks.{biasOf, tickOf};
 ghost use Rattle.branch.specs.Outcome.{tickLimit};
 ghost use Rattle.branch.specs.inner.Ready.{aloneOf, Askable};
-ghost use Rattle.branch.specs.inner.Terms.{UpTo, moreParts, scaledOf, Sized, IsExp, TermsOf};
+ghost use Rattle.branch.specs.inner.Terms.{UpTo, IsExp, Scalable, Junction, scaledOf, TermsOf};
 use crate::ROLES;
 use crate::Ready;
 use crate::Terms;
@@ -57,7 +53,7 @@ pub(crate) fn alone(x: Split) -> u64
 
 // A value times an exponential: in ticks, or with `more` binary places fewer.
 fn scaled(x: Split, g: Exponential, more: u64) -> u64
-    requires { ⌜ IsSplit x × (Sized g × (more ≤ moreParts)) ⌝ }
+    requires { ⌜ Scalable x g more ⌝ }
     ensures { λ r. ⌜ r ≡ scaledOf x g more ⌝ }
 {
     whole::shift_down((x.a as u64) * g.m, whole::excess(x.down as u64 + more, g.n))
@@ -65,7 +61,7 @@ fn scaled(x: Split, g: Exponential, more: u64) -> u64
 
 // The same for a junction that is mostly far below conducting: then nothing is left, and nothing is worked.
 fn faint(x: Split, g: Exponential, more: u64) -> u64
-    requires { ⌜ IsSplit x × (Sized g × (more ≤ moreParts)) ⌝ }
+    requires { ⌜ Scalable x g more ⌝ }
     ensures { λ r. ⌜ r ≡ scaledOf x g more ⌝ }
 {
     if g.n + NOTHING <= x.down as u64 {
@@ -76,7 +72,7 @@ fn faint(x: Split, g: Exponential, more: u64) -> u64
 
 // The exponential of the voltage from role p to role q.
 fn exponential(t: &Table, v: &[u32; ROLES], p: usize, q: usize, o: Reciprocal) -> Exponential
-    requires { ⌜ (p < roles) × ((q < roles) × ((now t ≡ entries) × (AllNear (now v) × IsReciprocal o))) ⌝ }
+    requires { ⌜ Junction (now t) (now v) p q o ⌝ }
     ensures { λ r. ⌜ IsExp (o .w) (getD (map givenBack (now (v .entry))) p (pos 0) -ℤ getD (map givenBack (now (v .entry))) q (pos 0)) r ⌝ }
 {
     let a = v[p];

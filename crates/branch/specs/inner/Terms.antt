@@ -3,19 +3,23 @@ use mathlib.Core.Path.{_≡_}
 use mathlib.Core.List.{List, [], _∷_}
 use Prim.Native.Nat.{ℕ, zero, suc, _+_, _-_, _*_, _/_, _^_, _≤_, _<_}
 use lib.Dec.{ltb}
-use lib.ListN.{getD}
+use lib.ListN.{getD, length}
 use lib.IntN.{ℤ, subℕ}
 use Rattle.whole.specs.Quotient.{quotientOf}
+use Rattle.volts.specs.Volts.{AllNear}
 use Rattle.float.specs.declared.Split.{Split}
+use Rattle.float.specs.Split.{IsSplit}
 use Rattle.octave.specs.declared.Exponential.{Exponential}
-use Rattle.octave.specs.Table.{IsMantissa}
+use Rattle.octave.specs.declared.Reciprocal.{Reciprocal}
+use Rattle.octave.specs.Table.{entries, IsMantissa}
+use Rattle.octave.specs.inner.Reciprocal.{IsReciprocal}
 use Rattle.octave.specs.laws.Places.{exponentMost}
 use Rattle.card.specs.declared.WorkedCard.{WorkedCard}
 use Rattle.branch.specs.declared.Over.{Over}
 use Rattle.branch.specs.declared.Over.the-variants.{Within}
 use Rattle.branch.specs.declared.Outcome.{Outcome}
 use Rattle.branch.specs.declared.Terms.{Terms}
-use Rattle.branch.specs.Rows.{Role, Divisor, undivided, sumOf, Row, rowsFor, branches}
+use Rattle.branch.specs.Rows.{Role, roles, Divisor, undivided, sumOf, Row, rowsFor, branches}
 use Rattle.branch.specs.Ticks.{expOf, tickOf, ratioOf, rootFor}
 use Rattle.branch.specs.Outcome.{tickLimit, ratioLimit, someAbove, overAt, outcomeAt}
 use Rattle.branch.specs.inner.Ready.{expAt}
@@ -39,6 +43,21 @@ pub record IsExp (w : ℕ) (v : ℤ) (g : Exponential) : Type 0 where
 -- by how many places ratios, in parts of 2^-20, are shifted further down than ticks of 2^-50
 abbrev pub moreParts : ℕ
 moreParts = 30
+
+-- asked by `scaled`: a worked value, an exponential, and no further shift than a ratio's
+pub record Scalable (x : Split) (g : Exponential) (more : ℕ) : Type 0 where
+  pub split : IsSplit x
+  pub sized : Sized g
+  pub near : more ≤ moreParts
+
+-- asked by `exponential`: the table, kept voltages of the roles, two of them, and an octave's reciprocal
+pub record Junction (table v : List ℕ) (p q : ℕ) (o : Reciprocal) : Type 0 where
+  pub table-is : table ≡ entries
+  pub long : length v ≡ roles
+  pub near : AllNear v
+  pub from : p < roles
+  pub to : q < roles
+  pub reciprocal : IsReciprocal o
 
 -- a value times an exponential, shifted down
 abbrev pub scaledOf : Split → Exponential → ℕ → ℕ
