@@ -110,12 +110,15 @@ isSwitch x = eq x zero || eq x one
 abbrev pub withinReach : List Float → Bool
 withinReach x = secondGood (product x) && allFinite (workedOf (parametersOf x))
 
--- of clipped numbers: 7, 8, 9, then 10; else their worked card
+-- of clipped numbers: 10, or else their worked card
+abbrev pub reachOf : List Float → Verdict WorkedCard
+reachOf x = refuseIf (not (withinReach x)) OutOfReach (yes (cardOf x))
+
+-- 7, 8, 9, and then that
 abbrev pub judgeNumbers : List Float → Verdict WorkedCard
 judgeNumbers x =
     refuseIf (not (eq (level x) level504)) WrongLevel
-    (refuseIf (not (isSwitch (exsub x))) BadExsub
-    (refuseIf (not (octaveGood (octave x))) BadOctave (refuseIf (not (withinReach x)) OutOfReach (yes (cardOf x)))))
+    (refuseIf (not (isSwitch (exsub x))) BadExsub (refuseIf (not (octaveGood (octave x))) BadOctave (reachOf x)))
 
 -- of a record: clipping's 1 and 6 first
 unfoldable pub judgeOf : List ℕ → Verdict WorkedCard

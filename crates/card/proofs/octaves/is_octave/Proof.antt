@@ -1,12 +1,9 @@
--- `card::octaves::octave_of` meets its contract. In the range the cut number's own float has x's bits exactly where x is whole.
-use mathlib.Core.Path.{ap, _∙_}
+-- `card::octaves::is_octave` meets its contract. In the range the cut number's own float has x's bits exactly where x is whole.
 use lib.Dec.{T}
 use lib.Ieee.{binary64, fits}
-use native.Mathlib.Omega.{arith}
-use Rattle.card.specs.declared.octaves.Octave.the-variants.{Nanovolts}
-use Rattle.card.proofs.Range.{holds, can-cut, no-nan, exact, made-no-nan, is-whole, not-whole, octave-most}
-use Rattle.card.proofs.octaves.octave_of.Statement.{statement}
-use Rattle.card.proofs.octaves.octave_of.Tie as tie
+use Rattle.card.proofs.Range.{holds, can-cut, no-nan, exact, made-no-nan, is-whole, not-whole}
+use Rattle.card.proofs.octaves.is_octave.Statement.{statement}
+use Rattle.card.proofs.octaves.is_octave.Tie as tie
 
 -- what owning an f64 tells: the format holds it
 held : (c : tie.Start) → T (fits binary64 (c .args .x))
@@ -28,17 +25,11 @@ float-to-bits-if3 c =
 float-to-bits-if3-2 : tie.Need-float-to-bits-if3-2
 float-to-bits-if3-2 c = let t = c .before .before in no-nan _ (t .before .if1 .taken) (t .if2 .taken)
 
-cast-t9 : tie.Need-cast-t9
-cast-t9 c =
-    let t = c .before .before .before in
-    omega (arith, c .before .before .truncating-f64-to-u64 .ensures, octave-most _ (t .before .if1 .taken) (t .if2 .taken))
-
 returns : tie.Need-returns
 returns c =
     let t = c .before .before .before in
-    let cut = c .before .before .truncating-f64-to-u64 .ensures in
-    let w = is-whole _ (t .before .if1 .taken) (t .if2 .taken) (held (t .before .before)) _ cut (c .if3 .taken) in
-    ap Nanovolts cut ∙ rw (t .before .if1 .taken, t .if2 .taken, w)
+    let w = is-whole _ (t .before .if1 .taken) (t .if2 .taken) (held (t .before .before)) _ (c .before .before .truncating-f64-to-u64 .ensures) (c .if3 .taken) in
+    rw (t .before .if1 .taken, t .if2 .taken, w)
 
 returns-2 : tie.Need-returns-2
 returns-2 c =
@@ -52,15 +43,14 @@ returns-3 c = rw (c .before .if1 .taken, c .if2 .left)
 returns-4 : tie.Need-returns-4
 returns-4 c = rw (c .if1 .left)
 
-pub octave-of-spec : {M : Type 1} → statement M
-octave-of-spec =
+pub is-octave-spec : {M : Type 1} → statement M
+is-octave-spec =
     tie.close
     (tie.spec
     truncating-f64-to-u64-requires
     int-to-float-if3
     float-to-bits-if3
     float-to-bits-if3-2
-    cast-t9
     returns
     returns-2
     returns-3
