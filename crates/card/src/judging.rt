@@ -76,15 +76,10 @@ fn first_wrong(x: &[f64; WIDTH]) -> Answer
     let level = x[numbers::LEVEL] == 504.0;
     let exsub = is_switch(x[numbers::EXSUB]);
     let octave = octaves::is_octave(x[numbers::OCTAVE]);
-    unless(
-        level,
-        Refusal::WrongLevel,
-        unless(
-            exsub,
-            Refusal::BadExsub,
-            unless(octave, Refusal::BadOctave, Answer::Taken),
-        ),
-    )
+    let bad_exsub = Refusal::BadExsub;
+    let bad_octave = Refusal::BadOctave;
+    let after = unless(exsub, bad_exsub, unless(octave, bad_octave, Answer::Taken));
+    unless(level, Refusal::WrongLevel, after)
 }
 
 // 10, or the worked card.
