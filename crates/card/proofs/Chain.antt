@@ -21,7 +21,8 @@ use Rattle.card.specs.declared.Answer.the-variants as answer
 use Rattle.card.specs.Limits.{zero, one, tenth}
 use Rattle.card.specs.Work.{workedOf, allFinite}
 use Rattle.card.specs.Octave.{ten-million, fifty-million, wholePart, octaveGood, secondGood}
-use Rattle.card.specs.Judge.{parametersOf, exsub, rcbli, octave, level, mlf, product, cardFrom, cardOf, level504, isSwitch, withinReach, reachOf, judgeNumbers}
+use Rattle.card.specs.Judge.{parametersOf, exsub, rcbli, octave, level, mlf, product, cardFrom, cardOf, level504}
+use Rattle.card.specs.Judge.{isSwitch, withinReach, reachOf, judgeNumbers}
 use Rattle.card.specs.inner.Octaves.{secondIf, secondOf}
 use Rattle.card.specs.inner.Tests.{unlessPassed, firstWrong}
 use Rattle.card.specs.inner.Worked.{GoodMlf}
@@ -68,19 +69,23 @@ module _ (a b c : Bool) (e f g : Refusal) where
   abbrev first : Answer
   first = unlessPassed a e (unlessPassed b f (unlessPassed c g answer.Taken))
 
-  none-wrong : (v : Verdict WorkedCard) → first ≡ answer.Taken → (refuseIf (not a) e (refuseIf (not b) f (refuseIf (not c) g v)) ≡ v) × (c ≡ true)
+  none-wrong : (v : Verdict WorkedCard) → first ≡ answer.Taken
+      → (refuseIf (not a) e (refuseIf (not b) f (refuseIf (not c) g v)) ≡ v) × (c ≡ true)
   none-wrong v t = of a b c t
     where
-      of : (a b c : Bool) → unlessPassed a e (unlessPassed b f (unlessPassed c g answer.Taken)) ≡ answer.Taken → (refuseIf (not a) e (refuseIf (not b) f (refuseIf (not c) g v)) ≡ v) × (c ≡ true)
+      of : (a b c : Bool) → unlessPassed a e (unlessPassed b f (unlessPassed c g answer.Taken)) ≡ answer.Taken
+          → (refuseIf (not a) e (refuseIf (not b) f (refuseIf (not c) g v)) ≡ v) × (c ≡ true)
       of true true true t = (refl, refl)
       of true true false t = clash cc
       of true false c t = clash cc
       of false b c t = clash cc
 
-  some-wrong : (v : Verdict WorkedCard) (h : Refusal) → first ≡ answer.Refused h → refuseIf (not a) e (refuseIf (not b) f (refuseIf (not c) g v)) ≡ no h
+  some-wrong : (v : Verdict WorkedCard) (h : Refusal) → first ≡ answer.Refused h
+      → refuseIf (not a) e (refuseIf (not b) f (refuseIf (not c) g v)) ≡ no h
   some-wrong v h t = of a b c t
     where
-      of : (a b c : Bool) → unlessPassed a e (unlessPassed b f (unlessPassed c g answer.Taken)) ≡ answer.Refused h → refuseIf (not a) e (refuseIf (not b) f (refuseIf (not c) g v)) ≡ no h
+      of : (a b c : Bool) → unlessPassed a e (unlessPassed b f (unlessPassed c g answer.Taken)) ≡ answer.Refused h
+          → refuseIf (not a) e (refuseIf (not b) f (refuseIf (not c) g v)) ≡ no h
       of true true true t = clash cc
       of true true false t = cc
       of true false c t = cc
@@ -108,7 +113,8 @@ module _ (x : List Float) where
     pub not-all : allFinite w ≡ false → refused (told OutOfReach) ≡ tells (reachOf x)
     not-all a = out-of-reach (reach ∙ a)
 
-    pub taken : (n : ℕ) (c : WorkedCard) → n ≡ wholePart (octave x) → c ≡ cardFrom w n k (eq (exsub x) one) (eq (rcbli x) zero) → allFinite w ≡ true → given c ≡ tells (reachOf x)
+    pub taken : (n : ℕ) (c : WorkedCard) → n ≡ wholePart (octave x)
+        → c ≡ cardFrom w n k (eq (exsub x) one) (eq (rcbli x) zero) → allFinite w ≡ true → given c ≡ tells (reachOf x)
     taken n c en ec a =
         let card : c ≡ cardOf x = ec ∙ rw (en, told-second (secondGood (product x)) _ k p .1, ew) in
         ap given card ∙ rw (reach, a)

@@ -44,7 +44,8 @@ unfolding clippedUp
 each-clipped s zero i h = absurd (omega arith)
 each-clipped s (suc n) i h = of (ℕ-discrete i n) (λ l. each-clipped s n i l)
   where
-    of : Dec (i ≡ n) → (i < n → getD (clippedUp s n) i nan ≡ clippedAt s i) → getD (clippedUp s n ++ (clippedAt s n ∷ [])) i nan ≡ clippedAt s i
+    of : Dec (i ≡ n) → (i < n → getD (clippedUp s n) i nan ≡ clippedAt s i)
+        → getD (clippedUp s n ++ (clippedAt s n ∷ [])) i nan ≡ clippedAt s i
     of (yes d) g = rw d (getD-at (clippedUp s n) (clippedAt s n) [] nan n (long s n))
     of (no d) g = List·getD-append (clippedUp s n) (clippedAt s n ∷ []) nan i (omega (arith, long s n)) ∙ g (omega arith)
 

@@ -5,7 +5,8 @@ use Prim.Native.Nat.{ℕ, _-_, _*_, _/_, _^_, _≤_, _<_, min}
 use native.Mathlib.Omega.{arith}
 use lib.Dec.{T, ltb, lt→ltb, le→leb, not-T}
 use lib.IntN.{pos}
-use lib.Ieee.{Float, nan, inf, fin, binary64, lt, le, ofBits, toBits, ofInt, up, down, toUnsigned, inUnsigned, inFloat, whole, isNan, fits}
+use lib.Ieee.{Float, nan, inf, fin, binary64, lt, le, ofBits, toBits, ofInt, up, down, toUnsigned, inUnsigned, inFloat}
+use lib.Ieee.{whole, isNan, fits}
 use lib.Ieee.Back.{unsigned-back, float-back-unsigned}
 use lib.Ieee.Bits.{ofBits-toBits, is-true, is-false}
 use lib.Ieee.Fits.{ofInt-fits, and-i, and-l}

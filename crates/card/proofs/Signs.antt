@@ -7,7 +7,8 @@ use native.Mathlib.Omega.{arith}
 use mathlib.Core.Logic.{_⊎_, inl, inr}
 use lib.Dec.{T, ltb, eqb}
 use lib.IntN.{pos}
-use lib.Ieee.{Float, nan, inf, fin, Format, prec, emax, low, size, nearest, ofBits, up, down, odd, units, round, sum, sub, mul, div, lt, eq}
+use lib.Ieee.{Float, nan, inf, fin, Format, prec, emax, low, size, nearest, ofBits, up, down, odd, units, round, sum}
+use lib.Ieee.{sub, mul, div, lt, eq}
 use lib.Ieee.Fits.{up-pos, down-pos}
 use lib.Ieee.Scale.{finite}
 use borrow.Author.Tests.{ltb-false, eq-eqb}
@@ -107,7 +108,8 @@ plain-plus : (x : Float) → T (plus x) → T (plus (plainOf x))
 plain-plus x p = cond-plus (eq x limits.zero) limits.zero x zero-plus p
 
 -- a number that is not below one without a minus sign has none itself, or is -0
-not-below : (low x : Float) → T (plus low) → T (finite x) → lt x low ≡ false → T (plus x) ⊎ (eq x (fin false 0 (pos 0)) ≡ true)
+not-below : (low x : Float) → T (plus low) → T (finite x) → lt x low ≡ false
+    → T (plus x) ⊎ (eq x (fin false 0 (pos 0)) ≡ true)
 unfolding lt eq
 not-below nan x p f h = absurd p
 not-below (inf s) x p f h = absurd p
@@ -118,7 +120,8 @@ not-below (fin false m d) (fin false n e) p f h = inl tt
 not-below (fin false m d) (fin true n e) p f h =
     let l = ltb-false 0 (n * up e * down d + m * up d * down e) h in inr (minus-zero (eq-zero-or-pos n) (omega arith))
   where
-    minus-zero : (n ≡ 0) ⊎ (0 < n) → n * up e * down d ≤ 0 → (eqb (n * up e * 1) (0 * 1 * down e) && (false || eqb (n * up e * 1) 0)) ≡ true
+    minus-zero : (n ≡ 0) ⊎ (0 < n) → n * up e * down d ≤ 0
+        → (eqb (n * up e * 1) (0 * 1 * down e) && (false || eqb (n * up e * 1) 0)) ≡ true
     minus-zero (inl z) k =
         let y : n * up e ≡ 0 = ap (λ (i : ℕ). i * up e) z ∙ zero-mul (up e) in
         rw (eq-eqb (n * up e * 1) (0 * 1 * down e) (omega arith), eq-eqb (n * up e * 1) 0 (omega arith))
@@ -137,7 +140,8 @@ least-plus low x p f = of (lt x low) refl
     of true e = plain-plus low p
     of false e = kept-plus low x p f e
 
-pub between-plus : (low high x : Float) → T (plus low) → T (plus high) → T (finite x) → T (plus (clipTo (Between low high) x))
+pub between-plus : (low high x : Float) → T (plus low) → T (plus high) → T (finite x)
+    → T (plus (clipTo (Between low high) x))
 between-plus low high x p q f = of (lt x low) refl (lt high x)
   where
     of : (b : Bool) → lt x low ≡ b → (c : Bool) → T (plus (plainOf (cond b low (cond c high x))))

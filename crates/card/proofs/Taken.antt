@@ -29,7 +29,8 @@ module _ (n : ℕ) (s : List ℕ) where
     unfolding clipOf
     taken f = rw (l, f)
 
-    pub clips-taken : finiteUp s n ≡ true → {numbers : List Float} {mask : ℕ} → numbers ≡ clippedUp s n → mask ≡ maskUp s n → Clips n s (record { answer = answer.Taken; numbers = numbers; mask = mask })
+    pub clips-taken : finiteUp s n ≡ true → {numbers : List Float} {mask : ℕ} → numbers ≡ clippedUp s n
+        → mask ≡ maskUp s n → Clips n s (record { answer = answer.Taken; numbers = numbers; mask = mask })
     clips-taken f en em =
         let e = taken f in record { answer = rw e; numbers = rw e en; mask = rw e em }
 

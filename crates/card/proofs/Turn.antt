@@ -43,7 +43,8 @@ module _ (s : List ℕ) (i w : ℕ) (n : Number) (ew : w ≡ leAt 8 s (8 * i)) (
   pub is-nothing : n ≡ Nothing → finite (numberAt s i) ≡ false
   is-nothing e = nothing-if (finite (numberAt s i)) (numberAt s i) (read-at ∙ e)
 
-pub clipped-is : (s : List ℕ) (i : ℕ) (r : Rule) (x y : Float) → r ≡ ruleOf i → x ≡ numberAt s i → y ≡ clipTo r x → y ≡ clippedAt s i
+pub clipped-is : (s : List ℕ) (i : ℕ) (r : Rule) (x y : Float) → r ≡ ruleOf i → x ≡ numberAt s i → y ≡ clipTo r x
+    → y ≡ clippedAt s i
 unfolding clippedAt
 clipped-is s i r x y er ex ey = ey ∙ ap₂ clipTo er ex
 
@@ -133,7 +134,9 @@ module _ {n : ℕ} {s : List ℕ} {numbers : List Float} {mask bit i : ℕ} (p :
   turn = rw add-one more
 
 -- ---- after the loop
-pub finished : {n : ℕ} {s : List ℕ} {numbers : List Float} {mask bit i : ℕ} → hasWords n s ≡ true → Passed n s numbers mask bit i → n ≤ i → Clips n s (record { answer = answer.Taken; numbers = numbers; mask = mask })
+pub finished : {n : ℕ} {s : List ℕ} {numbers : List Float} {mask bit i : ℕ} → hasWords n s ≡ true
+    → Passed n s numbers mask bit i → n ≤ i
+    → Clips n s (record { answer = answer.Taken; numbers = numbers; mask = mask })
 finished {n} {s} {numbers} {mask} {bit} {i} l p h =
     let e : i ≡ n = omega (arith, p .few) in
     let q : Passed n s numbers mask bit n = rw e at p in

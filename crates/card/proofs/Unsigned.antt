@@ -20,7 +20,8 @@ use Rattle.card.specs.inner.Worked.{Each}
 use Rattle.card.specs.laws.Sign.{unsigned, Unsigned}
 use Rattle.card.proofs.Range.{holds}
 use Rattle.card.proofs.Clipped.{each-finite, each-clipped}
-use Rattle.card.proofs.Signs.{plus, plus-unsigned, zero-plus, kept-plus, least-plus, between-plus, mul-unsigned, div-unsigned, sub-unsigned}
+use Rattle.card.proofs.Signs.{plus, plus-unsigned, zero-plus, kept-plus, least-plus, between-plus, mul-unsigned}
+use Rattle.card.proofs.Signs.{div-unsigned, sub-unsigned}
 
 -- ---- the limits
 limits-plus : T (plus one) × T (plus four) × T (plus pico) × T (plus tenth-milli) × T (plus tenth-nano)
@@ -59,7 +60,8 @@ free-plus x f h = of (eq x zero) refl h
     of true e k = subst (λ (b : Bool). T (plus (cond b zero x))) (sym e) zero-plus
     of false e k = kept-plus zero x zero-plus f k
 
-sf-unsigned : (icss mult sub : Float) → (lt icss zero ≡ false → T (plus icss)) → T (unsigned mult) → T (unsigned sub) → T (unsigned (sfOf icss mult sub))
+sf-unsigned : (icss mult sub : Float) → (lt icss zero ≡ false → T (plus icss)) → T (unsigned mult) → T (unsigned sub)
+    → T (unsigned (sfOf icss mult sub))
 sf-unsigned icss mult sub p q r = of (lt icss zero) refl
   where
     of : (b : Bool) → lt icss zero ≡ b → T (unsigned (cond b sub (mul binary64 icss mult)))

@@ -150,7 +150,8 @@ taken-short x h = let l : length x ≤ 16 = omega arith in sym (ap length (take-
 pub taken-sixteen : (x : List ℕ) → 16 ≤ length x → 16 ≡ length (take 16 x)
 taken-sixteen x h = sym (length-take-le 16 x h)
 
-pub is-padded : (x : List ℕ) {cur : List ℕ} {i : ℕ} → Filled (take 16 x) (replicate 16 0) cur i → length (take 16 x) ≤ i → cur ≡ padded x
+pub is-padded : (x : List ℕ) {cur : List ℕ} {i : ℕ} → Filled (take 16 x) (replicate 16 0) cur i → length (take 16 x) ≤ i
+    → cur ≡ padded x
 unfolding padded
 is-padded x v h =
     let e : 16 - length (take 16 x) ≡ 16 - length x = rw length-take (omega arith) in

@@ -4,7 +4,8 @@ use mathlib.Core.Bool.{not}
 use mathlib.Core.List.{List}
 use Prim.Native.Nat.{ℕ}
 use lib.Ieee.{Float, eq}
-use Rattle.refusal.specs.declared.Refusal.the-variants.{Malformed, NotFinite, WrongLevel, BadExsub, BadOctave, OutOfReach}
+use Rattle.refusal.specs.declared.Refusal.the-variants.{Malformed, NotFinite, WrongLevel, BadExsub, BadOctave}
+use Rattle.refusal.specs.declared.Refusal.the-variants.{OutOfReach}
 use Rattle.refusal.specs.Order.{Verdict, refuseIf, numberTold, numberIf, number-first, then-if}
 use Rattle.card.specs.declared.WorkedCard.{WorkedCard}
 use Rattle.card.specs.Limits.{width}
@@ -33,7 +34,8 @@ unfolding clipOf
 clip-tells n s = simp number-first
 
 -- loading's order whole: clipping's tests, and then those of the clipped numbers
-pub judge-order : (s : List ℕ) → judgeOf s ≡ refuseIf (not (hasWords width s)) Malformed (refuseIf (not (finiteUp s width)) NotFinite (judgeNumbers (clippedUp s width)))
+pub judge-order : (s : List ℕ)
+    → judgeOf s ≡ refuseIf (not (hasWords width s)) Malformed (refuseIf (not (finiteUp s width)) NotFinite (judgeNumbers (clippedUp s width)))
 unfolding clipOf judgeOf
 judge-order s =
     simp then-if

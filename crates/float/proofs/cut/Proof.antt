@@ -16,12 +16,14 @@ use Rattle.float.proofs.Kept.{read-back}
 use Rattle.float.proofs.cut.Statement.{statement}
 use Rattle.float.proofs.cut.Tie as tie
 
-low : (x : Float) (s : Bool) (d n : ℕ) (r : Split) → ofFields binary64 s d n ≡ x → d ≡ 0 → n < 2 ^ 52 → r ≡ splitOf (fin false n (negsuc 1073)) → r ≡ splitOf x
+low : (x : Float) (s : Bool) (d n : ℕ) (r : Split) → ofFields binary64 s d n ≡ x → d ≡ 0 → n < 2 ^ 52
+    → r ≡ splitOf (fin false n (negsuc 1073)) → r ≡ splitOf x
 low x s d n r e z l h =
     h ∙ plain-split n ∙ sym (odd-split s n 0 (omega arith))
     ∙ ap splitOf (sym (unled-value s n) ∙ ap (λ (k : ℕ). ofFields binary64 s k n) (sym z) ∙ e)
 
-high : (x : Float) (s : Bool) (d n : ℕ) → ofFields binary64 s d n ≡ x → (d ≡ 0 → ⊥) → n < 2 ^ 52 → T (finite x) → record { a = (2 ^ 52 + n) / 2 ^ 22; up = d + 995 } ≡ splitOf x
+high : (x : Float) (s : Bool) (d n : ℕ) → ofFields binary64 s d n ≡ x → (d ≡ 0 → ⊥) → n < 2 ^ 52 → T (finite x)
+    → record { a = (2 ^ 52 + n) / 2 ^ 22; up = d + 995 } ≡ splitOf x
 high x s zero n e z l f = absurd (z refl)
 high x s (suc j) n e z l f =
     sym (led-units n j l) ∙ sym (odd-split s (2 ^ 52 + n) j (omega arith))

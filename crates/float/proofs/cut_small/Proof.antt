@@ -22,7 +22,8 @@ shifted : (n z : ℕ) → n < 2 ^ 52 → z ≡ size n → n * 2 ^ (53 - z) % 2 ^
 shifted n z l e =
     ap (λ (x : ℕ). n * 2 ^ (53 - x) % 2 ^ 64) e ∙ shl-exact (size n) (53 - size n) 64 (size-lt n) (omega (arith, size-le n 53 (omega arith)))
 
-some-units : (n z : ℕ) → (n ≡ 0 → ⊥) → n < 2 ^ 52 → z ≡ size n → record { a = n * 2 ^ (53 - z) % 2 ^ 64 / 2 ^ 22; up = z + 943 } ≡ unitsOf n 0
+some-units : (n z : ℕ) → (n ≡ 0 → ⊥) → n < 2 ^ 52 → z ≡ size n
+    → record { a = n * 2 ^ (53 - z) % 2 ^ 64 / 2 ^ 22; up = z + 943 } ≡ unitsOf n 0
 some-units zero z h l e = absurd (h refl)
 some-units (suc n) z h l e =
     let up : z + 943 ≡ 0 + size (suc n) + 943 = omega arith in

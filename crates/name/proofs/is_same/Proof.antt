@@ -17,7 +17,8 @@ module _ (c : tie.After-u64-at4) where
   b : List ℕ
   b = c .before .before .before .before .before .before .before .before .args .b .now
 
-  words-a : length a ≡ 16 → Words a (c .before .before .before .before .before .before .u64-at .result) (c .before .before .before .before .u64-at2 .result)
+  words-a : length a ≡ 16
+      → Words a (c .before .before .before .before .before .before .u64-at .result) (c .before .before .before .before .u64-at2 .result)
   unfolding a
   words-a h = rw (take-all 16 a (le-of-eq h)) at (words-of a (le-of-eq (sym h)) (c .before .before .before .before .before .before .u64-at .ensures) (c .before .before .before .before .u64-at2 .ensures))
 

@@ -9,7 +9,8 @@ use Rattle.card.specs.declared.Clipping.{Clipping}
 use Rattle.card.specs.Limits.{width}
 use Rattle.card.specs.Clip.{Clips}
 use Rattle.card.proofs.Taken.{not-number, clips-refused}
-use Rattle.card.proofs.Turn.{Passed, at-most, start, small, turn, finished, is-real, is-nothing, not-finite, clipped-is}
+use Rattle.card.proofs.Turn.{Passed, at-most, start, small, turn, finished, is-real, is-nothing, not-finite}
+use Rattle.card.proofs.Turn.{clipped-is}
 use Rattle.card.proofs.words.clip_all.Statement.{statement}
 use Rattle.card.proofs.words.clip_all.Tie as tie
 

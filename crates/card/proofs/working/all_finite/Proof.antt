@@ -18,7 +18,8 @@ record Left (x : List Float) (i : ℕ) : Type 0 where
   pub few : i ≤ length x
   pub same : all finite x ≡ all finite (drop i x)
 
-one-more : (x : List Float) (i : ℕ) → i < length x → all finite (drop i x) ≡ finite (getD x i nan) && all finite (drop (i + 1) x)
+one-more : (x : List Float) (i : ℕ) → i < length x
+    → all finite (drop i x) ≡ finite (getD x i nan) && all finite (drop (i + 1) x)
 one-more x i h = rw (add-one, drop-cons x i nan)
 
 abbrev Inv-loop : tie.InvT-loop
