@@ -37,7 +37,8 @@ module _ {s : List ℕ} {r : Clipping} (c : Clips width s r) where
   went t =
       let e = clip-taken (clipOf width s) (c .answer) t in
       let n : r .numbers ≡ clippedUp s width = rw e at (c .numbers) in
-      record { numbers = n; good = subst GoodMlf (sym n) (good-mlf s width (omega arith) (all-finite width s e)); next = rw (e, n) }
+      let g = good-mlf s width (omega arith) (all-finite width s e) in
+      record { numbers = n; good = subst GoodMlf (sym n) g; next = rw (e, n) }
 
   pub stays : (f : Refusal) → r .answer ≡ answer.Refused f → refused (told f) ≡ tells (judgeOf s)
   unfolding judgeOf

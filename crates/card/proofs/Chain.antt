@@ -54,7 +54,8 @@ module _ (m x : Float) (f : T (positive m)) (l : T (le tenth m)) (g : octaveGood
       let a = and-true (le ten-million x) _ g in
       let b = and-true (le x fifty-million) _ (a .1) in
       subst (λ (k : Float). T (le k (mul binary64 m x))) million-is
-      (mul-mono binary64 (fin false 3602879701896397 (negsuc 54)) m (fin false 78125 (pos 7)) x tt f tt (in-range x (a .0) (b .0)) (subst (λ (k : Float). T (le k m)) tenth-is l) (from x (a .0) (b .0)))
+      (mul-mono binary64 (fin false 3602879701896397 (negsuc 54)) m (fin false 78125 (pos 7)) x tt f tt
+      (in-range x (a .0) (b .0)) (subst (λ (k : Float). T (le k m)) tenth-is l) (from x (a .0) (b .0)))
 
   pub product-above : T (above (mul binary64 m x))
   product-above = above-of-le (fin false 15625 (pos 6)) (mul binary64 m x) tt product-least
@@ -93,10 +94,14 @@ module _ (a b c : Bool) (e f g : Refusal) where
 
 module _ (x : List Float) {r : Answer} (e : r ≡ firstWrong x) where
   pub goes-on : r ≡ answer.Taken → (judgeNumbers x ≡ reachOf x) × (octaveGood (octave x) ≡ true)
-  goes-on t = none-wrong (eq (level x) level504) (isSwitch (exsub x)) (octaveGood (octave x)) WrongLevel BadExsub BadOctave (reachOf x) (sym e ∙ t)
+  goes-on t =
+      none-wrong (eq (level x) level504) (isSwitch (exsub x)) (octaveGood (octave x)) WrongLevel BadExsub BadOctave
+      (reachOf x) (sym e ∙ t)
 
   pub stops : (f : Refusal) → r ≡ answer.Refused f → judgeNumbers x ≡ no f
-  stops f t = some-wrong (eq (level x) level504) (isSwitch (exsub x)) (octaveGood (octave x)) WrongLevel BadExsub BadOctave (reachOf x) f (sym e ∙ t)
+  stops f t =
+      some-wrong (eq (level x) level504) (isSwitch (exsub x)) (octaveGood (octave x)) WrongLevel BadExsub BadOctave
+      (reachOf x) f (sym e ∙ t)
 
 -- ---- 10
 module _ (x : List Float) where

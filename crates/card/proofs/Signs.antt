@@ -1,4 +1,4 @@
--- Signs through the operations: what has no minus sign keeps none under a product, a quotient, and a difference from something larger.
+-- Signs through the operations: what has no minus sign keeps none in a product, a quotient, and what is left of more.
 use mathlib.Core.Path.{_≡_, refl, sym, ap, subst, _∙_}
 use mathlib.Core.Bool.{Bool, true, false, not, cond, _&&_, _||_}
 use Prim.Native.Nat.{ℕ, zero, suc, _+_, _-_, _*_, _/_, _%_, _^_, _≤_, _<_, compare}
@@ -42,7 +42,8 @@ odd-unsigned d (suc q) k l = tt
 units-unsigned : (f : Format) (q k : ℕ) → T (unsigned (units f false q k))
 unfolding units
 units-unsigned f q k =
-    cond-unsigned (ltb (q * 2 ^ k) (2 ^ (low f + suc (emax f)))) (odd (suc (prec f)) false q k (low f)) (inf false) (odd-unsigned (suc (prec f)) q k (low f)) tt
+    cond-unsigned (ltb (q * 2 ^ k) (2 ^ (low f + suc (emax f)))) (odd (suc (prec f)) false q k (low f)) (inf false)
+    (odd-unsigned (suc (prec f)) q k (low f)) tt
 
 round-unsigned : (f : Format) (a b : ℕ) → T (unsigned (round f false a b))
 unfolding round
@@ -93,7 +94,8 @@ sub-unsigned f (fin true m e) y p q h = absurd p
 sub-unsigned f (fin false m e) nan p q h = absurd q
 sub-unsigned f (fin false m e) (inf s) p q h = absurd q
 sub-unsigned f (fin false m e) (fin true n d) p q h = absurd q
-sub-unsigned f (fin false m e) (fin false n d) p q h = sum-unsigned f (m * up e * down d) (n * up d * down e) (down e * down d) h
+sub-unsigned f (fin false m e) (fin false n d) p q h =
+    sum-unsigned f (m * up e * down d) (n * up d * down e) (down e * down d) h
 
 -- ---- the clip rules
 cond-plus : (b : Bool) (x y : Float) → T (plus x) → T (plus y) → T (plus (cond b x y))

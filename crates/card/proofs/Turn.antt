@@ -84,7 +84,8 @@ not-finite s (suc n) i h e = of (ℕ-discrete i n) (λ l. not-finite s n i l e)
   where
     of : Dec (i ≡ n) → (i < n → finiteUp s n ≡ false) → finiteUp s (suc n) ≡ false
     of (yes d) g =
-        finite-more s n ∙ ap (λ (b : Bool). finiteUp s n && b) (ap (λ (k : ℕ). finite (numberAt s k)) (sym d) ∙ e) ∙ and-false (finiteUp s n)
+        finite-more s n ∙ ap (λ (b : Bool). finiteUp s n && b) (ap (λ (k : ℕ). finite (numberAt s k)) (sym d) ∙ e)
+        ∙ and-false (finiteUp s n)
     of (no d) g = finite-more s n ∙ ap (λ (b : Bool). b && finite (numberAt s n)) (g (omega arith))
 
 -- ---- the loop's invariant, over a record of n words
@@ -118,20 +119,34 @@ cond-le false n = omega arith
 pub small : (x y : Float) (bit w : ℕ) → w ≡ cond (ne x y) bit 0 → w ≤ bit
 small x y bit w e = let l = cond-le (ne x y) bit in omega arith
 
-module _ {n : ℕ} {s : List ℕ} {numbers : List Float} {mask bit i : ℕ} (p : Passed n s numbers mask bit i) (h : i < n) (x y : Float) (w : ℕ) (ew : w ≡ cond (ne x y) bit 0) (f : finite (numberAt s i) ≡ true) (ex : x ≡ numberAt s i) (ey : y ≡ clippedAt s i) where
-  more : Passed n s (set numbers i y) (mask + w) (bit * 2) (suc i)
-  more = record {
-    few = omega arith;
-    long = length-set numbers i y ∙ p .long;
-    good = finite-more s i ∙ ap₂ _&&_ (p .good) f;
-    done = take-suc-set numbers i y (omega (arith, p .long)) ∙ ap₂ (λ (l : List Float) (v : Float). l ++ (v ∷ [])) (p .done) ey ∙ sym (numbers-more s i);
-    bits = ap₂ _+_ (p .bits) (ew ∙ cc (ex, ey, p .power)) ∙ sym (mask-more s i);
-    power = ap (λ (k : ℕ). k * 2) (p .power) ∙ sym (pow-suc 2 i);
-    under = omega (arith, small x y bit w ew, p .under);
-  }
+-- what a turn reads, clips and marks
+pub record Turned (s : List ℕ) (i bit : ℕ) (x y : Float) (w : ℕ) : Type 0 where
+  pub good : finite (numberAt s i) ≡ true
+  pub number : x ≡ numberAt s i
+  pub clipped : y ≡ clippedAt s i
+  pub weight : w ≡ cond (ne x y) bit 0
 
-  pub turn : Passed n s (set numbers i y) (mask + w) (bit * 2) (i + 1)
-  turn = rw add-one more
+module _ {n : ℕ} {s : List ℕ} {numbers : List Float} {mask bit i : ℕ} (p : Passed n s numbers mask bit i) (h : i < n) where
+  further : (y : Float) → y ≡ clippedAt s i → take (suc i) (set numbers i y) ≡ clippedUp s (suc i)
+  further y e =
+      take-suc-set numbers i y (omega (arith, p .long))
+      ∙ ap₂ (λ (l : List Float) (v : Float). l ++ (v ∷ [])) (p .done) e
+      ∙ sym (numbers-more s i)
+
+  module _ {x y : Float} {w : ℕ} (t : Turned s i bit x y w) where
+    more : Passed n s (set numbers i y) (mask + w) (bit * 2) (suc i)
+    more = record {
+      few = omega arith;
+      long = length-set numbers i y ∙ p .long;
+      good = finite-more s i ∙ ap₂ _&&_ (p .good) (t .good);
+      done = further y (t .clipped);
+      bits = ap₂ _+_ (p .bits) (t .weight ∙ cc (t .number, t .clipped, p .power)) ∙ sym (mask-more s i);
+      power = ap (λ (k : ℕ). k * 2) (p .power) ∙ sym (pow-suc 2 i);
+      under = omega (arith, small x y bit w (t .weight), p .under);
+    }
+
+    pub turn : Passed n s (set numbers i y) (mask + w) (bit * 2) (i + 1)
+    turn = rw add-one more
 
 -- ---- after the loop
 pub finished : {n : ℕ} {s : List ℕ} {numbers : List Float} {mask bit i : ℕ} → hasWords n s ≡ true

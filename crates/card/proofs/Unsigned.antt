@@ -96,10 +96,13 @@ module _ (s : List ℕ) (f : finiteUp s width ≡ true) where
   xibi-at = by-rule number.xibi (Between zero one) (omega arith) refl
 
   xibi-plus : T (plus xibi)
-  xibi-plus = rw xibi-at (between-plus zero one (numberAt s number.xibi) zero-plus (limits-plus .0) (number-finite number.xibi (omega arith)))
+  xibi-plus =
+      rw xibi-at
+      (between-plus zero one (numberAt s number.xibi) zero-plus (limits-plus .0) (number-finite number.xibi (omega arith)))
 
   left-of-one : T (unsigned (sub binary64 one xibi))
-  left-of-one = sub-unsigned binary64 one xibi (limits-plus .0) xibi-plus (rw xibi-at (under-one (numberAt s number.xibi)))
+  left-of-one =
+      sub-unsigned binary64 one xibi (limits-plus .0) xibi-plus (rw xibi-at (under-one (numberAt s number.xibi)))
 
   icss-plus : lt (at x number.icss) zero ≡ false → T (plus (at x number.icss))
   icss-plus h =

@@ -43,9 +43,12 @@ module _ (P : Float → Type 0) (h : (x : Float) → T (fits binary64 x) → T (
   each-worked p =
       let product = mul-fits binary64 in
       let quotient = div-fits binary64 in
-      let either = cond-fits binary64 (lt (p .icss) zero) _ _ (product (p .iss) (p .mult)) (product (p .icss) (p .mult)) in
-      each-finite (valuesOf (workedOf p))
-      (product _ _, (quotient _ _, (quotient _ _, (product _ _, (quotient _ _, (product _ _, (either, (quotient _ _, (quotient _ _, tt)))))))))
+      let either = cond-fits binary64 (lt (p .icss) zero) _ _ (product (p .iss) (p .mult))
+      (product (p .icss) (p .mult)) in
+      each-finite (valuesOf (workedOf p)) (
+        product _ _,
+        (quotient _ _, (quotient _ _, (product _ _, (quotient _ _, (product _ _, (either, (quotient _ _, (quotient _ _, tt)))))))),
+      )
 
 -- ---- the second octave
 million-or-more : (y : Float) → T (positive y) → T (le (fin false 15625 (pos 6)) y) → secondLeast ≤ wholePart y
@@ -108,4 +111,5 @@ pub judged-powers : (s : List ℕ) (c : WorkedCard) → judgeOf s ≡ yes c
 judged-powers s c e =
     let p = passes s c e in
     let x = clippedUp s width in
-    each-worked (λ v. subℕ (splitOf v .up) bias ≡ splitB v) power-kept (parametersOf x) (and-true (secondGood (product x)) _ (p .reach) .1)
+    each-worked (λ v. subℕ (splitOf v .up) bias ≡ splitB v) power-kept (parametersOf x)
+    (and-true (secondGood (product x)) _ (p .reach) .1)

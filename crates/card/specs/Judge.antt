@@ -78,7 +78,8 @@ cardFrom w o n e z = record {
 -- the worked card of clipped numbers
 abbrev pub cardOf : List Float → WorkedCard
 cardOf x =
-    cardFrom (workedOf (parametersOf x)) (wholePart (octave x)) (wholePart (product x)) (eq (exsub x) one) (eq (rcbli x) zero)
+    cardFrom (workedOf (parametersOf x)) (wholePart (octave x)) (wholePart (product x)) (eq (exsub x) one)
+    (eq (rcbli x) zero)
 
 -- what stands where there is no card
 abbrev pub noWorked : WorkedCard

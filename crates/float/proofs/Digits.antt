@@ -38,7 +38,8 @@ size-shifted m t h =
     let j = d .0 in
     let lo = le-trans (le-of-eq (pow-add 2 j t)) (mul-le-mul-right (2 ^ t) (d .1 .reached)) in
     let up : suc j + t ≡ suc (j + t) = omega arith in
-    let hi = lt-of-lt-of-le (mul-lt-mul-of-pos-right (d .1 .under) (pow-pos t)) (le-of-eq (sym (pow-add 2 (suc j) t) ∙ ap (λ (x : ℕ). 2 ^ x) up)) in
+    let hi = lt-of-lt-of-le (mul-lt-mul-of-pos-right (d .1 .under) (pow-pos t))
+    (le-of-eq (sym (pow-add 2 (suc j) t) ∙ ap (λ (x : ℕ). 2 ^ x) up)) in
     size-is (j + t) (m * 2 ^ t) lo hi ∙ omega (arith, d .1 .digits)
 
 pub some-digit : (n : ℕ) → 0 < n → 1 ≤ size n
@@ -51,7 +52,8 @@ zeros-back d q =
     let t = trailingZeros d (suc q) in
     let m = suc q / 2 ^ t in
     let h : m * 2 ^ (0 + t - 0) * 1 ≡ suc q * 1 * 1 = rw (leb·zero (0 + t)) at (odd-val d false (suc q) 0 0) in
-    ap (λ (x : ℕ). m * 2 ^ x) (plain t) ∙ sym (mul-one (m * 2 ^ (0 + t - 0))) ∙ h ∙ mul-one (suc q * 1) ∙ mul-one (suc q)
+    ap (λ (x : ℕ). m * 2 ^ x) (plain t) ∙ sym (mul-one (m * 2 ^ (0 + t - 0))) ∙ h ∙ mul-one (suc q * 1)
+    ∙ mul-one (suc q)
   where
     plain : (t : ℕ) → t ≡ 0 + t - 0
     plain t = omega arith

@@ -1,4 +1,4 @@
--- Every finite f64 is some units of 2^-1074, so its split is within bounds, and the bias added to its power loses nothing.
+-- Every finite f64 is some units of 2^-1074: its split is within bounds, and the bias added to its power loses nothing.
 use mathlib.Core.Path.{_≡_, sym, ap, subst, _∙_}
 use mathlib.Core.Bool.{Bool}
 use Prim.Native.Nat.{ℕ, zero, suc, _+_, _/_, _%_, _^_, _≤_, _<_}

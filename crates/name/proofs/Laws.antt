@@ -77,14 +77,16 @@ module _ (s : List ℕ) where
   module _ (h : length s ≡ 16) {k : ℕ} (e : k ≡ run s) where
     pub no-mark : k ≡ 0 → false ≡ wellFormed s
     unfolding wellFormed
-    no-mark z = let l : run s ≤ 0 = omega arith in sym (and-true (eq-eqb (length s) 16 h) ∙ and-false (le-ltb 0 (run s) l) _)
+    no-mark z =
+        let l : run s ≤ 0 = omega arith in sym (and-true (eq-eqb (length s) 16 h) ∙ and-false (le-ltb 0 (run s) l) _)
 
     -- t is what was found of the part after the k leading bytes
     pub then-zeros : (k ≡ 0 → ⊥) → (t : Bool) → t ≡ zeros (take (length s - k) (drop k s)) → t ≡ wellFormed s
     unfolding wellFormed
     then-zeros z t f =
         let l : 0 < run s = omega arith in
-        f ∙ ap zeros (rest s k ∙ ap (λ (n : ℕ). drop n s) e) ∙ sym (and-true (eq-eqb (length s) 16 h) ∙ and-true (lt-ltb 0 (run s) l))
+        f ∙ ap zeros (rest s k ∙ ap (λ (n : ℕ). drop n s) e)
+        ∙ sym (and-true (eq-eqb (length s) 16 h) ∙ and-true (lt-ltb 0 (run s) l))
 
 module _ (x : List ℕ) where
   pub asked-none : length x ≤ 0 → false ≡ asked x
@@ -98,7 +100,8 @@ module _ (x : List ℕ) where
 
     pub asked-run : length x ≤ 16 → {k : ℕ} → k ≡ run x → eqb k (length x) ≡ asked x
     unfolding asked
-    asked-run l e = ap (λ (n : ℕ). eqb n (length x)) e ∙ sym (and-true (lt-ltb 0 (length x) h) ∙ and-true (le-leb (length x) 16 l))
+    asked-run l e =
+        ap (λ (n : ℕ). eqb n (length x)) e ∙ sym (and-true (lt-ltb 0 (length x) h) ∙ and-true (le-leb (length x) 16 l))
 
 -- ---- filling a list from its front
 
@@ -116,11 +119,14 @@ module _ {new old cur : List ℕ} {i : ℕ} (v : Filled new old cur i) where
   pub fill-more : (x : ℕ) → i < length new → x ≡ getD new i 0 → Filled new old (set cur i x) (i + 1)
   fill-more x h e =
       let ho : i < length old = let f = v .fits in omega arith in
-      let apart : cur ≡ take i new ++ getD old i 0 ∷ drop (suc i) old = v .so-far ∙ ap (λ (l : List ℕ). take i new ++ l) (drop-cons old i 0 ho) in
+      let apart : cur ≡ take i new ++ getD old i 0 ∷ drop (suc i) old = v .so-far
+      ∙ ap (λ (l : List ℕ). take i new ++ l) (drop-cons old i 0 ho) in
       let stored : set cur i x ≡ take i new ++ x ∷ drop (suc i) old =
-      ap (λ (l : List ℕ). set l i x) apart ∙ set-at (take i new) (getD old i 0) (drop (suc i) old) x i (length-take-le i new (v .within)) in
+      ap (λ (l : List ℕ). set l i x) apart
+      ∙ set-at (take i new) (getD old i 0) (drop (suc i) old) x i (length-take-le i new (v .within)) in
       let longer : take i new ++ x ∷ drop (suc i) old ≡ take (suc i) new ++ drop (suc i) old =
-      ap (λ (y : ℕ). take i new ++ y ∷ drop (suc i) old) e ∙ sym (append-snoc (take i new) (getD new i 0) (drop (suc i) old))
+      ap (λ (y : ℕ). take i new ++ y ∷ drop (suc i) old) e
+      ∙ sym (append-snoc (take i new) (getD new i 0) (drop (suc i) old))
       ∙ ap (λ (l : List ℕ). l ++ drop (suc i) old) (sym (take-suc new i 0 h)) in
       record {
         fits = v .fits;
@@ -139,7 +145,8 @@ module _ {new old cur : List ℕ} {i : ℕ} (v : Filled new old cur i) where
 drop-zeros : (k n : ℕ) → drop {A = ℕ} k (replicate n 0) ≡ replicate (n - k) 0
 drop-zeros zero n = ap (λ (m : ℕ). replicate m 0) (sym (sub-zero n))
 drop-zeros (suc k) zero = let e : 0 ≡ 0 - suc k = omega arith in ap (λ (m : ℕ). replicate m 0) e
-drop-zeros (suc k) (suc n) = let e : n - k ≡ suc n - suc k = omega arith in drop-zeros k n ∙ ap (λ (m : ℕ). replicate m 0) e
+drop-zeros (suc k) (suc n) =
+    let e : n - k ≡ suc n - suc k = omega arith in drop-zeros k n ∙ ap (λ (m : ℕ). replicate m 0) e
 
 pub taken-few : (x : List ℕ) → length (take 16 x) ≤ length {A = ℕ} (replicate 16 0)
 taken-few x = rw length-take (omega arith)
@@ -155,7 +162,8 @@ pub is-padded : (x : List ℕ) {cur : List ℕ} {i : ℕ} → Filled (take 16 x)
 unfolding padded
 is-padded x v h =
     let e : 16 - length (take 16 x) ≡ 16 - length x = rw length-take (omega arith) in
-    fill-all v h ∙ ap (λ (l : List ℕ). take 16 x ++ l) (drop-zeros (length (take 16 x)) 16 ∙ ap (λ (n : ℕ). replicate n 0) e)
+    fill-all v h
+    ∙ ap (λ (l : List ℕ). take 16 x ++ l) (drop-zeros (length (take 16 x)) 16 ∙ ap (λ (n : ℕ). replicate n 0) e)
 
 -- sixteen bytes have no padding
 pub padded-full : (x : List ℕ) → length x ≡ 16 → padded x ≡ x

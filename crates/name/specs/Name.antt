@@ -50,7 +50,8 @@ pub same-equal : (a b : List ℕ) → same a b ≡ true → a ≡ b
 same-equal [] [] e = refl
 same-equal [] (y ∷ ys) e = let z : _≡_ {A = ℕ} 0 1 = cc in absurd (omega arith)
 same-equal (x ∷ xs) [] e = let z : _≡_ {A = ℕ} 0 1 = cc in absurd (omega arith)
-same-equal (x ∷ xs) (y ∷ ys) e = ap₂ _∷_ (eqb-true x y (both (eqb x y) (same xs ys) e .0)) (same-equal xs ys (both (eqb x y) (same xs ys) e .1))
+same-equal (x ∷ xs) (y ∷ ys) e =
+    ap₂ _∷_ (eqb-true x y (both (eqb x y) (same xs ys) e .0)) (same-equal xs ys (both (eqb x y) (same xs ys) e .1))
 
 pub same-self : (a : List ℕ) → same a a ≡ true
 same-self [] = refl

@@ -1,4 +1,4 @@
--- The order of a call's refusals: one test after the other, each with the refusal that it draws; and what is told of it.
+-- The order of a call's refusals: test after test, each with the refusal that it draws; and what is told of it.
 use mathlib.Core.Path.{_≡_, refl, ap}
 use mathlib.Core.Bool.{Bool, true, false}
 use mathlib.Core.List.{List}

@@ -1,4 +1,4 @@
--- The tests of clipped numbers as the code makes them, before anything is worked: an answer for each, the first that fails.
+-- The tests of clipped numbers that the code makes before it works anything: what the first that fails draws.
 use mathlib.Core.Bool.{Bool, true, false}
 use mathlib.Core.List.{List}
 use lib.Ieee.{Float, eq}

@@ -59,7 +59,8 @@ clipping-same r r′ a n m =
 pub unique-clip : (n : ℕ) (s : List ℕ) (r r′ : Clipping) → Clips n s r → Clips n s r′ → r ≡ r′
 unique-clip n s r r′ p q =
     clipping-same r r′
-    (unique-by-equation (answer-from (r .answer) (clipOf n s) (p .answer)) (answer-from (r′ .answer) (clipOf n s) (q .answer)))
+    (unique-by-equation (answer-from (r .answer) (clipOf n s) (p .answer))
+    (answer-from (r′ .answer) (clipOf n s) (q .answer)))
     (unique-by-equation (p .numbers) (q .numbers))
     (unique-by-equation (p .mask) (q .mask))
 

@@ -71,7 +71,8 @@ cast-t11 : tie.Need-cast-t11
 cast-t11 c = search needs
 
 returns-2 : tie.Need-returns-2
-returns-2 c = high _ _ _ _ (read-back _ (held (c .before .before .before))) (c .if2 .left) (omega arith) (is-number (c .before))
+returns-2 c =
+    high _ _ _ _ (read-back _ (held (c .before .before .before))) (c .if2 .left) (omega arith) (is-number (c .before))
 
 returns-3 : tie.Need-returns-3
 returns-3 c = none (c .before .before .args .x) (sym (c .before .is-finite .ensures) ∙ c .if1 .left)

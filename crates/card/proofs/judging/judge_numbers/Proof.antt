@@ -1,4 +1,4 @@
--- `card::judging::judge_numbers` meets its contract: the first test that fails stops it, and else its answer is that of `reach`.
+-- `card::judging::judge_numbers` meets its contract: the first test that fails stops it; else it answers as `reach`.
 use mathlib.Core.Path.{_≡_, sym, ap, _∙_}
 use mathlib.Core.Bool.{true}
 use mathlib.Core.List.{List}

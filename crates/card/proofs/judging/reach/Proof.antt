@@ -1,4 +1,4 @@
--- `card::judging::reach` meets its contract: a second octave that is too large, or a value that is not finite, draws 10.
+-- `card::judging::reach` meets its contract: a second octave too large, or a value that is not finite, draws 10.
 use mathlib.Core.Path.{_≡_, sym, ap, _∙_}
 use mathlib.Core.List.{List}
 use lib.Ieee.{Float}
@@ -44,14 +44,16 @@ second-of-requires c κs =
 returns : tie.Need-returns
 returns c =
     let second = c .before .before in
-    second-out (second .before .before .before .args .x .now) (sym (second .second-of .ensures) ∙ c .enum-told .given .1)
+    second-out (second .before .before .before .args .x .now)
+    (sym (second .second-of .ensures) ∙ c .enum-told .given .1)
 
 returns-2 : tie.Need-returns-2
 returns-2 c =
     let n = worked c in
     let all = tested n .before in
     let k = known all in
-    taken (numbers k) _ (is-second k) _ (is-worked all) _ _ (n .nanovolts .ensures) (c .card .ensures) (finite-told all ∙ tested n .if1 .taken)
+    taken (numbers k) _ (is-second k) _ (is-worked all) _ _ (n .nanovolts .ensures) (c .card .ensures)
+    (finite-told all ∙ tested n .if1 .taken)
 
 returns-3 : tie.Need-returns-3
 returns-3 c =

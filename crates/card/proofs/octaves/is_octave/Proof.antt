@@ -1,4 +1,4 @@
--- `card::octaves::is_octave` meets its contract. In the range the cut number's own float has x's bits exactly where x is whole.
+-- `card::octaves::is_octave` meets its contract: in the range the cut number's float has x's bits just where x is whole.
 use lib.Dec.{T}
 use lib.Ieee.{binary64, fits}
 use Rattle.card.proofs.Range.{holds, can-cut, no-nan, exact, made-no-nan, is-whole, not-whole}
@@ -15,12 +15,14 @@ truncating-f64-to-u64-requires c κs = can-cut _ (c .before .if1 .taken) (c .if2
 int-to-float-if3 : tie.Need-int-to-float-if3
 int-to-float-if3 c =
     let t = c .before .before in
-    exact _ (t .before .if1 .taken) (t .if2 .taken) (held (t .before .before)) _ (c .before .truncating-f64-to-u64 .ensures)
+    exact _ (t .before .if1 .taken) (t .if2 .taken) (held (t .before .before)) _
+    (c .before .truncating-f64-to-u64 .ensures)
 
 float-to-bits-if3 : tie.Need-float-to-bits-if3
 float-to-bits-if3 c =
     let t = c .before .before in
-    made-no-nan _ (t .before .if1 .taken) (t .if2 .taken) (held (t .before .before)) _ (c .before .truncating-f64-to-u64 .ensures)
+    made-no-nan _ (t .before .if1 .taken) (t .if2 .taken) (held (t .before .before)) _
+    (c .before .truncating-f64-to-u64 .ensures)
 
 float-to-bits-if3-2 : tie.Need-float-to-bits-if3-2
 float-to-bits-if3-2 c = let t = c .before .before in no-nan _ (t .before .if1 .taken) (t .if2 .taken)
@@ -28,13 +30,15 @@ float-to-bits-if3-2 c = let t = c .before .before in no-nan _ (t .before .if1 .t
 returns : tie.Need-returns
 returns c =
     let t = c .before .before .before in
-    let w = is-whole _ (t .before .if1 .taken) (t .if2 .taken) (held (t .before .before)) _ (c .before .before .truncating-f64-to-u64 .ensures) (c .if3 .taken) in
+    let w = is-whole _ (t .before .if1 .taken) (t .if2 .taken) (held (t .before .before)) _
+    (c .before .before .truncating-f64-to-u64 .ensures) (c .if3 .taken) in
     rw (t .before .if1 .taken, t .if2 .taken, w)
 
 returns-2 : tie.Need-returns-2
 returns-2 c =
     let t = c .before .before .before in
-    let w = not-whole _ (t .before .if1 .taken) (t .if2 .taken) (held (t .before .before)) _ (c .before .before .truncating-f64-to-u64 .ensures) (c .if3 .left) in
+    let w = not-whole _ (t .before .if1 .taken) (t .if2 .taken) (held (t .before .before)) _
+    (c .before .before .truncating-f64-to-u64 .ensures) (c .if3 .left) in
     rw (t .before .if1 .taken, t .if2 .taken, w)
 
 returns-3 : tie.Need-returns-3

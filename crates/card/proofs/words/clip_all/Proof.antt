@@ -27,7 +27,8 @@ returns c =
     let loop = got .before .before in
     let entry = loop .before .before in
     let s = entry .args .bytes .now in
-    let none = is-nothing s (loop .loop .i) _ _ (got .u64-at .ensures .value) (told .before .before .read .ensures) (told .enum-told .given .1) in
+    let none = is-nothing s (loop .loop .i) _ _ (got .u64-at .ensures .value) (told .before .before .read .ensures)
+    (told .enum-told .given .1) in
     let e = not-number width s (entry .pre) (not-finite s width (loop .loop .i) (got .before .loop-test .taken) none) in
     subst (λ (r : Clipping). Clips width s r) (sym (c .refused .ensures)) (clips-refused e)
 
@@ -37,7 +38,8 @@ In-turn c = c .before .before .before .before .before .before .before .before
 
 add-mask : tie.Need-add-mask Inv-loop μ-loop
 add-mask c =
-    let l = In-turn c .before .loop in omega (arith, at-most (l .inv), l .inv .under, small _ _ (l .bit) _ (c .weight .ensures))
+    let l = In-turn c .before .loop in
+    omega (arith, at-most (l .inv), l .inv .under, small _ _ (l .bit) _ (c .weight .ensures))
 
 loop-again : tie.Need-loop-again Inv-loop μ-loop
 loop-again c =
@@ -45,9 +47,11 @@ loop-again c =
     let in-loop = read .before .before in
     let l = in-loop .before .loop in
     let s = in-loop .before .before .before .args .bytes .now in
-    let real = is-real s (l .i) _ _ (read .before .u64-at .ensures .value) (read .read .ensures) _ (c .before .before .before .before .x .given .1) in
+    let real = is-real s (l .i) _ _ (read .before .u64-at .ensures .value) (read .read .ensures) _
+    (c .before .before .before .before .x .given .1) in
     let y = clipped-is s (l .i) _ _ _ (c .before .before .rule-of .ensures) (real .1) (c .before .apply .ensures) in
-    turn (l .inv) (in-loop .loop-test .taken) _ _ _ (c .weight .ensures) (real .0) (real .1) y
+    turn (l .inv) (in-loop .loop-test .taken)
+    (record { good = real .0; number = real .1; clipped = y; weight = c .weight .ensures })
 
 pub clip-all-spec : {M : Type 1} → statement M
 clip-all-spec =
