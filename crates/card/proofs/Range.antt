@@ -106,8 +106,11 @@ module _ (x : Float) (a : le ten-million x ≡ true) (b : le x fifty-million ≡
         is-true (whole binary64 x)
         (subst (λ (k : Float). T (whole binary64 k)) i (counted-whole (ofInt binary64 (pos n)) (back .0)))
 
+    made-again : T (whole binary64 x) → toBits binary64 (ofInt binary64 (pos n)) ≡ toBits binary64 x
+    made-again w =
+        ap (λ (k : ℕ). toBits binary64 (ofInt binary64 (pos k))) e
+        ∙ ap (toBits binary64) (float-back-unsigned binary64 64 x f (counted x in-range octave-most w) .1)
+
     pub not-whole : (toBits binary64 (ofInt binary64 (pos n)) ≡ toBits binary64 x → ⊥) → whole binary64 x ≡ false
     not-whole h =
-        is-false (whole binary64 x) (not-T (whole binary64 x) (λ (w : T (whole binary64 x)).
-        h
-        (ap (λ (k : ℕ). toBits binary64 (ofInt binary64 (pos k))) e ∙ ap (toBits binary64) (float-back-unsigned binary64 64 x f (counted x in-range octave-most w) .1))))
+        is-false (whole binary64 x) (not-T (whole binary64 x) (λ (w : T (whole binary64 x)). h (made-again w)))

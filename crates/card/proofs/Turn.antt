@@ -126,18 +126,18 @@ pub record Turned (s : List ℕ) (i bit : ℕ) (x y : Float) (w : ℕ) : Type 0 
   pub clipped : y ≡ clippedAt s i
   pub weight : w ≡ cond (ne x y) bit 0
 
-module _ {n : ℕ} {s : List ℕ} {numbers : List Float} {mask bit i : ℕ} (p : Passed n s numbers mask bit i) (h : i < n) where
-  further : (y : Float) → y ≡ clippedAt s i → take (suc i) (set numbers i y) ≡ clippedUp s (suc i)
+module _ {n : ℕ} {s : List ℕ} {l : List Float} {mask bit i : ℕ} (p : Passed n s l mask bit i) (h : i < n) where
+  further : (y : Float) → y ≡ clippedAt s i → take (suc i) (set l i y) ≡ clippedUp s (suc i)
   further y e =
-      take-suc-set numbers i y (omega (arith, p .long))
-      ∙ ap₂ (λ (l : List Float) (v : Float). l ++ (v ∷ [])) (p .done) e
+      take-suc-set l i y (omega (arith, p .long))
+      ∙ ap₂ (λ (k : List Float) (v : Float). k ++ (v ∷ [])) (p .done) e
       ∙ sym (numbers-more s i)
 
   module _ {x y : Float} {w : ℕ} (t : Turned s i bit x y w) where
-    more : Passed n s (set numbers i y) (mask + w) (bit * 2) (suc i)
+    more : Passed n s (set l i y) (mask + w) (bit * 2) (suc i)
     more = record {
       few = omega arith;
-      long = length-set numbers i y ∙ p .long;
+      long = length-set l i y ∙ p .long;
       good = finite-more s i ∙ ap₂ _&&_ (p .good) (t .good);
       done = further y (t .clipped);
       bits = ap₂ _+_ (p .bits) (t .weight ∙ cc (t .number, t .clipped, p .power)) ∙ sym (mask-more s i);
@@ -145,7 +145,7 @@ module _ {n : ℕ} {s : List ℕ} {numbers : List Float} {mask bit i : ℕ} (p :
       under = omega (arith, small x y bit w (t .weight), p .under);
     }
 
-    pub turn : Passed n s (set numbers i y) (mask + w) (bit * 2) (i + 1)
+    pub turn : Passed n s (set l i y) (mask + w) (bit * 2) (i + 1)
     turn = rw add-one more
 
 -- ---- after the loop

@@ -98,7 +98,8 @@ module _ (s : List ℕ) (f : finiteUp s width ≡ true) where
   xibi-plus : T (plus xibi)
   xibi-plus =
       rw xibi-at
-      (between-plus zero one (numberAt s number.xibi) zero-plus (limits-plus .0) (number-finite number.xibi (omega arith)))
+      (between-plus zero one (numberAt s number.xibi) zero-plus (limits-plus .0)
+      (number-finite number.xibi (omega arith)))
 
   left-of-one : T (unsigned (sub binary64 one xibi))
   left-of-one =

@@ -41,14 +41,11 @@ module _ (P : Float → Type 0) (h : (x : Float) → T (fits binary64 x) → T (
 
   each-worked : (p : Parameters) → all finite (valuesOf (workedOf p)) ≡ true → Each P (valuesOf (workedOf p))
   each-worked p =
-      let product = mul-fits binary64 in
-      let quotient = div-fits binary64 in
-      let either = cond-fits binary64 (lt (p .icss) zero) _ _ (product (p .iss) (p .mult))
-      (product (p .icss) (p .mult)) in
-      each-finite (valuesOf (workedOf p)) (
-        product _ _,
-        (quotient _ _, (quotient _ _, (product _ _, (quotient _ _, (product _ _, (either, (quotient _ _, (quotient _ _, tt)))))))),
-      )
+      let mul = mul-fits binary64 in
+      let div = div-fits binary64 in
+      let either = cond-fits binary64 (lt (p .icss) zero) _ _ (mul (p .iss) (p .mult)) (mul (p .icss) (p .mult)) in
+      each-finite (valuesOf (workedOf p))
+      (mul _ _, (div _ _, (div _ _, (mul _ _, (div _ _, (mul _ _, (either, (div _ _, (div _ _, tt)))))))))
 
 -- ---- the second octave
 million-or-more : (y : Float) → T (positive y) → T (le (fin false 15625 (pos 6)) y) → secondLeast ≤ wholePart y

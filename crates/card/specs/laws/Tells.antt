@@ -35,7 +35,9 @@ clip-tells n s = simp number-first
 
 -- loading's order whole: clipping's tests, and then those of the clipped numbers
 pub judge-order : (s : List ℕ)
-    → judgeOf s ≡ refuseIf (not (hasWords width s)) Malformed (refuseIf (not (finiteUp s width)) NotFinite (judgeNumbers (clippedUp s width)))
+    → judgeOf s
+    ≡ refuseIf (not (hasWords width s)) Malformed
+    (refuseIf (not (finiteUp s width)) NotFinite (judgeNumbers (clippedUp s width)))
 unfolding clipOf judgeOf
 judge-order s =
     simp then-if

@@ -70,7 +70,7 @@ rule-of-spec =
     (λ c. either number.xibi number.exsub refl refl (c .match .keys4))
     (λ c. known number.mlf refl (c .match .keys5))
     (λ c. known number.bri refl (c .match .keys6))
-    (λ c. known {i = i (c .before .before)} number.icss refl (omega (arith, past-bri (c .before .before) (omega arith))))
+    (λ c. let at = c .before .before in known {i = i at} number.icss refl (omega (arith, past-bri at (omega arith))))
     (λ c. free (i (c .before .before .before)) (past-exsub (c .before .before .before) (omega arith)))
     (λ c. either number.ibf number.iss refl refl (c .match .keys1))
     (λ c. pair (c .before .before .args .i) number.mult refl refl (omega arith) (omega arith))

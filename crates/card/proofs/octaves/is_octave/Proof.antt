@@ -1,4 +1,4 @@
--- `card::octaves::is_octave` meets its contract: in the range the cut number's float has x's bits just where x is whole.
+-- `card::octaves::is_octave` meets its contract: in the range the cut number's float has x's bits where x is whole.
 use lib.Dec.{T}
 use lib.Ieee.{binary64, fits}
 use Rattle.card.proofs.Range.{holds, can-cut, no-nan, exact, made-no-nan, is-whole, not-whole}

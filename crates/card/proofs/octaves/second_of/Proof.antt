@@ -1,4 +1,4 @@
--- `card::octaves::second_of` meets its contract: what is not below the limit has too large a whole part, or is infinite.
+-- `card::octaves::second_of` meets its contract: what is not below the limit is infinite, or its whole part too large.
 use mathlib.Core.Path.{ap, _∙_}
 use native.Mathlib.Omega.{arith}
 use Rattle.card.specs.declared.octaves.Octave.the-variants.{Nanovolts}
