@@ -29,7 +29,11 @@ leading n h = go (size n) refl
     go zero e = let l : n < 2 ^ 0 = subst (λ (x : ℕ). n < 2 ^ x) e (size-lt n) in absurd (omega arith)
     go (suc j) e = (
       j,
-      record { digits = e; reached = size-reaches n j (omega arith); under = subst (λ (x : ℕ). n < 2 ^ x) e (size-lt n) },
+      record {
+        digits = e;
+        reached = size-reaches n j (omega arith);
+        under = subst (λ (x : ℕ). n < 2 ^ x) e (size-lt n);
+      },
     )
 
 pub size-shifted : (m t : ℕ) → 0 < m → size (m * 2 ^ t) ≡ size m + t

@@ -25,7 +25,9 @@ record InUnits (x : Float) : Type 0 where
 
 -- what its bits are read as
 pub read-back : (x : Float) → T (fits binary64 x)
-    → ofFields binary64 (leb (2 ^ 63) (toBits binary64 x)) (toBits binary64 x % 2 ^ 63 / 2 ^ 52) (toBits binary64 x % 2 ^ 52) ≡ x
+    → ofFields binary64 (leb (2 ^ 63) (toBits binary64 x)) (toBits binary64 x % 2 ^ 63 / 2 ^ 52)
+    (toBits binary64 x % 2 ^ 52)
+    ≡ x
 unfolding ofBits
 read-back x f = ofBits-toBits binary64 x f
 

@@ -2,7 +2,6 @@
 use mathlib.Core.Path.{sym, ap, _∙_}
 use borrow.Author.Needs.{needs}
 use Rattle.refusal.specs.Order.{tells}
-use Rattle.card.specs.Judge.{toldJudged}
 use Rattle.card.proofs.After.{Went, went, stays}
 use Rattle.card.proofs.judge.Statement.{statement}
 use Rattle.card.proofs.judge.Tie as tie

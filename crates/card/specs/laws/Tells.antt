@@ -1,13 +1,11 @@
 -- The number told is that of the first test that fails, in the paper's order; 0 where the record is taken.
-use mathlib.Core.Path.{_≡_, refl, ap, _∙_}
+use mathlib.Core.Path.{_≡_, ap, _∙_}
 use mathlib.Core.Bool.{not}
 use mathlib.Core.List.{List}
 use Prim.Native.Nat.{ℕ}
 use lib.Ieee.{Float, eq}
-use Rattle.refusal.specs.declared.Refusal.the-variants.{Malformed, NotFinite, WrongLevel, BadExsub, BadOctave}
-use Rattle.refusal.specs.declared.Refusal.the-variants.{OutOfReach}
-use Rattle.refusal.specs.Order.{Verdict, refuseIf, numberTold, numberIf, number-first, then-if}
-use Rattle.card.specs.declared.WorkedCard.{WorkedCard}
+use Rattle.refusal.specs.declared.Refusal.the-variants.{Malformed, NotFinite}
+use Rattle.refusal.specs.Order.{refuseIf, numberTold, numberIf, number-first, then-if}
 use Rattle.card.specs.Limits.{width}
 use Rattle.card.specs.Record.{hasWords, finiteUp}
 use Rattle.card.specs.Clip.{clippedUp, clipOf}

@@ -1,8 +1,6 @@
 -- `card::words::clip_all` meets its contract: each turn reads, clips and marks one number.
 use mathlib.Core.Path.{refl, sym, subst}
-use mathlib.Core.Bool.{true}
-use mathlib.Core.List.{List}
-use Prim.Native.Nat.{ℕ, _-_}
+use Prim.Native.Nat.{_-_}
 use native.Mathlib.Omega.{arith}
 use borrow.Author.Needs.{needs}
 use Rattle.card.specs.declared.Clipping.{Clipping}
