@@ -1,5 +1,5 @@
 -- What clipping's answer says of loading: the same refusal, or that the tests go on with the clipped numbers.
-use mathlib.Core.Path.{_≡_, refl, sym, subst, _∙_}
+use mathlib.Core.Path.{_≡_, sym, subst}
 use mathlib.Core.Bool.{true, not}
 use mathlib.Core.List.{List}
 use Prim.Native.Nat.{ℕ}
@@ -9,7 +9,7 @@ use borrow.Author.Tests.{not-false}
 use Rattle.refusal.specs.declared.Refusal.{Refusal}
 use Rattle.refusal.specs.declared.Refusal.the-variants.{Malformed, NotFinite}
 use Rattle.refusal.specs.Told.{told}
-use Rattle.refusal.specs.Order.{refuseIf, no, yes, tells, refused, passes-if}
+use Rattle.refusal.specs.Order.{refuseIf, yes, tells, refused, passes-if}
 use Rattle.card.specs.declared.Answer.the-variants as answer
 use Rattle.card.specs.declared.Clipping.{Clipping}
 use Rattle.card.specs.Limits.{width}
@@ -37,7 +37,8 @@ module _ {s : List ℕ} {r : Clipping} (c : Clips width s r) where
   went t =
       let e = clip-taken (clipOf width s) (c .answer) t in
       let n : r .numbers ≡ clippedUp s width = rw e at (c .numbers) in
-      record { numbers = n; good = subst GoodMlf (sym n) (good-mlf s width (omega arith) (all-finite width s e)); next = rw (e, n) }
+      let g = good-mlf s width (omega arith) (all-finite width s e) in
+      record { numbers = n; good = subst GoodMlf (sym n) g; next = rw (e, n) }
 
   pub stays : (f : Refusal) → r .answer ≡ answer.Refused f → refused (told f) ≡ tells (judgeOf s)
   unfolding judgeOf

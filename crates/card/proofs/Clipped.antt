@@ -44,9 +44,11 @@ unfolding clippedUp
 each-clipped s zero i h = absurd (omega arith)
 each-clipped s (suc n) i h = of (ℕ-discrete i n) (λ l. each-clipped s n i l)
   where
-    of : Dec (i ≡ n) → (i < n → getD (clippedUp s n) i nan ≡ clippedAt s i) → getD (clippedUp s n ++ (clippedAt s n ∷ [])) i nan ≡ clippedAt s i
+    of : Dec (i ≡ n) → (i < n → getD (clippedUp s n) i nan ≡ clippedAt s i)
+        → getD (clippedUp s n ++ (clippedAt s n ∷ [])) i nan ≡ clippedAt s i
     of (yes d) g = rw d (getD-at (clippedUp s n) (clippedAt s n) [] nan n (long s n))
-    of (no d) g = List·getD-append (clippedUp s n) (clippedAt s n ∷ []) nan i (omega (arith, long s n)) ∙ g (omega arith)
+    of (no d) g =
+        List·getD-append (clippedUp s n) (clippedAt s n ∷ []) nan i (omega (arith, long s n)) ∙ g (omega arith)
 
 -- 0.1 is above zero
 tenth-positive : T (positive tenth)
@@ -61,4 +63,5 @@ module _ (s : List ℕ) (n : ℕ) (h : number.mlf < n) (f : finiteUp s n ≡ tru
   pub good-mlf : GoodMlf (clippedUp s n)
   good-mlf =
       let e = each-clipped s n number.mlf h in
-      record { number = rw e (positive-finite (clippedAt s number.mlf) (mlf-raised .number)); least = rw e (mlf-raised .reached) }
+      let f = positive-finite (clippedAt s number.mlf) (mlf-raised .number) in
+      record { number = rw e f; least = rw e (mlf-raised .reached) }

@@ -5,7 +5,8 @@ use Prim.Native.Nat.{ℕ, _-_, _*_, _/_, _^_, _≤_, _<_, min}
 use native.Mathlib.Omega.{arith}
 use lib.Dec.{T, ltb, lt→ltb, le→leb, not-T}
 use lib.IntN.{pos}
-use lib.Ieee.{Float, nan, inf, fin, binary64, lt, le, ofBits, toBits, ofInt, up, down, toUnsigned, inUnsigned, inFloat, whole, isNan, fits}
+use lib.Ieee.{Float, nan, inf, fin, binary64, lt, le, ofBits, toBits, ofInt, up, down, toUnsigned, inUnsigned, inFloat}
+use lib.Ieee.{whole, isNan, fits}
 use lib.Ieee.Back.{unsigned-back, float-back-unsigned}
 use lib.Ieee.Bits.{ofBits-toBits, is-true, is-false}
 use lib.Ieee.Fits.{ofInt-fits, and-i, and-l}
@@ -99,10 +100,17 @@ module _ (x : Float) (a : le ten-million x ≡ true) (b : le x fifty-million ≡
 
     pub is-whole : toBits binary64 (ofInt binary64 (pos n)) ≡ toBits binary64 x → whole binary64 x ≡ true
     is-whole h =
-        let i : ofInt binary64 (pos n) ≡ x = sym (ofBits-toBits binary64 (ofInt binary64 (pos n)) (ofInt-fits binary64 (pos n))) ∙ ap (ofBits binary64) h ∙ ofBits-toBits binary64 x f in
-        is-true (whole binary64 x) (subst (λ (k : Float). T (whole binary64 k)) i (counted-whole (ofInt binary64 (pos n)) (back .0)))
+        let i : ofInt binary64 (pos n) ≡ x = sym
+        (ofBits-toBits binary64 (ofInt binary64 (pos n)) (ofInt-fits binary64 (pos n))) ∙ ap (ofBits binary64) h
+        ∙ ofBits-toBits binary64 x f in
+        is-true (whole binary64 x)
+        (subst (λ (k : Float). T (whole binary64 k)) i (counted-whole (ofInt binary64 (pos n)) (back .0)))
+
+    made-again : T (whole binary64 x) → toBits binary64 (ofInt binary64 (pos n)) ≡ toBits binary64 x
+    made-again w =
+        ap (λ (k : ℕ). toBits binary64 (ofInt binary64 (pos k))) e
+        ∙ ap (toBits binary64) (float-back-unsigned binary64 64 x f (counted x in-range octave-most w) .1)
 
     pub not-whole : (toBits binary64 (ofInt binary64 (pos n)) ≡ toBits binary64 x → ⊥) → whole binary64 x ≡ false
     not-whole h =
-        is-false (whole binary64 x) (not-T (whole binary64 x) (λ (w : T (whole binary64 x)).
-        h (ap (λ (k : ℕ). toBits binary64 (ofInt binary64 (pos k))) e ∙ ap (toBits binary64) (float-back-unsigned binary64 64 x f (counted x in-range octave-most w) .1))))
+        is-false (whole binary64 x) (not-T (whole binary64 x) (λ (w : T (whole binary64 x)). h (made-again w)))

@@ -1,19 +1,16 @@
 -- Clipping's verdict on a record of n words, and the clipping that goes with it; back from an answer to what it says.
-use mathlib.Core.Path.{_≡_, refl, ap, ap₂, _∙_}
-use mathlib.Core.Bool.{true, false, not}
+use mathlib.Core.Path.{_≡_}
+use mathlib.Core.Bool.{true, false}
 use mathlib.Core.List.{List}
 use Prim.Native.Nat.{ℕ}
 use lib.Ieee.{Float}
-use borrow.Author.Tests.{not-false}
 use Rattle.refusal.specs.declared.Refusal.{Refusal}
 use Rattle.refusal.specs.declared.Refusal.the-variants.{Malformed, NotFinite}
-use Rattle.refusal.specs.Order.{no, yes, passes-if}
+use Rattle.refusal.specs.Order.{no, yes}
 use Rattle.card.specs.declared.Answer.the-variants as answer
-use Rattle.card.specs.declared.Clipping.{Clipping}
 use Rattle.card.specs.Record.{hasWords, finiteUp}
 use Rattle.card.specs.Clip.{clippedUp, maskUp, clipOf, Clips}
 use Rattle.card.specs.inner.Refused.{refusedWith}
-use Rattle.card.specs.laws.Unique.{clip-taken}
 
 module _ (n : ℕ) (s : List ℕ) where
   pub too-long : hasWords n s ≡ false → clipOf n s ≡ no Malformed
@@ -29,7 +26,8 @@ module _ (n : ℕ) (s : List ℕ) where
     unfolding clipOf
     taken f = rw (l, f)
 
-    pub clips-taken : finiteUp s n ≡ true → {numbers : List Float} {mask : ℕ} → numbers ≡ clippedUp s n → mask ≡ maskUp s n → Clips n s (record { answer = answer.Taken; numbers = numbers; mask = mask })
+    pub clips-taken : finiteUp s n ≡ true → {numbers : List Float} {mask : ℕ} → numbers ≡ clippedUp s n
+        → mask ≡ maskUp s n → Clips n s (record { answer = answer.Taken; numbers = numbers; mask = mask })
     clips-taken f en em =
         let e = taken f in record { answer = rw e; numbers = rw e en; mask = rw e em }
 

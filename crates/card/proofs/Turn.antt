@@ -43,7 +43,8 @@ module _ (s : List ℕ) (i w : ℕ) (n : Number) (ew : w ≡ leAt 8 s (8 * i)) (
   pub is-nothing : n ≡ Nothing → finite (numberAt s i) ≡ false
   is-nothing e = nothing-if (finite (numberAt s i)) (numberAt s i) (read-at ∙ e)
 
-pub clipped-is : (s : List ℕ) (i : ℕ) (r : Rule) (x y : Float) → r ≡ ruleOf i → x ≡ numberAt s i → y ≡ clipTo r x → y ≡ clippedAt s i
+pub clipped-is : (s : List ℕ) (i : ℕ) (r : Rule) (x y : Float) → r ≡ ruleOf i → x ≡ numberAt s i → y ≡ clipTo r x
+    → y ≡ clippedAt s i
 unfolding clippedAt
 clipped-is s i r x y er ex ey = ey ∙ ap₂ clipTo er ex
 
@@ -83,7 +84,8 @@ not-finite s (suc n) i h e = of (ℕ-discrete i n) (λ l. not-finite s n i l e)
   where
     of : Dec (i ≡ n) → (i < n → finiteUp s n ≡ false) → finiteUp s (suc n) ≡ false
     of (yes d) g =
-        finite-more s n ∙ ap (λ (b : Bool). finiteUp s n && b) (ap (λ (k : ℕ). finite (numberAt s k)) (sym d) ∙ e) ∙ and-false (finiteUp s n)
+        finite-more s n ∙ ap (λ (b : Bool). finiteUp s n && b) (ap (λ (k : ℕ). finite (numberAt s k)) (sym d) ∙ e)
+        ∙ and-false (finiteUp s n)
     of (no d) g = finite-more s n ∙ ap (λ (b : Bool). b && finite (numberAt s n)) (g (omega arith))
 
 -- ---- the loop's invariant, over a record of n words
@@ -117,23 +119,39 @@ cond-le false n = omega arith
 pub small : (x y : Float) (bit w : ℕ) → w ≡ cond (ne x y) bit 0 → w ≤ bit
 small x y bit w e = let l = cond-le (ne x y) bit in omega arith
 
-module _ {n : ℕ} {s : List ℕ} {numbers : List Float} {mask bit i : ℕ} (p : Passed n s numbers mask bit i) (h : i < n) (x y : Float) (w : ℕ) (ew : w ≡ cond (ne x y) bit 0) (f : finite (numberAt s i) ≡ true) (ex : x ≡ numberAt s i) (ey : y ≡ clippedAt s i) where
-  more : Passed n s (set numbers i y) (mask + w) (bit * 2) (suc i)
-  more = record {
-    few = omega arith;
-    long = length-set numbers i y ∙ p .long;
-    good = finite-more s i ∙ ap₂ _&&_ (p .good) f;
-    done = take-suc-set numbers i y (omega (arith, p .long)) ∙ ap₂ (λ (l : List Float) (v : Float). l ++ (v ∷ [])) (p .done) ey ∙ sym (numbers-more s i);
-    bits = ap₂ _+_ (p .bits) (ew ∙ cc (ex, ey, p .power)) ∙ sym (mask-more s i);
-    power = ap (λ (k : ℕ). k * 2) (p .power) ∙ sym (pow-suc 2 i);
-    under = omega (arith, small x y bit w ew, p .under);
-  }
+-- what a turn reads, clips and marks
+pub record Turned (s : List ℕ) (i bit : ℕ) (x y : Float) (w : ℕ) : Type 0 where
+  pub good : finite (numberAt s i) ≡ true
+  pub number : x ≡ numberAt s i
+  pub clipped : y ≡ clippedAt s i
+  pub weight : w ≡ cond (ne x y) bit 0
 
-  pub turn : Passed n s (set numbers i y) (mask + w) (bit * 2) (i + 1)
-  turn = rw add-one more
+module _ {n : ℕ} {s : List ℕ} {l : List Float} {mask bit i : ℕ} (p : Passed n s l mask bit i) (h : i < n) where
+  further : (y : Float) → y ≡ clippedAt s i → take (suc i) (set l i y) ≡ clippedUp s (suc i)
+  further y e =
+      take-suc-set l i y (omega (arith, p .long))
+      ∙ ap₂ (λ (k : List Float) (v : Float). k ++ (v ∷ [])) (p .done) e
+      ∙ sym (numbers-more s i)
+
+  module _ {x y : Float} {w : ℕ} (t : Turned s i bit x y w) where
+    more : Passed n s (set l i y) (mask + w) (bit * 2) (suc i)
+    more = record {
+      few = omega arith;
+      long = length-set l i y ∙ p .long;
+      good = finite-more s i ∙ ap₂ _&&_ (p .good) (t .good);
+      done = further y (t .clipped);
+      bits = ap₂ _+_ (p .bits) (t .weight ∙ cc (t .number, t .clipped, p .power)) ∙ sym (mask-more s i);
+      power = ap (λ (k : ℕ). k * 2) (p .power) ∙ sym (pow-suc 2 i);
+      under = omega (arith, small x y bit w (t .weight), p .under);
+    }
+
+    pub turn : Passed n s (set l i y) (mask + w) (bit * 2) (i + 1)
+    turn = rw add-one more
 
 -- ---- after the loop
-pub finished : {n : ℕ} {s : List ℕ} {numbers : List Float} {mask bit i : ℕ} → hasWords n s ≡ true → Passed n s numbers mask bit i → n ≤ i → Clips n s (record { answer = answer.Taken; numbers = numbers; mask = mask })
+pub finished : {n : ℕ} {s : List ℕ} {numbers : List Float} {mask bit i : ℕ} → hasWords n s ≡ true
+    → Passed n s numbers mask bit i → n ≤ i
+    → Clips n s (record { answer = answer.Taken; numbers = numbers; mask = mask })
 finished {n} {s} {numbers} {mask} {bit} {i} l p h =
     let e : i ≡ n = omega (arith, p .few) in
     let q : Passed n s numbers mask bit n = rw e at p in

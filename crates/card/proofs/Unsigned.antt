@@ -20,7 +20,8 @@ use Rattle.card.specs.inner.Worked.{Each}
 use Rattle.card.specs.laws.Sign.{unsigned, Unsigned}
 use Rattle.card.proofs.Range.{holds}
 use Rattle.card.proofs.Clipped.{each-finite, each-clipped}
-use Rattle.card.proofs.Signs.{plus, plus-unsigned, zero-plus, kept-plus, least-plus, between-plus, mul-unsigned, div-unsigned, sub-unsigned}
+use Rattle.card.proofs.Signs.{plus, plus-unsigned, zero-plus, kept-plus, least-plus, between-plus, mul-unsigned}
+use Rattle.card.proofs.Signs.{div-unsigned, sub-unsigned}
 
 -- ---- the limits
 limits-plus : T (plus one) × T (plus four) × T (plus pico) × T (plus tenth-milli) × T (plus tenth-nano)
@@ -59,7 +60,8 @@ free-plus x f h = of (eq x zero) refl h
     of true e k = subst (λ (b : Bool). T (plus (cond b zero x))) (sym e) zero-plus
     of false e k = kept-plus zero x zero-plus f k
 
-sf-unsigned : (icss mult sub : Float) → (lt icss zero ≡ false → T (plus icss)) → T (unsigned mult) → T (unsigned sub) → T (unsigned (sfOf icss mult sub))
+sf-unsigned : (icss mult sub : Float) → (lt icss zero ≡ false → T (plus icss)) → T (unsigned mult) → T (unsigned sub)
+    → T (unsigned (sfOf icss mult sub))
 sf-unsigned icss mult sub p q r = of (lt icss zero) refl
   where
     of : (b : Bool) → lt icss zero ≡ b → T (unsigned (cond b sub (mul binary64 icss mult)))
@@ -94,10 +96,14 @@ module _ (s : List ℕ) (f : finiteUp s width ≡ true) where
   xibi-at = by-rule number.xibi (Between zero one) (omega arith) refl
 
   xibi-plus : T (plus xibi)
-  xibi-plus = rw xibi-at (between-plus zero one (numberAt s number.xibi) zero-plus (limits-plus .0) (number-finite number.xibi (omega arith)))
+  xibi-plus =
+      rw xibi-at
+      (between-plus zero one (numberAt s number.xibi) zero-plus (limits-plus .0)
+      (number-finite number.xibi (omega arith)))
 
   left-of-one : T (unsigned (sub binary64 one xibi))
-  left-of-one = sub-unsigned binary64 one xibi (limits-plus .0) xibi-plus (rw xibi-at (under-one (numberAt s number.xibi)))
+  left-of-one =
+      sub-unsigned binary64 one xibi (limits-plus .0) xibi-plus (rw xibi-at (under-one (numberAt s number.xibi)))
 
   icss-plus : lt (at x number.icss) zero ≡ false → T (plus (at x number.icss))
   icss-plus h =

@@ -75,7 +75,8 @@ limit-is : second-over ≡ fin false (suc secondMost) (pos 0)
 unfolding ofBits
 limit-is = refl
 
-crossed : (y : Float) → T (above y) → lt y (fin false (suc secondMost) (pos 0)) ≡ true → T (positive y) × (num y < suc secondMost * den y)
+crossed : (y : Float) → T (above y) → lt y (fin false (suc secondMost) (pos 0)) ≡ true
+    → T (positive y) × (num y < suc secondMost * den y)
 unfolding lt
 crossed nan a h = absurd a
 crossed (inf true) a h = absurd a

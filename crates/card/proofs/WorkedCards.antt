@@ -1,5 +1,5 @@
 -- What is sure of a card that loading takes: its splits, its octave and its second octave are within bounds.
-use mathlib.Core.Path.{_≡_, refl, sym, ap, subst, _∙_}
+use mathlib.Core.Path.{_≡_, sym, subst, _∙_}
 use mathlib.Core.Bool.{true, false, not}
 use mathlib.Core.List.{List, [], _∷_}
 use Prim.Native.Nat.{ℕ, _≤_}
@@ -11,7 +11,8 @@ use lib.Ieee.Fits.{mul-fits, div-fits, cond-fits}
 use lib.Ieee.Positive.{positive, le→cross}
 use lib.Ieee.Scale.{finite}
 use borrow.Author.Tests.{leb-true, not-false}
-use Rattle.refusal.specs.declared.Refusal.the-variants.{Malformed, NotFinite, WrongLevel, BadExsub, BadOctave, OutOfReach}
+use Rattle.refusal.specs.declared.Refusal.the-variants.{Malformed, NotFinite, WrongLevel, BadExsub, BadOctave}
+use Rattle.refusal.specs.declared.Refusal.the-variants.{OutOfReach}
 use Rattle.refusal.specs.Order.{Verdict, yes, refuseIf, passes-if}
 use Rattle.float.specs.Split.{splitB, splitOf, splitBias, IsSplit}
 use Rattle.float.proofs.Kept.{is-split, power-kept}
@@ -22,7 +23,8 @@ use Rattle.card.specs.Record.{rightLength, finiteUp}
 use Rattle.card.specs.Clip.{clippedUp}
 use Rattle.card.specs.Work.{workedOf, valuesOf, all}
 use Rattle.card.specs.Octave.{ten-million, fifty-million, secondMost, wholePart, octaveGood, secondGood}
-use Rattle.card.specs.Judge.{parametersOf, mlf, octave, exsub, level, level504, isSwitch, product, cardOf, withinReach, judgeNumbers, judgeOf}
+use Rattle.card.specs.Judge.{parametersOf, mlf, octave, exsub, level, level504, isSwitch, product, cardOf}
+use Rattle.card.specs.Judge.{withinReach, judgeNumbers, judgeOf}
 use Rattle.card.specs.inner.Worked.{Each, GoodMlf, secondLeast, IsWorked}
 use Rattle.card.specs.laws.Tells.{judge-order}
 use Rattle.card.proofs.Whole.{positive-of, whole-least}
@@ -39,18 +41,19 @@ module _ (P : Float → Type 0) (h : (x : Float) → T (fits binary64 x) → T (
 
   each-worked : (p : Parameters) → all finite (valuesOf (workedOf p)) ≡ true → Each P (valuesOf (workedOf p))
   each-worked p =
-      let product = mul-fits binary64 in
-      let quotient = div-fits binary64 in
-      let either = cond-fits binary64 (lt (p .icss) zero) _ _ (product (p .iss) (p .mult)) (product (p .icss) (p .mult)) in
+      let mul = mul-fits binary64 in
+      let div = div-fits binary64 in
+      let either = cond-fits binary64 (lt (p .icss) zero) _ _ (mul (p .iss) (p .mult)) (mul (p .icss) (p .mult)) in
       each-finite (valuesOf (workedOf p))
-      (product _ _, (quotient _ _, (quotient _ _, (product _ _, (quotient _ _, (product _ _, (either, (quotient _ _, (quotient _ _, tt)))))))))
+      (mul _ _, (div _ _, (div _ _, (mul _ _, (div _ _, (mul _ _, (either, (div _ _, (div _ _, tt)))))))))
 
 -- ---- the second octave
 million-or-more : (y : Float) → T (positive y) → T (le (fin false 15625 (pos 6)) y) → secondLeast ≤ wholePart y
 million-or-more y p l =
     let h = le→cross (fin false 15625 (pos 6)) y tt p l in whole-least y p secondLeast (omega arith) (omega arith)
 
-card-is-worked : (x : List Float) → GoodMlf x → octaveGood (octave x) ≡ true → withinReach x ≡ true → IsWorked (cardOf x)
+card-is-worked : (x : List Float) → GoodMlf x → octaveGood (octave x) ≡ true → withinReach x ≡ true
+    → IsWorked (cardOf x)
 card-is-worked x g o r =
     let reach = and-true (secondGood (product x)) _ r in
     let second = and-true (finite (product x)) _ (reach .0) in
@@ -100,8 +103,10 @@ judged-is-worked s c e =
     subst IsWorked (sym (p .card)) (card-is-worked (clippedUp s width) g (p .octave) (p .reach))
 
 -- the power that a caller reads off a card's split is the paper's b
-pub judged-powers : (s : List ℕ) (c : WorkedCard) → judgeOf s ≡ yes c → Each (λ v. subℕ splitBias (splitOf v .down) ≡ splitB v) (valuesOf (workedOf (parametersOf (clippedUp s width))))
+pub judged-powers : (s : List ℕ) (c : WorkedCard) → judgeOf s ≡ yes c
+    → Each (λ v. subℕ splitBias (splitOf v .down) ≡ splitB v) (valuesOf (workedOf (parametersOf (clippedUp s width))))
 judged-powers s c e =
     let p = passes s c e in
     let x = clippedUp s width in
-    each-worked (λ v. subℕ splitBias (splitOf v .down) ≡ splitB v) power-kept (parametersOf x) (and-true (secondGood (product x)) _ (p .reach) .1)
+    each-worked (λ v. subℕ splitBias (splitOf v .down) ≡ splitB v) power-kept (parametersOf x)
+    (and-true (secondGood (product x)) _ (p .reach) .1)

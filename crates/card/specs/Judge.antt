@@ -1,5 +1,5 @@
 -- What loading says of a record: 1, 6, 7, 8, 9, 10, or the worked card.
-use mathlib.Core.Bool.{Bool, true, false, not, _&&_, _||_}
+use mathlib.Core.Bool.{Bool, false, not, _&&_, _||_}
 use mathlib.Core.List.{List}
 use Prim.Native.Nat.{ℕ}
 use lib.ListN.{getD}
@@ -78,7 +78,8 @@ cardFrom w o n e z = record {
 -- the worked card of clipped numbers
 abbrev pub cardOf : List Float → WorkedCard
 cardOf x =
-    cardFrom (workedOf (parametersOf x)) (wholePart (octave x)) (wholePart (product x)) (eq (exsub x) one) (eq (rcbli x) zero)
+    cardFrom (workedOf (parametersOf x)) (wholePart (octave x)) (wholePart (product x)) (eq (exsub x) one)
+    (eq (rcbli x) zero)
 
 -- what stands where there is no card
 abbrev pub noWorked : WorkedCard
@@ -110,12 +111,15 @@ isSwitch x = eq x zero || eq x one
 abbrev pub withinReach : List Float → Bool
 withinReach x = secondGood (product x) && allFinite (workedOf (parametersOf x))
 
--- of clipped numbers: 7, 8, 9, then 10; else their worked card
+-- of clipped numbers: 10, or else their worked card
+abbrev pub reachOf : List Float → Verdict WorkedCard
+reachOf x = refuseIf (not (withinReach x)) OutOfReach (yes (cardOf x))
+
+-- 7, 8, 9, and then that
 abbrev pub judgeNumbers : List Float → Verdict WorkedCard
 judgeNumbers x =
     refuseIf (not (eq (level x) level504)) WrongLevel
-    (refuseIf (not (isSwitch (exsub x))) BadExsub
-    (refuseIf (not (octaveGood (octave x))) BadOctave (refuseIf (not (withinReach x)) OutOfReach (yes (cardOf x)))))
+    (refuseIf (not (isSwitch (exsub x))) BadExsub (refuseIf (not (octaveGood (octave x))) BadOctave (reachOf x)))
 
 -- of a record: clipping's 1 and 6 first
 unfoldable pub judgeOf : List ℕ → Verdict WorkedCard

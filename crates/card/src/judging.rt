@@ -1,8 +1,12 @@
 // Loading's tests on the clipped numbers, in their order, and the worked card.
 ghost use mathlib.Core.Path.{_≡_};
 ghost use Rattle.refusal.specs.Order.{tells};
-ghost use Rattle.card.specs.Judge.{parametersOf, cardFrom, isSwitch, judgeNumbers, toldJudged};
+ghost use mathlib.Core.Bool.{true};
+ghost use Rattle.card.specs.Octave.{octaveGood};
+ghost use Rattle.card.specs.Judge.{parametersOf, octave, cardFrom, isSwitch, reachOf, judgeNumbers, toldJudged};
+ghost use Rattle.card.specs.inner.Tests.{unlessPassed, firstWrong};
 ghost use Rattle.card.specs.inner.Worked.{GoodMlf};
+use crate::Answer;
 use crate::Judged;
 use crate::WIDTH;
 use crate::WorkedCard;
@@ -58,24 +62,38 @@ fn card(w: Worked, octave: u32, second: u32, exsub: bool, joined: bool) -> Worke
     }
 }
 
-pub(crate) fn judge_numbers(x: &[f64; WIDTH]) -> Judged
-    requires { ⌜ GoodMlf (now x) ⌝ }
-    ensures { λ r. ⌜ toldJudged r ≡ tells (judgeNumbers (now (x .entry))) ⌝ }
+// The refusal that a test draws where it fails; where it passes, what the tests after it say.
+fn unless(passed: bool, f: Refusal, next: Answer) -> Answer
+    ensures { λ r. ⌜ r ≡ unlessPassed passed f next ⌝ }
 {
-    if x[numbers::LEVEL] != 504.0 {
-        return Judged::Refused(Refusal::WrongLevel);
-    }
-    if !is_switch(x[numbers::EXSUB]) {
-        return Judged::Refused(Refusal::BadExsub);
-    }
-    let Octave::Nanovolts(octave) = octaves::octave_of(x[numbers::OCTAVE]) else {
-        return Judged::Refused(Refusal::BadOctave);
-    };
+    if passed { next } else { Answer::Refused(f) }
+}
+
+// 7, 8, then 9.
+fn first_wrong(x: &[f64; WIDTH]) -> Answer
+    ensures { λ r. ⌜ r ≡ firstWrong (now (x .entry)) ⌝ }
+{
+    let level = x[numbers::LEVEL] == 504.0;
+    let exsub = is_switch(x[numbers::EXSUB]);
+    let octave = octaves::is_octave(x[numbers::OCTAVE]);
+    let bad_exsub = Refusal::BadExsub;
+    let bad_octave = Refusal::BadOctave;
+    let after = unless(exsub, bad_exsub, unless(octave, bad_octave, Answer::Taken));
+    unless(level, Refusal::WrongLevel, after)
+}
+
+// 10, or the worked card.
+fn reach(x: &[f64; WIDTH]) -> Judged
+    requires { ⌜ GoodMlf (now x) ⌝ }
+    requires { ⌜ octaveGood (octave (now x)) ≡ true ⌝ }
+    ensures { λ r. ⌜ toldJudged r ≡ tells (reachOf (now (x .entry))) ⌝ }
+{
     let Octave::Nanovolts(second) = octaves::second_of(x[numbers::MLF] * x[numbers::OCTAVE]) else {
         return Judged::Refused(Refusal::OutOfReach);
     };
     let w = working::work(parameters(x));
     if working::all_finite(working::values(w)) {
+        let octave = octaves::nanovolts(x[numbers::OCTAVE]);
         Judged::Card(card(
             w,
             octave,
@@ -85,5 +103,17 @@ pub(crate) fn judge_numbers(x: &[f64; WIDTH]) -> Judged
         ))
     } else {
         Judged::Refused(Refusal::OutOfReach)
+    }
+}
+
+// 7 to 10, or the worked card.
+pub(crate) fn judge_numbers(x: &[f64; WIDTH]) -> Judged
+    requires { ⌜ GoodMlf (now x) ⌝ }
+    ensures { λ r. ⌜ toldJudged r ≡ tells (judgeNumbers (now (x .entry))) ⌝ }
+{
+    let wrong = first_wrong(x);
+    match wrong {
+        Answer::Taken => reach(x),
+        Answer::Refused(f) => Judged::Refused(f),
     }
 }

@@ -34,10 +34,14 @@ pub sum-difference : (a b c d : ℕ) → subℕ a b +ℤ subℕ c d ≡ subℕ (
 sum-difference a b c d = of (side a b) (side c d)
   where
     of : (a < b) ⊎ (b ≤ a) → (c < d) ⊎ (d ≤ c) → subℕ a b +ℤ subℕ c d ≡ subℕ (a + c) (b + d)
-    of (inl h) (inl k) = ap₂ _+ℤ_ (under a b h) (under c d k) ∙ ap negsuc (omega arith) ∙ sym (under (a + c) (b + d) (omega arith))
-    of (inl h) (inr k) = ap₂ _+ℤ_ (under a b h) (over c d k) ∙ same-difference (c - d) (suc (b - suc a)) (a + c) (b + d) (omega arith)
-    of (inr h) (inl k) = ap₂ _+ℤ_ (over a b h) (under c d k) ∙ same-difference (a - b) (suc (d - suc c)) (a + c) (b + d) (omega arith)
-    of (inr h) (inr k) = ap₂ _+ℤ_ (over a b h) (over c d k) ∙ ap pos (omega arith) ∙ sym (over (a + c) (b + d) (omega arith))
+    of (inl h) (inl k) =
+        ap₂ _+ℤ_ (under a b h) (under c d k) ∙ ap negsuc (omega arith) ∙ sym (under (a + c) (b + d) (omega arith))
+    of (inl h) (inr k) =
+        ap₂ _+ℤ_ (under a b h) (over c d k) ∙ same-difference (c - d) (suc (b - suc a)) (a + c) (b + d) (omega arith)
+    of (inr h) (inl k) =
+        ap₂ _+ℤ_ (over a b h) (under c d k) ∙ same-difference (a - b) (suc (d - suc c)) (a + c) (b + d) (omega arith)
+    of (inr h) (inr k) =
+        ap₂ _+ℤ_ (over a b h) (over c d k) ∙ ap pos (omega arith) ∙ sym (over (a + c) (b + d) (omega arith))
 
 pub minus-difference : (a b : ℕ) → minus a b ≡ subℕ a b
 minus-difference a b = of (side a b)

@@ -1,4 +1,4 @@
--- Every finite f64 is some units of 2^-1074, so its split is within bounds, and the bias added to its power loses nothing.
+-- Every finite f64 is some units of 2^-1074: its split is within bounds, and the bias added to its power loses nothing.
 use mathlib.Core.Path.{_≡_, sym, ap, subst, _∙_}
 use mathlib.Core.Bool.{Bool}
 use Prim.Native.Nat.{ℕ, zero, suc, _+_, _/_, _%_, _^_, _≤_, _<_}
@@ -24,11 +24,15 @@ record InUnits (x : Float) : Type 0 where
   pub near : k ≤ 2045
 
 -- what its bits are read as
-pub read-back : (x : Float) → T (fits binary64 x) → ofFields binary64 (leb (2 ^ 63) (toBits binary64 x)) (toBits binary64 x % 2 ^ 63 / 2 ^ 52) (toBits binary64 x % 2 ^ 52) ≡ x
+pub read-back : (x : Float) → T (fits binary64 x)
+    → ofFields binary64 (leb (2 ^ 63) (toBits binary64 x)) (toBits binary64 x % 2 ^ 63 / 2 ^ 52)
+    (toBits binary64 x % 2 ^ 52)
+    ≡ x
 unfolding ofBits
 read-back x f = ofBits-toBits binary64 x f
 
-from-fields : (x : Float) (s : Bool) (d n : ℕ) → ofFields binary64 s d n ≡ x → n < 2 ^ 52 → d < 2048 → T (finite x) → InUnits x
+from-fields : (x : Float) (s : Bool) (d n : ℕ) → ofFields binary64 s d n ≡ x → n < 2 ^ 52 → d < 2048 → T (finite x)
+    → InUnits x
 from-fields x s zero n e l h f =
     record { sign = s; q = n; k = 0; value = sym e ∙ unled-value s n; few = omega arith; near = omega arith }
 from-fields x s (suc j) n e l h f =

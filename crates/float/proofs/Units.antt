@@ -128,7 +128,8 @@ number true true s v h = absurd h
 number true false s v h = absurd h
 number false c s v h = refl
 
-pub led-value : (s : Bool) (j n : ℕ) → T (finite (ofFields binary64 s (suc j) n)) → ofFields binary64 s (suc j) n ≡ odd 53 s (2 ^ 52 + n) j 1074
+pub led-value : (s : Bool) (j n : ℕ) → T (finite (ofFields binary64 s (suc j) n))
+    → ofFields binary64 s (suc j) n ≡ odd 53 s (2 ^ 52 + n) j 1074
 unfolding ofFields
 led-value s j n f = number (eqb (suc j) 2047) (eqb n 0) s (odd 53 s (2 ^ 52 + n) j 1074) f
 

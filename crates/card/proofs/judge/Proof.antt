@@ -2,13 +2,13 @@
 use mathlib.Core.Path.{sym, ap, _∙_}
 use borrow.Author.Needs.{needs}
 use Rattle.refusal.specs.Order.{tells}
-use Rattle.card.specs.Judge.{toldJudged}
 use Rattle.card.proofs.After.{Went, went, stays}
 use Rattle.card.proofs.judge.Statement.{statement}
 use Rattle.card.proofs.judge.Tie as tie
 
 -- clipping was taken
-taken : (c : tie.After-enum-told) → Went (c .before .before .before .before .args .bytes .now) (c .before .before .clip .result .numbers)
+taken : (c : tie.After-enum-told)
+    → Went (c .before .before .before .before .args .bytes .now) (c .before .before .clip .result .numbers)
 taken c = went (c .before .before .clip .ensures) (c .enum-told .given .1)
 
 returns : tie.Need-returns

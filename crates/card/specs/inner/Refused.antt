@@ -1,5 +1,4 @@
 -- A clipping that is refused: the refusal, and zeros.
-use mathlib.Core.Path.{_≡_}
 use Prim.Native.Nat.{ℕ}
 use lib.ListN.{replicate}
 use Rattle.refusal.specs.declared.Refusal.{Refusal}

@@ -38,13 +38,16 @@ judged-from (Refused f) v e = ap judgedFrom (tells-one (no f) v e)
 pub clip-taken : {a : Answer} (v : Verdict (Unit {0})) → toldAnswer a ≡ tells v → a ≡ answer.Taken → v ≡ yes tt
 clip-taken v e k = sym (tells-one (yes tt) v (ap toldAnswer (sym k) ∙ e))
 
-pub clip-refused : {a : Answer} (v : Verdict (Unit {0})) {f : Refusal} → toldAnswer a ≡ tells v → a ≡ answer.Refused f → v ≡ no f
+pub clip-refused : {a : Answer} (v : Verdict (Unit {0})) {f : Refusal} → toldAnswer a ≡ tells v → a ≡ answer.Refused f
+    → v ≡ no f
 clip-refused v {f} e k = sym (tells-one (no f) v (ap toldAnswer (sym k) ∙ e))
 
-pub judged-card : {r : Judged} (v : Verdict WorkedCard) {c : WorkedCard} → toldJudged r ≡ tells v → r ≡ Card c → v ≡ yes c
+pub judged-card : {r : Judged} (v : Verdict WorkedCard) {c : WorkedCard} → toldJudged r ≡ tells v → r ≡ Card c
+    → v ≡ yes c
 judged-card v {c} e k = sym (tells-one (yes c) v (ap toldJudged (sym k) ∙ e))
 
-pub judged-refused : {r : Judged} (v : Verdict WorkedCard) {f : Refusal} → toldJudged r ≡ tells v → r ≡ Refused f → v ≡ no f
+pub judged-refused : {r : Judged} (v : Verdict WorkedCard) {f : Refusal} → toldJudged r ≡ tells v → r ≡ Refused f
+    → v ≡ no f
 judged-refused v {f} e k = sym (tells-one (no f) v (ap toldJudged (sym k) ∙ e))
 
 -- ---- one result
@@ -56,9 +59,11 @@ clipping-same r r′ a n m =
 pub unique-clip : (n : ℕ) (s : List ℕ) (r r′ : Clipping) → Clips n s r → Clips n s r′ → r ≡ r′
 unique-clip n s r r′ p q =
     clipping-same r r′
-    (unique-by-equation (answer-from (r .answer) (clipOf n s) (p .answer)) (answer-from (r′ .answer) (clipOf n s) (q .answer)))
+    (unique-by-equation (answer-from (r .answer) (clipOf n s) (p .answer))
+    (answer-from (r′ .answer) (clipOf n s) (q .answer)))
     (unique-by-equation (p .numbers) (q .numbers))
     (unique-by-equation (p .mask) (q .mask))
 
-pub unique-judge : (s : List ℕ) (r r′ : Judged) → toldJudged r ≡ tells (judgeOf s) → toldJudged r′ ≡ tells (judgeOf s) → r ≡ r′
+pub unique-judge : (s : List ℕ) (r r′ : Judged) → toldJudged r ≡ tells (judgeOf s) → toldJudged r′ ≡ tells (judgeOf s)
+    → r ≡ r′
 unique-judge s r r′ e e′ = unique-by-equation (judged-from r (judgeOf s) e) (judged-from r′ (judgeOf s) e′)

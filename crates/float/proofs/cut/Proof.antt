@@ -16,12 +16,14 @@ use Rattle.float.proofs.Kept.{read-back}
 use Rattle.float.proofs.cut.Statement.{statement}
 use Rattle.float.proofs.cut.Tie as tie
 
-low : (x : Float) (s : Bool) (d n : ℕ) (r : Split) → ofFields binary64 s d n ≡ x → d ≡ 0 → n < 2 ^ 52 → r ≡ splitOf (fin false n (negsuc 1073)) → r ≡ splitOf x
+low : (x : Float) (s : Bool) (d n : ℕ) (r : Split) → ofFields binary64 s d n ≡ x → d ≡ 0 → n < 2 ^ 52
+    → r ≡ splitOf (fin false n (negsuc 1073)) → r ≡ splitOf x
 low x s d n r e z l h =
     h ∙ plain-split n (omega arith) ∙ sym (odd-split s n 0 (omega arith) (omega arith))
     ∙ ap splitOf (sym (unled-value s n) ∙ ap (λ (k : ℕ). ofFields binary64 s k n) (sym z) ∙ e)
 
-high : (x : Float) (s : Bool) (d n : ℕ) → ofFields binary64 s d n ≡ x → (d ≡ 0 → ⊥) → n < 2 ^ 52 → d < 2048 → T (finite x) → record { a = (2 ^ 52 + n) / 2 ^ 22; down = 9225 - d } ≡ splitOf x
+high : (x : Float) (s : Bool) (d n : ℕ) → ofFields binary64 s d n ≡ x → (d ≡ 0 → ⊥) → n < 2 ^ 52 → d < 2048 → T (finite x)
+    → record { a = (2 ^ 52 + n) / 2 ^ 22; down = 9225 - d } ≡ splitOf x
 high x s zero n e z l k f = absurd (z refl)
 high x s (suc j) n e z l k f =
     sym (led-units n j l) ∙ sym (odd-split s (2 ^ 52 + n) j (omega arith) (omega arith))
@@ -69,7 +71,9 @@ cast-t11 : tie.Need-cast-t11
 cast-t11 c = search needs
 
 returns-2 : tie.Need-returns-2
-returns-2 c = high _ _ _ _ (read-back _ (held (c .before .before .before))) (c .if2 .left) (omega arith) (omega arith) (is-number (c .before))
+returns-2 c =
+    high _ _ _ _ (read-back _ (held (c .before .before .before))) (c .if2 .left) (omega arith) (omega arith)
+    (is-number (c .before))
 
 returns-3 : tie.Need-returns-3
 returns-3 c = none (c .before .before .args .x) (sym (c .before .is-finite .ensures) ∙ c .if1 .left)

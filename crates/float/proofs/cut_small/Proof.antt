@@ -20,9 +20,11 @@ count n h l =
 
 shifted : (n z : ℕ) → n < 2 ^ 52 → z ≡ size n → n * 2 ^ (53 - z) % 2 ^ 64 ≡ wholeF n
 shifted n z l e =
-    ap (λ (x : ℕ). n * 2 ^ (53 - x) % 2 ^ 64) e ∙ shl-exact (size n) (53 - size n) 64 (size-lt n) (omega (arith, size-le n 53 (omega arith)))
+    ap (λ (x : ℕ). n * 2 ^ (53 - x) % 2 ^ 64) e
+    ∙ shl-exact (size n) (53 - size n) 64 (size-lt n) (omega (arith, size-le n 53 (omega arith)))
 
-some-units : (n z : ℕ) → (n ≡ 0 → ⊥) → n < 2 ^ 52 → z ≡ size n → record { a = n * 2 ^ (53 - z) % 2 ^ 64 / 2 ^ 22; down = 9277 - z } ≡ unitsOf n 0
+some-units : (n z : ℕ) → (n ≡ 0 → ⊥) → n < 2 ^ 52 → z ≡ size n
+    → record { a = n * 2 ^ (53 - z) % 2 ^ 64 / 2 ^ 22; down = 9277 - z } ≡ unitsOf n 0
 some-units zero z h l e = absurd (h refl)
 some-units (suc n) z h l e =
     let down : 9277 - z ≡ 9277 - (0 + size (suc n)) = omega arith in
@@ -62,7 +64,8 @@ cast-t10 c = search needs
 
 returns-2 : tie.Need-returns-2
 returns-2 c =
-    some-units (c .before .args .n) (64 - leadingZeros 64 (c .before .args .n)) (c .if1 .left) (c .before .pre) (omega (arith, counted c))
+    some-units (c .before .args .n) (64 - leadingZeros 64 (c .before .args .n)) (c .if1 .left) (c .before .pre)
+    (omega (arith, counted c))
     ∙ sym (plain-split (c .before .args .n) (let l = c .before .pre in omega arith))
 
 pub cut-small-spec : {M : Type 1} → statement M

@@ -1,4 +1,4 @@
--- `card::limits::rule_of` meets its contract: at a number that is known the table computes, and past its end it has Free.
+-- `card::limits::rule_of` meets its contract: at a number that is known the table computes; past its end it has Free.
 use mathlib.Core.Path.{_≡_, refl, sym, ap, _∙_}
 use mathlib.Core.Logic.{_⊎_, inl, inr, ⊎-elim}
 use Prim.Native.Nat.{ℕ, suc, _≤_, _<_}
@@ -52,7 +52,8 @@ module _ (c : tie.At-match-rest) where
       let currents = neither (r .0 .0 .0 .0 .0 .1) in
       let knees = neither (r .0 .0 .0 .0 .1) in
       let shares = neither (r .0 .0 .1) in
-      up (up (up (up (up (up (up l (knees .0)) (r .0 .0 .0 .1)) (shares .0)) (currents .0)) (r .0 .1)) (r .1)) (currents .1)
+      up (up (up (up (up (up (up l (knees .0)) (r .0 .0 .0 .1)) (shares .0)) (currents .0)) (r .0 .1)) (r .1))
+      (currents .1)
 
   past-iks : number.iks ≤ i → number.rcblx ≤ i
   past-iks l = up l (neither (c .match .rest .0 .0 .0 .0 .1) .1)
@@ -69,8 +70,9 @@ rule-of-spec =
     (λ c. either number.xibi number.exsub refl refl (c .match .keys4))
     (λ c. known number.mlf refl (c .match .keys5))
     (λ c. known number.bri refl (c .match .keys6))
-    (λ c. known {i = i (c .before .before)} number.icss refl (omega (arith, past-bri (c .before .before) (omega arith))))
+    (λ c. let at = c .before .before in known {i = i at} number.icss refl (omega (arith, past-bri at (omega arith))))
     (λ c. free (i (c .before .before .before)) (past-exsub (c .before .before .before) (omega arith)))
     (λ c. either number.ibf number.iss refl refl (c .match .keys1))
     (λ c. pair (c .before .before .args .i) number.mult refl refl (omega arith) (omega arith))
-    (λ c. let at = c .before .before .before in pair (i at) number.rcblx refl refl (past-iks at (omega arith)) (omega arith)))
+    (λ c. let at = c .before .before .before in pair (i at) number.rcblx refl refl (past-iks at (omega arith))
+    (omega arith)))

@@ -1,15 +1,14 @@
 -- `card::words::clip_all` meets its contract: each turn reads, clips and marks one number.
 use mathlib.Core.Path.{refl, sym, subst}
-use mathlib.Core.Bool.{true}
-use mathlib.Core.List.{List}
-use Prim.Native.Nat.{ℕ, _-_}
+use Prim.Native.Nat.{_-_}
 use native.Mathlib.Omega.{arith}
 use borrow.Author.Needs.{needs}
 use Rattle.card.specs.declared.Clipping.{Clipping}
 use Rattle.card.specs.Limits.{width}
 use Rattle.card.specs.Clip.{Clips}
 use Rattle.card.proofs.Taken.{not-number, clips-refused}
-use Rattle.card.proofs.Turn.{Passed, at-most, start, small, turn, finished, is-real, is-nothing, not-finite, clipped-is}
+use Rattle.card.proofs.Turn.{Passed, at-most, start, small, turn, finished, is-real, is-nothing, not-finite}
+use Rattle.card.proofs.Turn.{clipped-is}
 use Rattle.card.proofs.words.clip_all.Statement.{statement}
 use Rattle.card.proofs.words.clip_all.Tie as tie
 
@@ -26,7 +25,8 @@ returns c =
     let loop = got .before .before in
     let entry = loop .before .before in
     let s = entry .args .bytes .now in
-    let none = is-nothing s (loop .loop .i) _ _ (got .u64-at .ensures .value) (told .before .before .read .ensures) (told .enum-told .given .1) in
+    let none = is-nothing s (loop .loop .i) _ _ (got .u64-at .ensures .value) (told .before .before .read .ensures)
+    (told .enum-told .given .1) in
     let e = not-number width s (entry .pre) (not-finite s width (loop .loop .i) (got .before .loop-test .taken) none) in
     subst (λ (r : Clipping). Clips width s r) (sym (c .refused .ensures)) (clips-refused e)
 
@@ -36,7 +36,8 @@ In-turn c = c .before .before .before .before .before .before .before .before
 
 add-mask : tie.Need-add-mask Inv-loop μ-loop
 add-mask c =
-    let l = In-turn c .before .loop in omega (arith, at-most (l .inv), l .inv .under, small _ _ (l .bit) _ (c .weight .ensures))
+    let l = In-turn c .before .loop in
+    omega (arith, at-most (l .inv), l .inv .under, small _ _ (l .bit) _ (c .weight .ensures))
 
 loop-again : tie.Need-loop-again Inv-loop μ-loop
 loop-again c =
@@ -44,9 +45,11 @@ loop-again c =
     let in-loop = read .before .before in
     let l = in-loop .before .loop in
     let s = in-loop .before .before .before .args .bytes .now in
-    let real = is-real s (l .i) _ _ (read .before .u64-at .ensures .value) (read .read .ensures) _ (c .before .before .before .before .x .given .1) in
+    let real = is-real s (l .i) _ _ (read .before .u64-at .ensures .value) (read .read .ensures) _
+    (c .before .before .before .before .x .given .1) in
     let y = clipped-is s (l .i) _ _ _ (c .before .before .rule-of .ensures) (real .1) (c .before .apply .ensures) in
-    turn (l .inv) (in-loop .loop-test .taken) _ _ _ (c .weight .ensures) (real .0) (real .1) y
+    turn (l .inv) (in-loop .loop-test .taken)
+    (record { good = real .0; number = real .1; clipped = y; weight = c .weight .ensures })
 
 pub clip-all-spec : {M : Type 1} → statement M
 clip-all-spec =

@@ -18,7 +18,8 @@ record Left (x : List Float) (i : ℕ) : Type 0 where
   pub few : i ≤ length x
   pub same : all finite x ≡ all finite (drop i x)
 
-one-more : (x : List Float) (i : ℕ) → i < length x → all finite (drop i x) ≡ finite (getD x i nan) && all finite (drop (i + 1) x)
+one-more : (x : List Float) (i : ℕ) → i < length x
+    → all finite (drop i x) ≡ finite (getD x i nan) && all finite (drop (i + 1) x)
 one-more x i h = rw (add-one, drop-cons x i nan)
 
 abbrev Inv-loop : tie.InvT-loop
@@ -32,7 +33,9 @@ module _ {x : List Float} {i : ℕ} (p : Left x i) (h : i < length x) {b : Bool}
   stop f = sym (p .same ∙ one-more x i h ∙ ap (λ (t : Bool). t && all finite (drop (i + 1) x)) (sym e ∙ f))
 
   go : b ≡ true → Left x (i + 1)
-  go t = record { few = omega arith; same = p .same ∙ one-more x i h ∙ ap (λ (u : Bool). u && all finite (drop (i + 1) x)) (sym e ∙ t) }
+  go t =
+      let rest = ap (λ (u : Bool). u && all finite (drop (i + 1) x)) (sym e ∙ t) in
+      record { few = omega arith; same = p .same ∙ one-more x i h ∙ rest }
 
 end : {x : List Float} {i : ℕ} → Left x i → length x ≤ i → true ≡ all finite x
 end {x} {i} p h = sym (p .same ∙ ap (all finite) (drop-of-length-le x h))
@@ -55,6 +58,8 @@ all-finite-spec =
     (λ c κs. search needs)
     (λ c. search needs)
     (λ c. let h = within (c .before .before) in omega arith)
-    (λ c. go (c .before .before .before .loop .inv) (within (c .before .before)) (c .before .is-finite .ensures) (c .if1 .taken))
-    (λ c. stop (c .before .before .before .loop .inv) (within (c .before .before)) (c .before .is-finite .ensures) (c .if1 .left))
+    (λ c. go (c .before .before .before .loop .inv) (within (c .before .before)) (c .before .is-finite .ensures)
+    (c .if1 .taken))
+    (λ c. stop (c .before .before .before .loop .inv) (within (c .before .before)) (c .before .is-finite .ensures)
+    (c .if1 .left))
     (λ c. end (c .before .loop .inv) (let l = long (c .before .before) in omega arith)))
