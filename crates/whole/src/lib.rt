@@ -127,12 +127,17 @@ fn bitwise(x: u64) -> u64
     t
 }
 
+// 1 on the curve, and the first number beyond it.
+const CURVE_ONE: u64 = 65536;
+
+const CURVE_SPAN: u64 = 4 * CURVE_ONE;
+
 // 2^16 times the root of t / 2^16, within one part in 190, for t from 2^16 to 2^18.
 fn curve(t: u64) -> u64
-    ensures { λ r. ⌜ r < 262144 ⌝ }
+    ensures { λ r. ⌜ r < 2 ^ 18 ⌝ }
 {
-    let u = t % 262144;
-    (33984 + u * (34473 - u * 2591 / 65536) / 65536) % 262144
+    let u = t % CURVE_SPAN;
+    (33984 + u * (34473 - u * 2591 / CURVE_ONE) / CURVE_ONE) % CURVE_SPAN
 }
 
 // The mean of g + 1 and x / (g + 1): Newton's next number after g + 1.
