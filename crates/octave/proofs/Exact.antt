@@ -48,6 +48,17 @@ half = 2 ^ halfPlaces
 abbrev top : ℕ
 top = 2 ^ (finePlaces - halfPlaces)
 
+-- the shifts that 64 bits have room for, of the reciprocal and of the offset's rest
+abbrev scaleFirst : ℕ
+scaleFirst = 37
+
+abbrev restFirst : ℕ
+restFirst = 34
+
+-- the limit at which neither is held
+abbrev wordMost : ℕ
+wordMost = 2 ^ 64 - 1
+
 abbrev scaleMost : ℕ
 scaleMost = fine * unit / octaveFrom + 1
 
@@ -134,14 +145,17 @@ module _ {u : ℕ} {o : Reciprocal} (k : Placeable u o) where
 
 -- what `reciprocal_of` gets from its two quotients
 module _ (w : ℕ) (r : InRange w) where
-  pub scale-shared : (x : ℕ) → x ≡ heldAt (2 ^ 64 - 1) (shiftedQuotient (fine * 2 ^ 37) 17 w) → x ≡ scaleOf w
+  pub scale-held : (x : ℕ) → x ≡ heldAt wordMost (shiftedQuotient (fine * 2 ^ scaleFirst) (finePlaces - scaleFirst) w) → x ≡ scaleOf w
   unfolding scaleOf
-  scale-shared x e = e ∙ stays-below (2 ^ 64 - 1) (shiftedQuotient (fine * 2 ^ 37) 17 w) (omega (arith, scale-small w r))
+  scale-held x e =
+      e ∙ stays-below wordMost (shiftedQuotient (fine * 2 ^ scaleFirst) (finePlaces - scaleFirst) w) (omega (arith, scale-small w r))
 
-  pub rest-shared : (x : ℕ) → x ≡ heldAt (2 ^ 64 - 1) (shiftedQuotient ((offsetOf w % w * 2 ^ 34) % 2 ^ 64) 20 w) → x ≡ restOf w
-  rest-shared x e =
-      let m : offsetOf w % w * 2 ^ 34 < 2 ^ 64 = omega (arith, r, mod-lt (offsetOf w) (there w r)) in
-      let g : offsetOf w % w * 2 ^ 34 * 2 ^ 20 ≡ offsetOf w % w * unit = omega arith in
-      let s : shiftedQuotient ((offsetOf w % w * 2 ^ 34) % 2 ^ 64) 20 w ≡ restOf w =
-      ap (λ (y : ℕ). shiftedQuotient y 20 w) (mod-eq-of-lt m) ∙ ap (λ (y : ℕ). y / w) g in
-      e ∙ ap (heldAt (2 ^ 64 - 1)) s ∙ stays-below (2 ^ 64 - 1) (restOf w) (omega (arith, rest-small w r))
+  pub rest-held : (x : ℕ) → x ≡ heldAt wordMost (shiftedQuotient ((offsetOf w % w * 2 ^ restFirst) % 2 ^ 64) (finePlaces - restFirst) w) → x ≡ restOf w
+  rest-held x e =
+      let z = offsetOf w % w * 2 ^ restFirst in
+      let s = finePlaces - restFirst in
+      let m : z < 2 ^ 64 = omega (arith, r, mod-lt (offsetOf w) (there w r)) in
+      let g : z * 2 ^ s ≡ offsetOf w % w * unit = omega arith in
+      let q : shiftedQuotient (z % 2 ^ 64) s w ≡ restOf w =
+      ap (λ (y : ℕ). shiftedQuotient y s w) (mod-eq-of-lt m) ∙ ap (λ (y : ℕ). y / w) g in
+      e ∙ ap (heldAt wordMost) q ∙ stays-below wordMost (restOf w) (omega (arith, rest-small w r))
