@@ -16,7 +16,8 @@ base-fits c = omega (arith, all-small (start c .args .w) (start c .pre))
 
 add-fits : tie.Need-add-t12
 add-fits c =
-    omega (arith, rest-held _ (start c .pre) _ (c .shifted-quotient2 .ensures), all-small (start c .args .w) (start c .pre))
+    let r = rest-held _ (start c .pre) _ (c .shifted-quotient2 .ensures) in
+    omega (arith, all-small (start c .args .w) (start c .pre))
 
 returns : tie.Need-returns
 unfolding reciprocalOf

@@ -22,7 +22,8 @@ down c = small (c .before .before .before .pre .magnitude-small) (c .before .i2 
 
 returns-2 : tie.Need-returns-2
 returns-2 c =
-    less-back (pos (c .before .i2 .given .0 .0)) (record { sfits = down c }) ∙ sym (ap signedOf (c .before .i2 .given .1))
+    less-back (pos (c .before .i2 .given .0 .0)) (record { sfits = down c })
+    ∙ sym (ap signedOf (c .before .i2 .given .1))
 
 pub close-spec : {M : Type 1} → statement M
 close-spec =
