@@ -22,8 +22,13 @@ module _ (u w k z s m c q e i r t : ℕ)
   not-less : q * s ≤ u * m + c + e
   not-less =
       le-of-mul-le-mul-right {k = w}
-      (omega
-      (arith, ap (λ (x : ℕ). u * x) m-is, ap (λ (x : ℕ). x * s) q-is, mul-le-mul-left u r-small, mul-le-mul-right w enough))
+      (omega (
+        arith,
+        ap (λ (x : ℕ). u * x) m-is,
+        ap (λ (x : ℕ). x * s) q-is,
+        mul-le-mul-left u r-small,
+        mul-le-mul-right w enough,
+      ))
       (omega arith)
 
   not-more : u * m + c + e < (q + 1) * s
@@ -118,7 +123,8 @@ module _ (w : ℕ) (r : InRange w) where
         (omega (arith, mod-lt n there)) (omega (arith, mod-lt (z * unit) there)) (mod-lt (u * fine + z) there)
         (omega arith) (omega (arith, r))
 
-    pub place-is : offsetOf w / w + (u * (scaleOf w / half) + (u * (scaleOf w % half) + (restOf w + slack)) / half) / top
+    pub place-is :
+        offsetOf w / w + (u * (scaleOf w / half) + (u * (scaleOf w % half) + (restOf w + slack)) / half) / top
         ≡ placeOf u w
     unfolding placeOf
     place-is =
@@ -175,7 +181,8 @@ module _ (w : ℕ) (r : InRange w) where
       (omega (arith, scale-small w r))
 
   pub rest-held : (x : ℕ) →
-      x ≡ heldAt wordMost (shiftedQuotient ((offsetOf w % w * 2 ^ restFirst) % 2 ^ 64) (finePlaces - restFirst) w) → x ≡ restOf w
+      x ≡ heldAt wordMost (shiftedQuotient ((offsetOf w % w * 2 ^ restFirst) % 2 ^ 64) (finePlaces - restFirst) w) →
+      x ≡ restOf w
   rest-held x e =
       let z = offsetOf w % w * 2 ^ restFirst in
       let s = finePlaces - restFirst in

@@ -6,7 +6,7 @@ use native.Mathlib.Nat.{mod-eq-of-lt, div-add-mod', mod-lt, div-mul-le-self, div
 use native.Mathlib.Omega.{arith}
 use lib.IntN.{subℕ}
 use lib.Pow.{pow-pos, pow-mono}
-use Rattle.whole.specs.Signed.{signedSpan}
+use Rattle.whole.specs.Signed.{signedPlaces, signedSpan}
 use Rattle.whole.specs.Scale.{floorScale, heldAt, reaches, held-none, scale-up, scale-down}
 
 -- a product below 2^64 is not cut
@@ -46,6 +46,6 @@ module _ (x up down over : ℕ) where
       sym (held-none over)
       ∙ ap (heldAt over) (sym (scale-down x up down h ∙ div-eq-of-lt (lt-of-lt-of-le l (pow-mono k))))
 
--- x below 2^63, shifted down by s: a shift of 63 or more leaves nothing
-pub down-far : (x s : ℕ) → x < signedSpan → 63 ≤ s → x / 2 ^ 63 ≡ x / 2 ^ s
+-- a number of a signed word's places, shifted down by as many or more, leaves nothing
+pub down-far : (x s : ℕ) → x < signedSpan → signedPlaces ≤ s → x / 2 ^ signedPlaces ≡ x / 2 ^ s
 down-far x s l k = div-eq-of-lt l ∙ sym (div-eq-of-lt (lt-of-lt-of-le l (pow-mono k)))
