@@ -1,7 +1,9 @@
 -- Division by an octave as products and shifts: a reciprocal with 54 binary places loses nothing.
 use mathlib.Core.Path.{_≡_, sym, ap, subst, _∙_}
 use Prim.Native.Nat.{ℕ, _+_, _*_, _-_, _/_, _%_, _^_, _≤_, _<_}
-use native.Mathlib.Nat.{le-of-mul-le-mul-right, lt-of-mul-lt-mul-right, mul-le-mul, mul-le-mul-left, mul-le-mul-right, mul-add-div-right, div-div-eq-div-mul, div-eq-of-lt-le, div-add-mod', mod-lt, mod-eq-of-lt, div-le-of-le-mul}
+use native.Mathlib.Nat.{le-of-mul-le-mul-right, lt-of-mul-lt-mul-right, mul-le-mul, mul-le-mul-left, mul-le-mul-right}
+use native.Mathlib.Nat.{mul-add-div-right, div-div-eq-div-mul, div-eq-of-lt-le, div-add-mod', div-le-of-le-mul}
+use native.Mathlib.Nat.{mod-lt, mod-eq-of-lt}
 use native.Mathlib.Omega.{arith}
 use Rattle.whole.specs.Scale.{heldAt, stays-below}
 use Rattle.whole.specs.Quotient.{shiftedQuotient}
@@ -10,14 +12,24 @@ use Rattle.octave.specs.declared.Reciprocal.{Reciprocal}
 use Rattle.octave.specs.Table.{parts}
 use Rattle.octave.specs.Position.{nanovolts, octaveFrom, InRange}
 use Rattle.octave.specs.Exponential.{bias}
-use Rattle.octave.specs.inner.Reciprocal.{finePlaces, halfPlaces, slack, scaleOf, offsetOf, placeOf, reciprocalOf, IsReciprocal, Placeable}
+use Rattle.octave.specs.inner.Reciprocal.{finePlaces, halfPlaces, slack, scaleOf, offsetOf, placeOf}
+use Rattle.octave.specs.inner.Reciprocal.{reciprocalOf, Placeable}
 
 -- m and c are k * s and z * s over w, rounded downward; e makes up for the u + 1 roundings and is lost in the last one
-module _ (u w k z s m c q e i r t : ℕ) (m-is : m * w + r ≡ k * s) (c-is : c * w + t ≡ z * s) (q-is : q * w + i ≡ u * k + z) (r-small : r ≤ w) (t-small : t ≤ w) (i-small : i < w) (enough : u + 1 ≤ e) (fine : e * w < s) where
+module _ (u w k z s m c q e i r t : ℕ)
+    (m-is : m * w + r ≡ k * s) (c-is : c * w + t ≡ z * s) (q-is : q * w + i ≡ u * k + z)
+    (r-small : r ≤ w) (t-small : t ≤ w) (i-small : i < w) (enough : u + 1 ≤ e) (small : e * w < s) where
   not-less : q * s ≤ u * m + c + e
   not-less =
       le-of-mul-le-mul-right {k = w}
-      (omega (arith, ap (λ (x : ℕ). u * x) m-is, ap (λ (x : ℕ). x * s) q-is, mul-le-mul-left u r-small, mul-le-mul-right w enough)) (omega arith)
+      (omega (
+        arith,
+        ap (λ (x : ℕ). u * x) m-is,
+        ap (λ (x : ℕ). x * s) q-is,
+        mul-le-mul-left u r-small,
+        mul-le-mul-right w enough,
+      ))
+      (omega arith)
 
   not-more : u * m + c + e < (q + 1) * s
   not-more =
@@ -47,6 +59,17 @@ half = 2 ^ halfPlaces
 
 abbrev top : ℕ
 top = 2 ^ (finePlaces - halfPlaces)
+
+-- the shifts that 64 bits have room for, of the reciprocal and of the offset's rest
+abbrev scaleFirst : ℕ
+scaleFirst = 37
+
+abbrev restFirst : ℕ
+restFirst = 34
+
+-- the limit at which neither is held
+abbrev wordMost : ℕ
+wordMost = 2 ^ 64 - 1
 
 abbrev scaleMost : ℕ
 scaleMost = fine * unit / octaveFrom + 1
@@ -78,7 +101,12 @@ module _ (w : ℕ) (r : InRange w) where
 
   pub all-small : Small (scaleOf w / half) (scaleOf w % half) (offsetOf w / w) (restOf w + slack)
   all-small =
-      record { high-small = omega (arith, scale-small); low-small = omega arith; base-small = base-low; add-small = omega (arith, rest-small) }
+      record {
+        high-small = omega (arith, scale-small);
+        low-small = omega arith;
+        base-small = base-low;
+        add-small = omega (arith, rest-small);
+      }
 
   module _ (u : ℕ) (near : u ≤ 2 * span) where
     -- the quotient that is left when the offset's whole part is taken out
@@ -89,17 +117,22 @@ module _ (w : ℕ) (r : InRange w) where
         let n = fine * unit in
         let e : u * (n / w) + (z * unit / w + slack) ≡ u * (n / w) + z * unit / w + slack = omega arith in
         ap (λ (x : ℕ). x / unit) e
-        ∙ exact u w fine z unit (n / w) (z * unit / w) ((u * fine + z) / w) slack ((u * fine + z) % w) (n % w) (z * unit % w)
+        ∙ exact u w fine z unit (n / w) (z * unit / w) ((u * fine + z) / w) slack
+        ((u * fine + z) % w) (n % w) (z * unit % w)
         (div-add-mod' n w) (div-add-mod' (z * unit) w) (div-add-mod' (u * fine + z) w)
-        (omega (arith, mod-lt n there)) (omega (arith, mod-lt (z * unit) there)) (mod-lt (u * fine + z) there) (omega arith) (omega (arith, r))
+        (omega (arith, mod-lt n there)) (omega (arith, mod-lt (z * unit) there)) (mod-lt (u * fine + z) there)
+        (omega arith) (omega (arith, r))
 
-    pub place-is : offsetOf w / w + (u * (scaleOf w / half) + (u * (scaleOf w % half) + (restOf w + slack)) / half) / top ≡ placeOf u w
+    pub place-is :
+        offsetOf w / w + (u * (scaleOf w / half) + (u * (scaleOf w % half) + (restOf w + slack)) / half) / top
+        ≡ placeOf u w
     unfolding placeOf
     place-is =
         let b = offsetOf w / w in
         let a = restOf w + slack in
         let e : scaleOf w / half * half + scaleOf w % half ≡ scaleOf w = omega arith in
-        let g : b * w + (u * fine + offsetOf w % w) ≡ u * fine + offsetOf w = omega (arith, div-add-mod' (offsetOf w) w) in
+        let g : b * w + (u * fine + offsetOf w % w) ≡ u * fine + offsetOf w =
+        omega (arith, div-add-mod' (offsetOf w) w) in
         ap (λ (x : ℕ). b + x)
         (halves u (scaleOf w / half) (scaleOf w % half) a half top (omega arith)
         ∙ ap (λ (x : ℕ). (u * x + a) / unit) e
@@ -118,7 +151,8 @@ module _ {u : ℕ} {o : Reciprocal} (k : Placeable u o) where
   pub fields-place : o .base + (u * o .high + (u * o .low + o .add) / half) / top ≡ placeOf u (o .w)
   unfolding reciprocalOf
   fields-place =
-      subst (λ (p : Reciprocal). p .base + (u * p .high + (u * p .low + p .add) / half) / top ≡ placeOf u (o .w)) (sym (k .reciprocal .is))
+      subst (λ (p : Reciprocal). p .base + (u * p .high + (u * p .low + p .add) / half) / top ≡ placeOf u (o .w))
+      (sym (k .reciprocal .is))
       (place-is (o .w) (k .reciprocal .range) u (k .near))
 
   -- what `place` works with keeps within its words
@@ -130,18 +164,30 @@ module _ {u : ℕ} {o : Reciprocal} (k : Placeable u o) where
   pub room : Room
   room =
       let l : o .low ≤ half = omega (arith, fields-small) in
-      record { low-product = mul-le-mul (k .near) l; high-product = mul-le-mul (k .near) (fields-small .high-small); small = fields-small }
+      record {
+        low-product = mul-le-mul (k .near) l;
+        high-product = mul-le-mul (k .near) (fields-small .high-small);
+        small = fields-small;
+      }
 
 -- what `reciprocal_of` gets from its two quotients
 module _ (w : ℕ) (r : InRange w) where
-  pub scale-shared : (x : ℕ) → x ≡ heldAt (2 ^ 64 - 1) (shiftedQuotient (fine * 2 ^ 37) 17 w) → x ≡ scaleOf w
+  pub scale-held : (x : ℕ) →
+      x ≡ heldAt wordMost (shiftedQuotient (fine * 2 ^ scaleFirst) (finePlaces - scaleFirst) w) → x ≡ scaleOf w
   unfolding scaleOf
-  scale-shared x e = e ∙ stays-below (2 ^ 64 - 1) (shiftedQuotient (fine * 2 ^ 37) 17 w) (omega (arith, scale-small w r))
+  scale-held x e =
+      e
+      ∙ stays-below wordMost (shiftedQuotient (fine * 2 ^ scaleFirst) (finePlaces - scaleFirst) w)
+      (omega (arith, scale-small w r))
 
-  pub rest-shared : (x : ℕ) → x ≡ heldAt (2 ^ 64 - 1) (shiftedQuotient ((offsetOf w % w * 2 ^ 34) % 2 ^ 64) 20 w) → x ≡ restOf w
-  rest-shared x e =
-      let m : offsetOf w % w * 2 ^ 34 < 2 ^ 64 = omega (arith, r, mod-lt (offsetOf w) (there w r)) in
-      let g : offsetOf w % w * 2 ^ 34 * 2 ^ 20 ≡ offsetOf w % w * unit = omega arith in
-      let s : shiftedQuotient ((offsetOf w % w * 2 ^ 34) % 2 ^ 64) 20 w ≡ restOf w =
-      ap (λ (y : ℕ). shiftedQuotient y 20 w) (mod-eq-of-lt m) ∙ ap (λ (y : ℕ). y / w) g in
-      e ∙ ap (heldAt (2 ^ 64 - 1)) s ∙ stays-below (2 ^ 64 - 1) (restOf w) (omega (arith, rest-small w r))
+  pub rest-held : (x : ℕ) →
+      x ≡ heldAt wordMost (shiftedQuotient ((offsetOf w % w * 2 ^ restFirst) % 2 ^ 64) (finePlaces - restFirst) w) →
+      x ≡ restOf w
+  rest-held x e =
+      let z = offsetOf w % w * 2 ^ restFirst in
+      let s = finePlaces - restFirst in
+      let m : z < 2 ^ 64 = omega (arith, r, mod-lt (offsetOf w) (there w r)) in
+      let g : z * 2 ^ s ≡ offsetOf w % w * unit = omega arith in
+      let q : shiftedQuotient (z % 2 ^ 64) s w ≡ restOf w =
+      ap (λ (y : ℕ). shiftedQuotient y s w) (mod-eq-of-lt m) ∙ ap (λ (y : ℕ). y / w) g in
+      e ∙ ap (heldAt wordMost) q ∙ stays-below wordMost (restOf w) (omega (arith, rest-small w r))

@@ -3,12 +3,13 @@ use mathlib.Core.Path.{_≡_, refl, subst}
 use mathlib.Core.Bool.{Bool, _&&_}
 use mathlib.Core.List.{List, [], _∷_}
 use Prim.Native.Nat.{ℕ, suc, suc-le-suc, _+_, _-_, _*_, _/_, _%_, _^_, _≤_, _<_}
-use native.Mathlib.Nat.{pow-le-pow-left, pow-le-pow-right, lt-of-not-le, le-of-suc-le-suc, le-antisymm, le-trans, le-of-lt, le-of-eq, lt-irrefl, mul-comm, mul-le-mul-left, mod-lt, div-le-of-le-mul}
+use native.Mathlib.Nat.{pow-le-pow-left, pow-le-pow-right, mul-comm, mul-le-mul-left, mod-lt, div-le-of-le-mul}
+use native.Mathlib.Nat.{lt-of-not-le, le-of-suc-le-suc, le-antisymm, le-trans, le-of-lt, le-of-eq, lt-irrefl}
 use native.Mathlib.Omega.{arith}
 use lib.Dec.{leb, leb→le, lit<}
 use lib.ListN.{getD}
 use mir.Facts.{and-yes}
-use Rattle.octave.specs.laws.Every.{every, at-each}
+use Rattle.octave.specs.laws.Every.{at-each}
 
 -- points of the table in an octave
 abbrev pub points : ℕ
@@ -57,14 +58,20 @@ abbrev pub mantissaOf : ℕ → ℕ
 mantissaOf f = entryOf (f / steps) + (entryOf (suc (f / steps)) - entryOf (f / steps)) * (f % steps) / steps
 
 -- the whole table's test
+withinPower : ℕ → Bool
+withinPower j = leb (entryOf j ^ points) (2 ^ (places * points + j))
+
+beyondPower : ℕ → Bool
+beyondPower j = leb (suc (2 ^ (places * points + j))) (suc (entryOf j) ^ points)
+
 right : ℕ → Bool
-right j = leb (entryOf j ^ points) (2 ^ (places * points + j)) && leb (suc (2 ^ (places * points + j))) (suc (entryOf j) ^ points)
+right j = withinPower j && beyondPower j
 
 -- every entry follows the rule
 pub rule : (j : ℕ) → j ≤ points → IsEntry j (entryOf j)
-unfolding entries entryOf right
+unfolding entries entryOf withinPower beyondPower right
 rule j h =
-    let p = and-yes (leb (entryOf j ^ points) (2 ^ (places * points + j))) (leb (suc (2 ^ (places * points + j))) (suc (entryOf j) ^ points)) (at-each right (suc points) tt j (omega arith)) in
+    let p = and-yes (withinPower j) (beyondPower j) (at-each right (suc points) tt j (omega arith)) in
     record { within = leb→le _ _ (p .0); greatest = leb→le _ _ (p .1) }
 
 -- what follows from the rule alone: between rules, one power is not above the other's next
@@ -80,7 +87,9 @@ between i j t u h p q = le-of-suc-le-suc (lt-of-not-le (λ (l : suc u ≤ t). ab
 
 -- so no other number follows the rule
 pub entry-only : (j t : ℕ) → j ≤ points → IsEntry j t → t ≡ entryOf j
-entry-only j t h p = le-antisymm (between j j t (entryOf j) (omega arith) p (rule j h)) (between j j (entryOf j) t (omega arith) (rule j h) p)
+entry-only j t h p =
+    le-antisymm (between j j t (entryOf j) (omega arith) p (rule j h))
+    (between j j (entryOf j) t (omega arith) (rule j h) p)
 
 -- the entries rise from 2^places to twice that
 pub entry-rises : (j : ℕ) → j < points → entryOf j ≤ entryOf (suc j)

@@ -15,7 +15,7 @@ const POINTS: u64 = 64;
 const STEPS: u64 = 1024;
 
 // Parts of an octave, in which positions count.
-const PARTS: u64 = POINTS * STEPS;
+pub const PARTS: u64 = POINTS * STEPS;
 
 // Octaves are in nanovolts and voltages in microvolts.
 const NANOVOLTS: u64 = 1000;

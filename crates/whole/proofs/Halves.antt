@@ -50,7 +50,8 @@ module _ (v : ℤ) (h : SFits w64 v) where
   less-back = toZ-ofZ w64 _ less-fits ∙ mirrored
 
 -- a negative number opened
-opened-down : (v : ℤ) → SFits w64 v → ltZ v (pos 0) ≡ true → (NegSuc (natAbs (mirror v)) ≡ intOf v) × Unsigned (mirror v)
+opened-down : (v : ℤ) → SFits w64 v → ltZ v (pos 0) ≡ true →
+    (NegSuc (natAbs (mirror v)) ≡ intOf v) × Unsigned (mirror v)
 opened-down (pos n) h e = absurd (not-suc-le-zero (ltb-true n 0 e))
 opened-down (negsuc n) h e = (refl, from-pos n (record { sfits = h .sfits }))
 
@@ -60,12 +61,15 @@ opened-up (pos n) h e = (refl, from-pos n h)
 opened-up (negsuc n) h e = absurd (subst T e tt)
 
 module _ (v : ℤ) (h : SFits w64 v) where
-  pub open-down : ltZ (toZ w64 (ofZ w64 v)) (pos 0) ≡ true → (NegSuc (natAbs (toZ w64 (ofZ w64 (negsuc 0 -ℤ toZ w64 (ofZ w64 v))))) ≡ intOf v) × Unsigned (toZ w64 (ofZ w64 (negsuc 0 -ℤ toZ w64 (ofZ w64 v))))
+  pub open-down : ltZ (toZ w64 (ofZ w64 v)) (pos 0) ≡ true →
+      (NegSuc (natAbs (toZ w64 (ofZ w64 (negsuc 0 -ℤ toZ w64 (ofZ w64 v))))) ≡ intOf v)
+      × Unsigned (toZ w64 (ofZ w64 (negsuc 0 -ℤ toZ w64 (ofZ w64 v))))
   open-down t =
       let e : ltZ v (pos 0) ≡ true = subst (λ (z : ℤ). ltZ z (pos 0) ≡ true) (back v h) t in
       subst (λ (z : ℤ). (NegSuc (natAbs z) ≡ intOf v) × Unsigned z) (sym (less-back v h)) (opened-down v h e)
 
-  pub open-up : ltZ (toZ w64 (ofZ w64 v)) (pos 0) ≡ false → (Pos (natAbs (toZ w64 (ofZ w64 v))) ≡ intOf v) × Unsigned (toZ w64 (ofZ w64 v))
+  pub open-up : ltZ (toZ w64 (ofZ w64 v)) (pos 0) ≡ false →
+      (Pos (natAbs (toZ w64 (ofZ w64 v))) ≡ intOf v) × Unsigned (toZ w64 (ofZ w64 v))
   open-up t =
       let e : ltZ v (pos 0) ≡ false = subst (λ (z : ℤ). ltZ z (pos 0) ≡ false) (back v h) t in
       subst (λ (z : ℤ). (Pos (natAbs z) ≡ intOf v) × Unsigned z) (sym (back v h)) (opened-up v h e)

@@ -30,7 +30,9 @@ module _ (n s d over : ℕ) (k : Divisor s d) where
 
   pub beyond : over / 2 ^ s < n / d → over ≡ heldAt over (shiftedQuotient n s d)
   beyond h =
-      sym (reaches over (shiftedQuotient n s d) (omega (arith, by-parts, mul-le-mul-right (2 ^ s) h, div-add-mod' over (2 ^ s), mod-lt over (pow-pos s))))
+      let l : over ≤ shiftedQuotient n s d =
+      omega (arith, by-parts, mul-le-mul-right (2 ^ s) h, div-add-mod' over (2 ^ s), mod-lt over (pow-pos s)) in
+      sym (reaches over (shiftedQuotient n s d) l)
 
   module _ (l : over < 2 ^ 64) (h : n / d ≤ over / 2 ^ s) where
     base-low : n / d * 2 ^ s ≤ over
@@ -45,8 +47,10 @@ module _ (n s d over : ℕ) (k : Divisor s d) where
     whole-is : (n / d * 2 ^ s) % 2 ^ 64 + (n % d * 2 ^ s) % 2 ^ 64 / d ≡ shiftedQuotient n s d
     whole-is = rw (base-is, rest-is) by-parts
 
-    pub at-limit : over - (n / d * 2 ^ s) % 2 ^ 64 ≤ (n % d * 2 ^ s) % 2 ^ 64 / d → over ≡ heldAt over (shiftedQuotient n s d)
+    pub at-limit : over - (n / d * 2 ^ s) % 2 ^ 64 ≤ (n % d * 2 ^ s) % 2 ^ 64 / d →
+        over ≡ heldAt over (shiftedQuotient n s d)
     at-limit g = sym (reaches over (shiftedQuotient n s d) (omega (arith, whole-is, base-within)))
 
-    pub in-limit : (n % d * 2 ^ s) % 2 ^ 64 / d < over - (n / d * 2 ^ s) % 2 ^ 64 → (n / d * 2 ^ s) % 2 ^ 64 + (n % d * 2 ^ s) % 2 ^ 64 / d ≡ heldAt over (shiftedQuotient n s d)
+    pub in-limit : (n % d * 2 ^ s) % 2 ^ 64 / d < over - (n / d * 2 ^ s) % 2 ^ 64 →
+        (n / d * 2 ^ s) % 2 ^ 64 + (n % d * 2 ^ s) % 2 ^ 64 / d ≡ heldAt over (shiftedQuotient n s d)
     in-limit g = whole-is ∙ sym (stays-below over (shiftedQuotient n s d) (omega (arith, whole-is, base-within)))

@@ -1,11 +1,12 @@
 -- Shifts of 64-bit words, over plain numbers, and what each way through `scale_up` and `floor_scale` returns.
 use mathlib.Core.Path.{_≡_, sym, ap, _∙_}
 use Prim.Native.Nat.{ℕ, _*_, _-_, _/_, _%_, _^_, _≤_, _<_}
-use native.Mathlib.Nat.{zero-mul, mul-le-mul-right, mod-eq-of-lt, div-add-mod', mod-lt, div-mul-le-self, div-eq-of-lt, lt-of-lt-of-le}
+use native.Mathlib.Nat.{zero-mul, mul-le-mul-right, lt-of-lt-of-le}
+use native.Mathlib.Nat.{mod-eq-of-lt, div-add-mod', mod-lt, div-mul-le-self, div-eq-of-lt}
 use native.Mathlib.Omega.{arith}
 use lib.IntN.{subℕ}
 use lib.Pow.{pow-pos, pow-mono}
-use Rattle.whole.specs.Signed.{signedSpan}
+use Rattle.whole.specs.Signed.{signedPlaces, signedSpan}
 use Rattle.whole.specs.Scale.{floorScale, heldAt, reaches, held-none, scale-up, scale-down}
 
 -- a product below 2^64 is not cut
@@ -24,7 +25,10 @@ module _ (x s over : ℕ) where
 
   -- where the product is too large
   pub up-over : over < 2 ^ 64 → (2 ^ 64 - 1) / 2 ^ s < x → over ≡ heldAt over (x * 2 ^ s)
-  up-over l h = sym (reaches over (x * 2 ^ s) (omega (arith, mul-le-mul-right (2 ^ s) h, div-add-mod' (2 ^ 64 - 1) (2 ^ s), mod-lt (2 ^ 64 - 1) (pow-pos s))))
+  up-over l h =
+      let m = mul-le-mul-right (2 ^ s) h in
+      let g : over ≤ x * 2 ^ s = omega (arith, m, div-add-mod' (2 ^ 64 - 1) (2 ^ s), mod-lt (2 ^ 64 - 1) (pow-pos s)) in
+      sym (reaches over (x * 2 ^ s) g)
 
   -- where the shift is
   pub up-far : over < 2 ^ 64 → 0 < x → 64 ≤ s → over ≡ heldAt over (x * 2 ^ s)
@@ -38,8 +42,10 @@ module _ (x up down over : ℕ) where
   scaled-down h = ap (heldAt over) (sym (scale-down x up down h))
 
   pub scaled-far : x < 2 ^ 64 → up < down → 64 ≤ down - up → 0 ≡ heldAt over (floorScale x (subℕ up down))
-  scaled-far l h k = sym (held-none over) ∙ ap (heldAt over) (sym (scale-down x up down h ∙ div-eq-of-lt (lt-of-lt-of-le l (pow-mono k))))
+  scaled-far l h k =
+      sym (held-none over)
+      ∙ ap (heldAt over) (sym (scale-down x up down h ∙ div-eq-of-lt (lt-of-lt-of-le l (pow-mono k))))
 
--- x below 2^63, shifted down by s: a shift of 63 or more leaves nothing
-pub down-far : (x s : ℕ) → x < signedSpan → 63 ≤ s → x / 2 ^ 63 ≡ x / 2 ^ s
+-- a number of a signed word's places, shifted down by as many or more, leaves nothing
+pub down-far : (x s : ℕ) → x < signedSpan → signedPlaces ≤ s → x / 2 ^ signedPlaces ≡ x / 2 ^ s
 down-far x s l k = div-eq-of-lt l ∙ sym (div-eq-of-lt (lt-of-lt-of-le l (pow-mono k)))

@@ -38,7 +38,8 @@ pub record Divisor (s d : ℕ) : Type 0 where
 pub divisor-one : Divisor shiftMost 1
 divisor-one = record { shift-small = omega arith; divisor-there = omega arith; divisor-small = omega arith }
 
--- asked by `quotient`: the same, two numbers that can be taken from each other, and a limit that has a place among the signed words
+-- asked by `quotient`: the same, two numbers that can be taken from each other,
+-- and a limit that has a place among the signed words
 pub record Divisible (a b s d over : ℕ) : Type 0 where
   pub first-small : a < signedSpan
   pub second-small : b < signedSpan
@@ -46,7 +47,8 @@ pub record Divisible (a b s d over : ℕ) : Type 0 where
   pub limit-small : over < signedSpan
 
 pub divisible-one : Divisible 0 0 shiftMost 1 1
-divisible-one = record { first-small = omega arith; second-small = omega arith; divisor = divisor-one; limit-small = omega arith }
+divisible-one =
+    record { first-small = omega arith; second-small = omega arith; divisor = divisor-one; limit-small = omega arith }
 
 -- a divisor no less than 2^s makes nothing larger
 pub shifted-small : (n s d : ℕ) → 2 ^ s ≤ d → shiftedQuotient n s d ≤ n

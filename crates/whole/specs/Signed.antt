@@ -6,9 +6,12 @@ use lib.IntN.{ℤ, pos, negsuc}
 use Rattle.whole.specs.declared.Int.{Int}
 use Rattle.whole.specs.declared.Int.the-variants.{Pos, NegSuc}
 
--- the first number that has no place among the signed words
+-- binary places of a signed word beside its sign, and the first number that they do not hold
+abbrev pub signedPlaces : ℕ
+signedPlaces = 63
+
 abbrev pub signedSpan : ℕ
-signedSpan = 2 ^ 63
+signedSpan = 2 ^ signedPlaces
 
 -- the halves of a number
 abbrev pub intOf : ℤ → Int

@@ -7,6 +7,11 @@ ghost use Rattle.whole.specs.Scale.{floorScale, heldAt};
 ghost use Rattle.whole.specs.Root.{rootOf};
 ghost use Rattle.whole.specs.Quotient.{shiftedQuotient, quotientOf, heldSize, Divisor, Divisible};
 
+// Binary places of a word, and those of a signed one beside its sign.
+const PLACES: u64 = 64;
+
+const SIGNED_PLACES: u64 = PLACES - 1;
+
 // A number below DIVISOR_MOST = 2^43 has room for the largest shift, 21, within 64 bits.
 const DIVISOR_MOST: u64 = 8796093022208;
 
@@ -73,7 +78,7 @@ fn scale_up(x: u64, s: u64, over: u64) -> u64
     if x == 0 {
         return 0;
     }
-    if s < 64 {
+    if s < PLACES {
         if x <= u64::MAX >> s {
             return hold(over, x << s);
         }
@@ -89,18 +94,18 @@ pub fn floor_scale(x: u64, up: u64, down: u64, over: u64) -> u64
         return scale_up(x, up - down, over);
     }
     let s = down - up;
-    if s < 64 {
+    if s < PLACES {
         return hold(over, x >> s);
     }
     0
 }
 
-// x / 2^s, rounded downward. No branch: from 63 on every shift leaves nothing.
+// x / 2^s, rounded downward. No branch: from SIGNED_PLACES on every shift leaves nothing.
 pub fn shift_down(x: u64, s: u64) -> u64
     requires { ⌜ x < signedSpan ⌝ }
     ensures { λ r. ⌜ r ≡ x / 2 ^ s ⌝ }
 {
-    let k = if s < 63 { s } else { 63 };
+    let k = if s < SIGNED_PLACES { s } else { SIGNED_PLACES };
     x >> k
 }
 
@@ -127,12 +132,17 @@ fn bitwise(x: u64) -> u64
     t
 }
 
+// 1 on the curve, and the first number beyond it.
+const CURVE_ONE: u64 = 65536;
+
+const CURVE_SPAN: u64 = 4 * CURVE_ONE;
+
 // 2^16 times the root of t / 2^16, within one part in 190, for t from 2^16 to 2^18.
 fn curve(t: u64) -> u64
-    ensures { λ r. ⌜ r < 262144 ⌝ }
+    ensures { λ r. ⌜ r < 2 ^ 18 ⌝ }
 {
-    let u = t % 262144;
-    (33984 + u * (34473 - u * 2591 / 65536) / 65536) % 262144
+    let u = t % CURVE_SPAN;
+    (33984 + u * (34473 - u * 2591 / CURVE_ONE) / CURVE_ONE) % CURVE_SPAN
 }
 
 // The mean of g + 1 and x / (g + 1): Newton's next number after g + 1.

@@ -11,7 +11,8 @@ returns : tie.Need-returns
 returns c =
     let s = c .before .before in
     let p = c .before .place .ensures in
-    ap₂ (λ (x y : ℕ). record { m = x; n = y / parts }) (c .mantissa .ensures ∙ ap (λ (q : ℕ). mantissaOf (q % parts)) p) p
+    ap₂ (λ (x y : ℕ). record { m = x; n = y / parts })
+    (c .mantissa .ensures ∙ ap (λ (q : ℕ). mantissaOf (q % parts)) p) p
     ∙ sym (exponential-raised (s .args .u) (s .args .o .w) (s .pre .reciprocal .range .least))
 
 pub exponential-at-spec : {M : Type 1} → statement M

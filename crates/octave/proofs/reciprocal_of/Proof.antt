@@ -3,7 +3,7 @@ use mathlib.Core.Path.{ap₂}
 use Prim.Native.Nat.{ℕ, _+_, _/_, _%_, _^_}
 use native.Mathlib.Omega.{arith}
 use Rattle.octave.specs.inner.Reciprocal.{halfPlaces, slack, offsetOf, reciprocalOf}
-use Rattle.octave.proofs.Exact.{all-small, scale-shared, rest-shared}
+use Rattle.octave.proofs.Exact.{all-small, scale-held, rest-held}
 use borrow.Author.Needs.{needs}
 use Rattle.octave.proofs.reciprocal_of.Statement.{statement}
 use Rattle.octave.proofs.reciprocal_of.Tie as tie
@@ -11,12 +11,13 @@ use Rattle.octave.proofs.reciprocal_of.Tie as tie
 abbrev start : tie.After-shifted-quotient2 → tie.Start
 start c = c .before .before
 
-cast-t11 : tie.Need-cast-t11
-cast-t11 c = omega (arith, all-small (start c .args .w) (start c .pre))
+base-fits : tie.Need-cast-t11
+base-fits c = omega (arith, all-small (start c .args .w) (start c .pre))
 
-add-t12 : tie.Need-add-t12
-add-t12 c =
-    omega (arith, rest-shared _ (start c .pre) _ (c .shifted-quotient2 .ensures), all-small (start c .args .w) (start c .pre))
+add-fits : tie.Need-add-t12
+add-fits c =
+    let r = rest-held _ (start c .pre) _ (c .shifted-quotient2 .ensures) in
+    omega (arith, all-small (start c .args .w) (start c .pre))
 
 returns : tie.Need-returns
 unfolding reciprocalOf
@@ -25,8 +26,8 @@ returns c =
     ap₂
     (λ (s t : ℕ).
     record { w = w; high = s / 2 ^ halfPlaces; low = s % 2 ^ halfPlaces; base = offsetOf w / w; add = t + slack })
-    (scale-shared w (start c .pre) _ (c .before .shifted-quotient .ensures))
-    (rest-shared w (start c .pre) _ (c .shifted-quotient2 .ensures))
+    (scale-held w (start c .pre) _ (c .before .shifted-quotient .ensures))
+    (rest-held w (start c .pre) _ (c .shifted-quotient2 .ensures))
 
 pub reciprocal-of-spec : {M : Type 1} → statement M
 reciprocal-of-spec =
@@ -43,6 +44,6 @@ reciprocal-of-spec =
     (λ c. search needs)
     (λ c. search needs)
     (λ c. search needs)
-    cast-t11
-    add-t12
+    base-fits
+    add-fits
     returns)

@@ -23,7 +23,8 @@ module _ (x w : ℕ) (l : octaveFrom ≤ w) where
   upper : subℕ (placeOf (x + span) w) (bias * parts) ≡ positionOf (pos x) w
   unfolding placeOf
   upper =
-      let e : (x + span) * (nanovolts * parts) + offsetOf w ≡ x * (nanovolts * parts) + bias * parts * w = omega arith in
+      let e : (x + span) * (nanovolts * parts) + offsetOf w ≡ x * (nanovolts * parts) + bias * parts * w =
+      omega arith in
       let k = x * (nanovolts * parts) / w in
       ap (λ (n : ℕ). subℕ (n / w) (bias * parts)) e
       ∙ ap (λ (n : ℕ). subℕ n (bias * parts)) (add-mul-div-right (x * (nanovolts * parts)) (bias * parts) (omega arith))
@@ -39,9 +40,14 @@ module _ (x w : ℕ) (l : octaveFrom ≤ w) where
       let k = bias * parts - 1 - n / w in
       let ka : k + n / w ≡ bias * parts - 1 = omega arith in
       let kw = ap (λ (y : ℕ). y * w) ka in
-      let e : (u * (nanovolts * parts) + offsetOf w) / w ≡ k = div-eq-of-lt-le w (omega (arith, div-add-mod' n w, mod-lt n pw)) (omega (arith, div-add-mod' n w, mod-lt n pw)) in
-      let g : negsuc x *ℤ pos (nanovolts * parts) ≡ negsuc n = turned (suc x * (nanovolts * parts)) (omega arith) ∙ ap (λ (y : ℕ). negsuc (y * (nanovolts * parts) - 1)) (sym (add-one x)) in
-      ap (λ (y : ℕ). subℕ y (bias * parts)) e ∙ sub-down k (bias * parts) (omega arith) ∙ ap negsuc (omega arith) ∙ sym (ap (λ (y : ℤ). floorDiv y w) g)
+      let d = div-add-mod' n w in
+      let m = mod-lt n pw in
+      let e : (u * (nanovolts * parts) + offsetOf w) / w ≡ k = div-eq-of-lt-le w (omega arith) (omega arith) in
+      let g : negsuc x *ℤ pos (nanovolts * parts) ≡ negsuc n =
+      turned (suc x * (nanovolts * parts)) (omega arith)
+      ∙ ap (λ (y : ℕ). negsuc (y * (nanovolts * parts) - 1)) (sym (add-one x)) in
+      ap (λ (y : ℕ). subℕ y (bias * parts)) e ∙ sub-down k (bias * parts) (omega arith) ∙ ap negsuc (omega arith)
+      ∙ sym (ap (λ (y : ℤ). floorDiv y w) g)
 
 -- a place is the position of the voltage, raised by the bias
 pub place-position : (u w : ℕ) → octaveFrom ≤ w → subℕ (placeOf u w) (bias * parts) ≡ positionOf (subℕ u span) w
@@ -59,15 +65,23 @@ raised-whole : (p : ℕ) → floorDiv (subℕ p (bias * parts)) parts ≡ subℕ
 raised-whole p = split (below-or-not p (bias * parts))
   where
     split : (p < bias * parts) ⊎ (bias * parts ≤ p) → floorDiv (subℕ p (bias * parts)) parts ≡ subℕ (p / parts) bias
-    split (inl h) = ap (λ (z : ℤ). floorDiv z parts) (sub-down p (bias * parts) h) ∙ ap negsuc (omega arith) ∙ sym (sub-down (p / parts) bias (omega arith))
-    split (inr h) = ap (λ (z : ℤ). floorDiv z parts) (sub-up p (bias * parts) h) ∙ ap pos (omega arith) ∙ sym (sub-up (p / parts) bias (omega arith))
+    split (inl h) =
+        ap (λ (z : ℤ). floorDiv z parts) (sub-down p (bias * parts) h) ∙ ap negsuc (omega arith)
+        ∙ sym (sub-down (p / parts) bias (omega arith))
+    split (inr h) =
+        ap (λ (z : ℤ). floorDiv z parts) (sub-up p (bias * parts) h) ∙ ap pos (omega arith)
+        ∙ sym (sub-up (p / parts) bias (omega arith))
 
 raised-part : (p : ℕ) → floorMod (subℕ p (bias * parts)) parts ≡ p % parts
 raised-part p = split (below-or-not p (bias * parts))
   where
     split : (p < bias * parts) ⊎ (bias * parts ≤ p) → floorMod (subℕ p (bias * parts)) parts ≡ p % parts
-    split (inl h) = let e : parts - suc ((bias * parts - suc p) % parts) ≡ p % parts = omega arith in ap (λ (z : ℤ). floorMod z parts) (sub-down p (bias * parts) h) ∙ e
-    split (inr h) = let e : (p - bias * parts) % parts ≡ p % parts = omega arith in ap (λ (z : ℤ). floorMod z parts) (sub-up p (bias * parts) h) ∙ e
+    split (inl h) =
+        let e : parts - suc ((bias * parts - suc p) % parts) ≡ p % parts = omega arith in
+        ap (λ (z : ℤ). floorMod z parts) (sub-down p (bias * parts) h) ∙ e
+    split (inr h) =
+        let e : (p - bias * parts) % parts ≡ p % parts = omega arith in
+        ap (λ (z : ℤ). floorMod z parts) (sub-up p (bias * parts) h) ∙ e
 
 module _ (u w : ℕ) (l : octaveFrom ≤ w) where
   whole-is : wholeOf (subℕ u span) w ≡ subℕ (placeOf u w / parts) bias
@@ -82,7 +96,8 @@ module _ (u w : ℕ) (l : octaveFrom ≤ w) where
       ap natAbs (sub-add n bias bias 0 ∙ sub-up (n + bias) (bias + 0) (omega arith)) ∙ e
 
   -- the exponential from the place
-  pub exponential-raised : exponentialOf (subℕ u span) w ≡ record { m = mantissaOf (placeOf u w % parts); n = placeOf u w / parts }
+  pub exponential-raised : exponentialOf (subℕ u span) w
+      ≡ record { m = mantissaOf (placeOf u w % parts); n = placeOf u w / parts }
   unfolding exponentialOf
   exponential-raised =
       ap₂ (λ (f : ℕ) (z : ℤ). record { m = mantissaOf f; n = natAbs (z +ℤ pos bias) }) part-is whole-is
@@ -99,7 +114,8 @@ exponential-mantissa v w = refl
 
 pub exponential-size : (v : ℤ) (w : ℕ) → IsMantissa (exponentialOf v w .m)
 exponential-size v w =
-    subst IsMantissa (sym (exponential-mantissa v w)) (mantissa-size (partOf v w) (floor-rest (positionOf v w) parts (omega arith)))
+    subst IsMantissa (sym (exponential-mantissa v w))
+    (mantissa-size (partOf v w) (floor-rest (positionOf v w) parts (omega arith)))
 
 -- the largest n: as many octaves above the bias as the largest voltage has of the least octave
 abbrev pub exponentMost : ℕ

@@ -12,13 +12,15 @@ use Rattle.volts.proofs.keep.Tie as tie
 abbrev start : tie.After-open → tie.Start
 start c = c .before
 
-is-up : (c : tie.After-known-told) → pos (c .before .i .given .0 .0) ≡ start (c .before .before .before) .args .microvolts
+is-up : (c : tie.After-known-told) →
+    pos (c .before .i .given .0 .0) ≡ start (c .before .before .before) .args .microvolts
 is-up c =
     let o = c .before .before .before in
     let s = start o in
     opened (toZ-ofZ w64 (s .args .microvolts) (s .fits .microvolts)) (o .«open» .ensures) (c .before .i .given .1)
 
-is-down : (c : tie.After-known-told2) → negsuc (c .before .i2 .given .0 .0) ≡ start (c .before .before .before) .args .microvolts
+is-down : (c : tie.After-known-told2) →
+    negsuc (c .before .i2 .given .0 .0) ≡ start (c .before .before .before) .args .microvolts
 is-down c =
     let o = c .before .before .before in
     let s = start o in

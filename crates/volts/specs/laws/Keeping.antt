@@ -27,14 +27,24 @@ pub record KeptIs (v : ℤ) (x : ℕ) : Type 0 where
 pub kept : (v : ℤ) → offVolts v ≡ false → KeptIs v (keptAs v)
 kept (pos n) e =
     let h = within (ltb voltsMost n) refl e in
-    record { on = e; from = refl; is = sub-up (voltsMost + n) voltsMost (omega arith) ∙ ap pos (omega arith); near = omega arith }
+    record {
+      on = e;
+      from = refl;
+      is = sub-up (voltsMost + n) voltsMost (omega arith) ∙ ap pos (omega arith);
+      near = omega arith;
+    }
   where
     within : (t : Bool) → ltb voltsMost n ≡ t → t || false ≡ false → n ≤ voltsMost
     within true p q = clash cc
     within false p q = ltb-false voltsMost n p
 kept (negsuc n) e =
     let h = ltb-false (voltsMost - 1) n e in
-    record { on = e; from = refl; is = sub-down (voltsMost - suc n) voltsMost (omega arith) ∙ ap negsuc (omega arith); near = omega arith }
+    record {
+      on = e;
+      from = refl;
+      is = sub-down (voltsMost - suc n) voltsMost (omega arith) ∙ ap negsuc (omega arith);
+      near = omega arith;
+    }
 
 -- from what `keep` says
 pub kept-is : {v w : ℤ} {l : Voltage} {x : ℕ} → w ≡ v → l ≡ keeping w → l ≡ Kept x → KeptIs v x

@@ -6,7 +6,8 @@ use lib.IntN.{pos, subℕ}
 use mir.Syntax.{w64}
 use mir.ValLaws.{toZ-ofZ}
 use Rattle.whole.specs.Scale.{heldAt, held-within}
-use Rattle.whole.specs.Quotient.{shiftedQuotient, heldSize, quotient-up, quotient-down, held-size-up, held-size-down}
+use Rattle.whole.specs.Quotient.{shiftedQuotient, heldSize, quotient-up, quotient-down}
+use Rattle.whole.specs.Quotient.{held-size-up, held-size-down}
 use Rattle.whole.specs.laws.Biased.{sub-from-zero}
 use borrow.Author.Needs.{needs}
 use Rattle.whole.proofs.quotient.Statement.{statement}
@@ -14,18 +15,21 @@ use Rattle.whole.proofs.quotient.Tie as tie
 
 minus-requires : tie.Need-minus-requires
 minus-requires c κs =
-    let l : c .shifted-quotient .result ≤ c .before .before .args .over = rw (c .shifted-quotient .ensures) (held-within _ _) in
+    let l : c .shifted-quotient .result ≤ c .before .before .args .over =
+    rw (c .shifted-quotient .ensures) (held-within _ _) in
     omega arith
 
 close-requires : tie.Need-close-requires
 close-requires c κs =
-    let l : c .shifted-quotient2 .result ≤ c .before .before .args .over = rw (c .shifted-quotient2 .ensures) (held-within _ _) in
+    let l : c .shifted-quotient2 .result ≤ c .before .before .args .over =
+    rw (c .shifted-quotient2 .ensures) (held-within _ _) in
     record { magnitude-small = omega arith }
 
 returns : tie.Need-returns
 returns c =
     let a = c .before .before .before .args in
-    toZ-ofZ w64 (c .minus .result) (search needs) ∙ c .minus .ensures ∙ ap (subℕ 0) (c .before .shifted-quotient .ensures)
+    toZ-ofZ w64 (c .minus .result) (search needs) ∙ c .minus .ensures
+    ∙ ap (subℕ 0) (c .before .shifted-quotient .ensures)
     ∙ sub-from-zero (heldAt (a .over) (shiftedQuotient (a .b - a .a) (a .s) (a .d)))
     ∙ sym (held-size-down (a .over) (shiftedQuotient (a .b - a .a) (a .s) (a .d)))
     ∙ ap (heldSize (a .over)) (sym (quotient-down (a .a) (a .b) (a .s) (a .d) (c .before .before .if1 .taken)))
@@ -33,7 +37,8 @@ returns c =
 returns-2 : tie.Need-returns-2
 returns-2 c =
     let a = c .before .before .before .args in
-    toZ-ofZ w64 (c .close .result) (search needs) ∙ c .close .ensures ∙ ap pos (c .before .shifted-quotient2 .ensures)
+    toZ-ofZ w64 (c .close .result) (search needs) ∙ c .close .ensures
+    ∙ ap pos (c .before .shifted-quotient2 .ensures)
     ∙ sym (held-size-up (a .over) (shiftedQuotient (a .a - a .b) (a .s) (a .d)))
     ∙ ap (heldSize (a .over)) (sym (quotient-up (a .a) (a .b) (a .s) (a .d) (c .before .before .if1 .left)))
 

@@ -8,7 +8,11 @@ use Rattle.whole.proofs.shift_down.Statement.{statement}
 use Rattle.whole.proofs.shift_down.Tie as tie
 
 few : (c : tie.Joined1) → c .if1 .k < 64
-few c = ⊎-elim (λ w. let e = w .0 .taken in let g = w .1 in omega arith) (λ w. let g = w .1 in omega arith) (c .if1 .came)
+few c =
+    ⊎-elim
+    (λ w. let e = w .0 .taken in let g = w .1 in omega arith)
+    (λ w. let g = w .1 in omega arith)
+    (c .if1 .came)
 
 same : (c : tie.Joined1) → c .before .args .x / 2 ^ c .if1 .k ≡ c .before .args .x / 2 ^ c .before .args .s
 same c =

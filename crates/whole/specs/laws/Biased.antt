@@ -35,10 +35,15 @@ pub sub-add : (a b c d : ℕ) → subℕ a b +ℤ subℕ c d ≡ subℕ (a + c) 
 sub-add a b c d = split (below-or-not a b) (below-or-not c d)
   where
     split : (a < b) ⊎ (b ≤ a) → (c < d) ⊎ (d ≤ c) → subℕ a b +ℤ subℕ c d ≡ subℕ (a + c) (b + d)
-    split (inl h) (inl k) = ap₂ _+ℤ_ (sub-down a b h) (sub-down c d k) ∙ ap negsuc (omega arith) ∙ sym (sub-down (a + c) (b + d) (omega arith))
-    split (inl h) (inr k) = ap₂ _+ℤ_ (sub-down a b h) (sub-up c d k) ∙ sub-eq (c - d) (suc (b - suc a)) (a + c) (b + d) (omega arith)
-    split (inr h) (inl k) = ap₂ _+ℤ_ (sub-up a b h) (sub-down c d k) ∙ sub-eq (a - b) (suc (d - suc c)) (a + c) (b + d) (omega arith)
-    split (inr h) (inr k) = ap₂ _+ℤ_ (sub-up a b h) (sub-up c d k) ∙ ap pos (omega arith) ∙ sym (sub-up (a + c) (b + d) (omega arith))
+    split (inl h) (inl k) =
+        ap₂ _+ℤ_ (sub-down a b h) (sub-down c d k) ∙ ap negsuc (omega arith)
+        ∙ sym (sub-down (a + c) (b + d) (omega arith))
+    split (inl h) (inr k) =
+        ap₂ _+ℤ_ (sub-down a b h) (sub-up c d k) ∙ sub-eq (c - d) (suc (b - suc a)) (a + c) (b + d) (omega arith)
+    split (inr h) (inl k) =
+        ap₂ _+ℤ_ (sub-up a b h) (sub-down c d k) ∙ sub-eq (a - b) (suc (d - suc c)) (a + c) (b + d) (omega arith)
+    split (inr h) (inr k) =
+        ap₂ _+ℤ_ (sub-up a b h) (sub-up c d k) ∙ ap pos (omega arith) ∙ sym (sub-up (a + c) (b + d) (omega arith))
 
 -- a number taken from nothing
 pub turned : (m : ℕ) → 0 < m → negℤ (pos m) ≡ negsuc (m - 1)
