@@ -6,6 +6,7 @@ use Rattle.name.proofs.Laws.{and-true, and-false}
 use borrow.Author.Needs.{needs}
 use Rattle.library.proofs.again.Statement.{statement}
 use Rattle.library.proofs.again.Tie as tie
+use Rattle.name.specs.Name.{mark}
 
 returns : tie.Need-returns
 returns c = sym (and-false (le-ltb 0 (c .before .before .args .mark) (omega arith)) _)

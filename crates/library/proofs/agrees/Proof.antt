@@ -1,9 +1,10 @@
 -- `library::agrees` meets its contract: its tests are the definition's, in the same order.
 use native.Mathlib.Omega.{arith}
-use Rattle.library.proofs.Shape.{few, agree-version, agree-count, agree-directory, agree-records, agree-whole, agree-length}
+use Rattle.library.proofs.Headers.{few, agree-version, agree-count, agree-directory, agree-records, agree-whole, agree-length}
 use borrow.Author.Needs.{needs}
 use Rattle.library.proofs.agrees.Statement.{statement}
 use Rattle.library.proofs.agrees.Tie as tie
+use Rattle.library.specs.Answers.{left}
 
 width-requires : tie.Need-width-requires
 width-requires c κs = search needs

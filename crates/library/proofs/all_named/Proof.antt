@@ -8,6 +8,7 @@ use Rattle.library.proofs.Names.{shorter, Walk, walk-end, walk-here, wa
 use borrow.Author.Needs.{needs}
 use Rattle.library.proofs.all_named.Statement.{statement}
 use Rattle.library.proofs.all_named.Tie as tie
+use Rattle.library.specs.Answers.{left}
 
 abbrev Inv-loop : tie.InvT-loop
 Inv-loop d t₀ t = Walk allNamed d t

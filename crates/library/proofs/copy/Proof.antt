@@ -6,6 +6,7 @@ use Rattle.name.proofs.Laws.{Filled, fill-first, fill-more, fill-all}
 use borrow.Author.Needs.{needs}
 use Rattle.library.proofs.copy.Statement.{statement}
 use Rattle.library.proofs.copy.Tie as tie
+use Rattle.library.specs.Answers.{left}
 
 abbrev Inv-loop : tie.InvT-loop
 Inv-loop src dst₀ i₀ dst i = Filled src dst₀ dst i

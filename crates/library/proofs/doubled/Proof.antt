@@ -1,18 +1,19 @@
--- `library::doubled` meets its contract: of the names passed none stands twice, and each has its slot marked.
+-- `library::doubled` meets its contract: of the names passed none stands twice, and each has its mark.
 use native.Mathlib.Omega.{arith}
-use Rattle.library.proofs.Seen.{Seen, seen-none, seen-all, holds-name, seen-twice, seen-more}
+use Rattle.library.proofs.Doubles.{holds-name, Marked, marks-all, marks-more, marks-none, marks-twice}
 use borrow.Author.Needs.{needs}
 use Rattle.library.proofs.doubled.Statement.{statement}
 use Rattle.library.proofs.doubled.Tie as tie
+use Rattle.library.specs.Answers.{left}
 
 abbrev Inv-loop : tie.InvT-loop
-Inv-loop d seen₀ i₀ seen i = Seen d seen i
+Inv-loop d marks₀ i₀ marks i = Marked d marks i
 
 abbrev μ-loop : tie.MeasureT-loop
-μ-loop d seen₀ i₀ seen i = i
+μ-loop d marks₀ i₀ marks i = i
 
 loop-holds : tie.Need-loop-holds Inv-loop μ-loop
-loop-holds c = seen-none _
+loop-holds c = marks-none _
 
 sub-i : tie.Need-sub-i Inv-loop μ-loop
 sub-i c = search needs
@@ -54,19 +55,19 @@ again-requires : tie.Need-again-requires Inv-loop μ-loop
 again-requires c κs = search needs
 
 returns : tie.Need-returns Inv-loop μ-loop
-returns c = seen-twice (c .before .before .before .before .before .before .before .before .loop .inv) (c .before .before .before .before .before .before .before .loop-test .taken) (c .before .before .before .before .before .u64-at .ensures) (c .before .before .before .before .u64-at2 .ensures) (c .before .before .before .slot .ensures .0) (c .before .before .before .slot .ensures .1) (c .before .again .ensures) (c .if1 .taken)
+returns c = marks-twice (c .before .before .before .before .before .before .before .before .loop .inv) (c .before .before .before .before .before .before .before .loop-test .taken) (c .before .before .before .before .before .u64-at .ensures) (c .before .before .before .before .u64-at2 .ensures) (c .before .before .before .slot .ensures .0) (c .before .before .before .slot .ensures .1) (c .before .again .ensures) (c .if1 .taken)
 
-array-write-seen : tie.Need-array-write-seen Inv-loop μ-loop
-array-write-seen c = search needs
+array-write-marks : tie.Need-array-write-marks Inv-loop μ-loop
+array-write-marks c = search needs
 
 loop-less : tie.Need-loop-less Inv-loop μ-loop
 loop-less c = search needs
 
 loop-again : tie.Need-loop-again Inv-loop μ-loop
-loop-again c = seen-more (c .before .before .before .before .before .before .before .before .loop .inv) (c .before .before .before .before .before .before .before .loop-test .taken) (c .before .before .before .before .before .u64-at .ensures) (c .before .before .before .before .u64-at2 .ensures) (c .before .before .before .slot .ensures .0) (c .before .before .before .slot .ensures .1) (c .before .again .ensures) (c .if1 .left)
+loop-again c = marks-more (c .before .before .before .before .before .before .before .before .loop .inv) (c .before .before .before .before .before .before .before .loop-test .taken) (c .before .before .before .before .before .u64-at .ensures) (c .before .before .before .before .u64-at2 .ensures) (c .before .before .before .slot .ensures .0) (c .before .before .before .slot .ensures .1) (c .before .again .ensures) (c .if1 .left)
 
 returns-2 : tie.Need-returns-2 Inv-loop μ-loop
-returns-2 c = seen-all (c .before .loop .inv) (c .loop-test .left)
+returns-2 c = marks-all (c .before .loop .inv) (c .loop-test .left)
 
 pub doubled-spec : {M : Type 1} → statement M
 doubled-spec =
@@ -89,7 +90,7 @@ doubled-spec =
     part-again-end
     again-requires
     returns
-    array-write-seen
+    array-write-marks
     loop-less
     loop-again
     returns-2)

@@ -4,17 +4,23 @@ use Prim.Native.Nat.{ℕ, _+_, _≤_}
 use native.Mathlib.Nat.{add-sub-cancel-left}
 use native.Mathlib.Omega.{arith}
 use lib.ListN.{length, take, drop}
-use Rattle.library.specs.Answers.{given, toldAt, locating, handed, standing}
-use Rattle.library.proofs.Ways.{located-within}
+use Rattle.library.specs.Answers.{locating, handed, standing, verdictLocated}
+use Rattle.library.proofs.Outcomes.{located-within}
 use borrow.Author.Needs.{needs}
 use Rattle.library.proofs.find.Statement.{statement}
 use Rattle.library.proofs.find.Tie as tie
+use Rattle.refusal.specs.Order.{given, tells-one, yes}
 
-located : (c : tie.After-at) → let a = c .before .before .before .before .before .args in locating (a .library .now) (a .name .now) ≡ given (c .at .given .0 .0, c .at .given .0 .1 .0)
-located c = sym (c .before .before .locate .ensures) ∙ ap toldAt (c .at .given .1)
+answer : (c : tie.After-locate) → let a = c .before .before .before .args in locating (a .library .now) (a .name .now) ≡ verdictLocated (c .locate .result)
+answer c =
+    let a = c .before .before .before .args in
+    sym (tells-one (verdictLocated (c .locate .result)) (locating (a .library .now) (a .name .now)) (c .locate .ensures))
+
+located : (c : tie.After-at) → let a = c .before .before .before .before .before .args in locating (a .library .now) (a .name .now) ≡ yes (c .at .given .0 .0, c .at .given .0 .1 .0)
+located c = answer (c .before .before) ∙ ap verdictLocated (c .at .given .1)
 
 inside : (c : tie.After-at) → c .at .given .0 .0 + c .at .given .0 .1 .0 ≤ length (c .before .before .before .before .before .args .library .now)
-inside c = located-within (c .before .before .before .before .before .args .library .now) (c .before .before .before .before .before .args .name .now) (located c)
+inside c = located-within (c .before .before .before .before .before .args .library .now) (c .before .before .before .before .before .args .name .now) (located c) .inside
 
 locate-requires : tie.Need-locate-requires
 locate-requires c κs = search needs
@@ -53,7 +59,7 @@ returns c =
 returns-2 : tie.Need-returns-2
 returns-2 c =
     let l = c .before .before .before .before .before .before .args .library in
-    let e = sym (c .before .before .before .locate .ensures) ∙ ap toldAt (c .before .enum-told .given .1) in
+    let e = answer (c .before .before .before) ∙ ap verdictLocated (c .before .enum-told .given .1) in
     record { bytes = sym (ap (λ t. handed t (l .now)) e); place = sym (ap (λ t. standing t l) e) }
 
 pub find-spec : {M : Type 1} → statement M

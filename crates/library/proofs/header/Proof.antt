@@ -1,13 +1,14 @@
 -- `library::header` meets its contract: five numbers, one after the other.
 use Prim.Native.Nat.{_≤_, _*_}
 use native.Mathlib.Omega.{arith}
-use Rattle.library.proofs.Shape.{few}
-use Rattle.library.proofs.Stores.{header-put}
+use Rattle.library.proofs.Headers.{few}
+use Rattle.library.proofs.BytesWritten.{header-put}
 use borrow.Author.Needs.{needs}
 use Rattle.library.proofs.header.Statement.{statement}
 use Rattle.library.proofs.header.Tie as tie
+use Rattle.library.specs.Format.{count, mostCards, mostWords}
 
-fits : (c : tie.After-width) → c .width .result * c .before .args .count ≤ 24 * 256
+fits : (c : tie.After-width) → c .width .result * c .before .args .count ≤ mostWords * mostCards
 fits c = few (c .width .ensures .1) (c .before .pre)
 
 mul-records : tie.Need-mul-records

@@ -2,15 +2,16 @@
 use mathlib.Core.Path.{refl, sym, _∙_}
 use mathlib.Core.List.{_++_}
 use lib.ListN.{length}
-use Rattle.bytes_le.specs.Le.{bytesOf}
+use Rattle.bytes_le.specs.Le.{bytesOf, wordBytes}
 use Rattle.library.specs.Directory.{among}
 use Rattle.library.proofs.Names.{or-true, or-false, shorter, Walk, walk-end, walk-here, walk-on}
 use borrow.Author.Needs.{needs}
 use Rattle.library.proofs.holds.Statement.{statement}
 use Rattle.library.proofs.holds.Tie as tie
+use Rattle.library.specs.Answers.{left}
 
 abbrev Inv-loop : tie.InvT-loop
-Inv-loop d low high t₀ t = Walk (among (bytesOf 8 low ++ bytesOf 8 high)) d t
+Inv-loop d low high t₀ t = Walk (among (bytesOf wordBytes low ++ bytesOf wordBytes high)) d t
 
 abbrev μ-loop : tie.MeasureT-loop
 μ-loop d low high t₀ t = length t

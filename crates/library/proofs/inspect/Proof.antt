@@ -1,15 +1,16 @@
 -- `library::inspect` meets its contract: 1 by the header, then 2 and 3 by the directory.
 use mathlib.Core.Path.{_≡_, sym, ap, _∙_}
-use mathlib.Core.Bool.{true}
+use mathlib.Core.Bool.{true, not}
 use native.Mathlib.Omega.{arith}
 use Rattle.library.specs.Format.{wordsOf, headed}
-use Rattle.library.specs.Answers.{sound}
-use Rattle.library.proofs.Demands.{unmet}
-use Rattle.library.proofs.Shape.{sized}
-use Rattle.library.proofs.Ways.{judged}
+use Rattle.library.specs.Answers.{left, libraryJudged}
+use Rattle.library.proofs.Headers.{sized}
 use borrow.Author.Needs.{needs}
 use Rattle.library.proofs.inspect.Statement.{statement}
 use Rattle.library.proofs.inspect.Tie as tie
+use Rattle.refusal.specs.declared.Refusal.the-variants.{Malformed}
+use Rattle.library.proofs.Outcomes.{by-header}
+use Rattle.library.proofs.Verdicts.{drawn}
 
 said : (c : tie.After-agrees) → c .agrees .result ≡ headed (c .before .before .before .before .before .before .before .args .s .now)
 said c =
@@ -62,11 +63,11 @@ judge-requires : tie.Need-judge-requires
 judge-requires c κs = search needs
 
 returns : tie.Need-returns
-returns c = judged (c .before .before .before .before .before .before .before .before .before .before .before .args .s .now) (right (c .before .before .before)) (c .before .before .before .before .before .before .before .before .u16-at2 .ensures) (c .before .width .ensures .0 ∙ ap wordsOf (c .before .before .before .before .before .before .before .before .before .u16-at .ensures)) (c .judge .ensures)
+returns c = by-header (c .before .before .before .before .before .before .before .before .before .before .before .args .s .now) (right (c .before .before .before)) (c .before .before .before .before .before .before .before .before .u16-at2 .ensures) (c .before .width .ensures .0 ∙ ap wordsOf (c .before .before .before .before .before .before .before .before .before .u16-at .ensures)) (c .judge .ensures)
 
 returns-2 : tie.Need-returns-2
-unfolding sound
-returns-2 c = sym (unmet (sym (said (c .before)) ∙ c .if1 .left) 1 _)
+unfolding libraryJudged
+returns-2 c = sym (drawn (ap not (sym (said (c .before)) ∙ c .if1 .left)) Malformed _)
 
 pub inspect-spec : {M : Type 1} → statement M
 inspect-spec =

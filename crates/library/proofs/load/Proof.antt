@@ -1,10 +1,11 @@
 -- `library::load` meets its contract: the buffer holds the words of the bytes passed, and its own after them.
 use native.Mathlib.Omega.{arith}
 use lib.ListN.{length}
-use Rattle.library.proofs.Buffers.{Loading, load-first, load-room, load-more, load-less, load-all}
+use Rattle.library.proofs.WordsRead.{Loading, load-first, load-room, load-more, load-less, load-all}
 use borrow.Author.Needs.{needs}
 use Rattle.library.proofs.load.Statement.{statement}
 use Rattle.library.proofs.load.Tie as tie
+use Rattle.library.specs.Answers.{left}
 
 abbrev Inv-loop : tie.InvT-loop
 Inv-loop src dst₀ t₀ i₀ dst t i = Loading src dst₀ dst t i

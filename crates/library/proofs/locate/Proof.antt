@@ -3,16 +3,17 @@ use mathlib.Core.Path.{_≡_, sym, ap, _∙_}
 use mathlib.Core.Bool.{true}
 use native.Mathlib.Omega.{arith}
 use Rattle.name.specs.Name.{asked}
-use Rattle.library.specs.Answers.{toldLook}
-use Rattle.library.proofs.Ways.{Looked, looked, record-within, locate-bad, locate-name, locate-none, locate-at}
+use Rattle.library.specs.Answers.{left, found}
+use Rattle.library.proofs.Outcomes.{record-within, locate-name, locate-none, locate-at, Inspected, inspected, locate-refused}
 use borrow.Author.Needs.{needs}
 use borrow.Author.Tests.{not-true, not-false}
 use Rattle.library.proofs.locate.Statement.{statement}
 use Rattle.library.proofs.locate.Tie as tie
+use Rattle.refusal.specs.Order.{given, tells}
 
--- in this arm the library is good
-seen : (c : tie.After-cards) → Looked (c .before .before .before .before .before .args .library .now) (c .cards .given .0 .0) (c .cards .given .0 .1 .0)
-seen c = looked _ (sym (c .before .before .inspect .ensures) ∙ ap toldLook (c .cards .given .1))
+-- in this arm the library is sound
+seen : (c : tie.After-cards) → Inspected (c .before .before .before .before .before .args .library .now) (c .cards .given .0 .0) (c .cards .given .0 .1 .0)
+seen c = inspected _ (sym (c .before .before .inspect .ensures) ∙ ap found (c .cards .given .1))
 
 is-asked : (c : tie.Else1) → asked (c .before .before .before .before .before .before .before .before .args .name .now) ≡ true
 is-asked c = sym (c .before .is-asked .ensures) ∙ not-false _ (c .if1 .left)
@@ -63,16 +64,16 @@ mul-size : tie.Need-mul-size
 mul-size c = omega (arith, seen (c .before .before .before .before .before .before .before .before))
 
 returns : tie.Need-returns
-returns c = locate-name _ _ (seen (c .before .before .before)) (sym (c .before .is-asked .ensures) ∙ not-true _ (c .if1 .taken))
+returns c = ap tells (locate-name _ _ (seen (c .before .before .before)) (sym (c .before .is-asked .ensures) ∙ not-true _ (c .if1 .taken)))
 
 returns-2 : tie.Need-returns-2
-returns-2 c = locate-none _ _ (seen (c .before .before .before .before .before .before .before .before)) (is-asked (c .before .before .before .before .before)) (c .before .before .before .before .pad .ensures) (c .before .search .ensures) (c .if2 .taken)
+returns-2 c = ap tells (locate-none _ _ (seen (c .before .before .before .before .before .before .before .before)) (is-asked (c .before .before .before .before .before)) (c .before .before .before .before .pad .ensures) (c .before .search .ensures) (c .if2 .taken))
 
 returns-3 : tie.Need-returns-3
-returns-3 c = locate-bad _ _ (sym (c .before .before .before .inspect .ensures) ∙ ap toldLook (c .before .f .given .1))
+returns-3 c = ap tells (locate-refused _ _ (sym (c .before .before .before .inspect .ensures) ∙ ap found (c .before .f .given .1)))
 
 returns-4 : tie.Need-returns-4
-returns-4 c = locate-at _ _ (seen (c .before .before .before .before .before .before .before .before)) (is-asked (c .before .before .before .before .before)) (c .before .before .before .before .pad .ensures) (c .before .search .ensures) (c .if2 .left)
+returns-4 c = ap tells (locate-at _ _ (seen (c .before .before .before .before .before .before .before .before)) (is-asked (c .before .before .before .before .before)) (c .before .before .before .before .pad .ensures) (c .before .search .ensures) (c .if2 .left))
 
 pub locate-spec : {M : Type 1} → statement M
 locate-spec =

@@ -1,10 +1,11 @@
 -- `library::offer` meets its contract: the tests of 1 in their order, then the names.
 use native.Mathlib.Omega.{arith}
-use Rattle.library.proofs.Shape.{few}
+use Rattle.library.proofs.Headers.{few}
 use Rattle.library.proofs.Offers.{offer-version, offer-names, offer-count, offer-words, offer-judged}
 use borrow.Author.Needs.{needs}
 use Rattle.library.proofs.offer.Statement.{statement}
 use Rattle.library.proofs.offer.Tie as tie
+use Rattle.library.specs.Answers.{left}
 
 width-requires : tie.Need-width-requires
 width-requires c κs = search needs

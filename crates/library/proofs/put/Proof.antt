@@ -1,9 +1,11 @@
 -- `library::put` meets its contract: the bytes passed stand at the place, and what is left of the number has the others.
 use Prim.Native.Nat.{_-_}
-use Rattle.library.proofs.Stores.{Putting, put-first, put-more, put-all}
+use Rattle.library.proofs.BytesWritten.{Putting, put-first, put-more, put-all}
 use borrow.Author.Needs.{needs}
 use Rattle.library.proofs.put.Statement.{statement}
 use Rattle.library.proofs.put.Tie as tie
+use Rattle.library.specs.Answers.{left}
+use Rattle.bytes_le.proofs.Laws.{rest}
 
 abbrev Inv-loop : tie.InvT-loop
 Inv-loop dst₀ at w x rest₀ i₀ dst rest i = Putting dst₀ at w x dst rest i

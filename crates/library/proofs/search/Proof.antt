@@ -6,6 +6,7 @@ use Rattle.library.proofs.Names.{shorter, Placed, place-end, place-here
 use borrow.Author.Needs.{needs}
 use Rattle.library.proofs.search.Statement.{statement}
 use Rattle.library.proofs.search.Tie as tie
+use Rattle.library.specs.Answers.{left}
 
 abbrev Inv-loop : tie.InvT-loop
 Inv-loop d x t₀ i₀ t i = Placed x d t i

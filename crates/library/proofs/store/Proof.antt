@@ -3,10 +3,11 @@ use mathlib.Core.Path.{sym, ap}
 use Prim.Native.Nat.{_-_}
 use native.Mathlib.Omega.{arith}
 use lib.ListN.{length}
-use Rattle.library.proofs.Stores.{Storing, store-first, store-kept, store-room, store-more, store-all}
+use Rattle.library.proofs.BytesWritten.{Storing, store-first, store-kept, store-room, store-more, store-all}
 use borrow.Author.Needs.{needs}
 use Rattle.library.proofs.store.Statement.{statement}
 use Rattle.library.proofs.store.Tie as tie
+use Rattle.library.specs.Answers.{left}
 
 abbrev Inv-loop : tie.InvT-loop
 Inv-loop words dst₀ i₀ dst i = Storing words dst₀ dst i

@@ -5,15 +5,17 @@ use Prim.Native.Nat.{ℕ}
 use native.Mathlib.Omega.{arith}
 use lib.ListN.{length-drop}
 use Rattle.bytes_le.proofs.Laws.{rest}
-use Rattle.library.specs.Answers.{over, toldLook}
-use Rattle.library.proofs.Offers.{Offered, offers, write-bad, write-short, write-good}
+use Rattle.library.specs.Answers.{over, left, found}
+use Rattle.library.proofs.Offers.{Offered, offers, write-short, write-bytes, write-refused}
 use borrow.Author.Needs.{needs}
 use Rattle.library.proofs.write_as.Statement.{statement}
 use Rattle.library.proofs.write_as.Tie as tie
+use Rattle.refusal.specs.Order.{given}
+use Rattle.library.specs.Format.{version}
 
 -- what the arm of good names and words knows
 seen : (c : tie.After-cards) → let a = c .before .before .before .before .before .before .args in Offered (a .version) (a .names .now) (a .words .now) (c .cards .given .0 .0) (c .cards .given .0 .1 .0)
-seen c = offers _ _ _ (sym (c .before .before .offer .ensures) ∙ ap toldLook (c .cards .given .1))
+seen c = offers _ _ _ (sym (c .before .before .offer .ensures) ∙ ap found (c .cards .given .1))
 
 offer-requires : tie.Need-offer-requires
 offer-requires c κs = search needs
@@ -79,14 +81,14 @@ store-requires : tie.Need-store-requires
 store-requires c κs = rw (rest, length-drop) (omega (arith, seen (c .before .before .before .before .before .before .before .before .before .before .before .before .before), c .before .before .before .before .before .before .before .copy .kept .1 .0, c .before .before .before .before .before .before .before .before .before .before .before .if1 .left))
 
 returns-2 : tie.Need-returns-2
-returns-2 c = write-bad _ _ _ _ (sym (c .before .before .before .offer .ensures) ∙ ap toldLook (c .before .f .given .1))
+returns-2 c = write-refused _ _ _ _ (sym (c .before .before .before .offer .ensures) ∙ ap found (c .before .f .given .1))
 
 same-length : tie.Need-same-length
 same-length c = search needs
 
 returns-3 : tie.Need-returns-3
 returns-3 c =
-    write-good _ _ _ _ (seen (c .before .before .before .before .before .before .before .before .before .before .before .before .before .before .before .before)) (c .before .before .before .before .before .before .before .before .before .before .before .before .before .before .if1 .left) _
+    write-bytes _ _ _ _ (seen (c .before .before .before .before .before .before .before .before .before .before .before .before .before .before .before .before)) (c .before .before .before .before .before .before .before .before .before .before .before .before .before .before .if1 .left) _
     (c .before .before .before .before .before .before .before .before .before .before .copy .ensures ∙ ap (λ (h : List ℕ). over h (c .before .before .before .before .before .before .before .before .before .before .before .before .before .before .before .before .before .before .before .before .before .before .args .library .now)) (c .before .before .before .before .before .before .before .before .before .before .before .before .before .header .ensures)) _ (c .before .before .before .before .before .before .copy2 .ensures) _ (c .before .before .store .ensures)
 
 pub write-as-spec : {M : Type 1} → statement M
