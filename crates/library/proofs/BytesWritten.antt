@@ -44,7 +44,9 @@ module _ {d : List ℕ} {at w x : ℕ} {cur : List ℕ} {y i : ℕ} (v : Putting
         room = v .room;
         kept = length-set cur (at + i) (y % byteValues) ∙ v .kept;
         ahead = ap (λ (n : ℕ). drop n (bytesOf w x)) (add-one i) ∙ p .after;
-        so-far = ap₂ (λ (l : List ℕ) (b : ℕ). set l (at + i) b) (v .so-far) (sym (p .here)) ∙ paste-suc d at (bytesOf w x) i 0 hd (p .below)
+        so-far =
+            ap₂ (λ (l : List ℕ) (b : ℕ). set l (at + i) b) (v .so-far) (sym (p .here)) ∙ paste-suc d at (bytesOf w x)
+            i 0 hd (p .below)
             ∙ ap (paste d at (bytesOf w x)) (sym (add-one i));
       }
 
@@ -90,7 +92,9 @@ module _ (p q d cur : List ℕ) (at : ℕ) (e : cur ≡ over p d) (l : length p 
 
 bytes-append : (a b : List ℕ) → bytesOfAll (a ++ b) ≡ bytesOfAll a ++ bytesOfAll b
 bytes-append [] b = refl
-bytes-append (x ∷ a) b = ap (λ (l : List ℕ). bytesOf wordBytes x ++ l) (bytes-append a b) ∙ sym (append-assoc (bytesOf wordBytes x) (bytesOfAll a) (bytesOfAll b))
+bytes-append (x ∷ a) b =
+    ap (λ (l : List ℕ). bytesOf wordBytes x ++ l) (bytes-append a b) ∙ sym
+    (append-assoc (bytesOf wordBytes x) (bytesOfAll a) (bytesOfAll b))
 
 pub length-all : (l : List ℕ) → length (bytesOfAll l) ≡ wordBytes * length l
 length-all [] = refl
@@ -117,7 +121,8 @@ module _ {ws d cur : List ℕ} {i : ℕ} (v : Storing ws d cur i) where
       ap length (v .so-far) ∙ length-append (bytesOfAll (take i ws)) (drop (length (bytesOfAll (take i ws))) d) ∙ omega (arith, length-drop (length (bytesOfAll (take i ws))) d)
 
   -- b is the next word's bytes, and the part from their place on comes back as y
-  pub store-more : i < length ws → {b y : List ℕ} → b ≡ bytesOf wordBytes (getD ws i 0) → y ≡ over b (partFrom (wordBytes * i) cur)
+  pub store-more : i < length ws → {b y : List ℕ} → b ≡ bytesOf wordBytes (getD ws i 0)
+      → y ≡ over b (partFrom (wordBytes * i) cur)
       → Storing ws d (partPut (wordBytes * i) cur y) (i + 1)
   store-more h {b} {y} eb ey =
       let p : List ℕ = bytesOfAll (take i ws) in
@@ -127,7 +132,8 @@ module _ {ws d cur : List ℕ} {i : ℕ} (v : Storing ws d cur i) where
       record { within = omega arith; room = v .room; so-far = then-part p b d cur (wordBytes * i) (v .so-far) long y ey ∙ ap (λ (l : List ℕ). over l d) longer }
 
   -- the part has room for the word's bytes
-  pub store-room : i < length ws → {b : List ℕ} → b ≡ bytesOf wordBytes (getD ws i 0) → length b ≤ length (partFrom (wordBytes * i) cur)
+  pub store-room : i < length ws → {b : List ℕ} → b ≡ bytesOf wordBytes (getD ws i 0)
+      → length b ≤ length (partFrom (wordBytes * i) cur)
   store-room h e = let k = store-kept in let r = v .room in rw (e, rest, length-drop) (omega arith)
 
   pub store-all : length ws ≤ i → cur ≡ over (bytesOfAll ws) d

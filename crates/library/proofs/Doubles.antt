@@ -58,7 +58,8 @@ stays (x ∷ l) (suc i) zero e = e
 stays (x ∷ l) (suc i) (suc k) e = stays l i k e
 
 -- one that stands twice further on stands twice
-later : (d : List ℕ) (i : ℕ) → nameBytes * i ≤ length d → twice (namesIn (drop (nameBytes * i) d)) ≡ true → twice (namesIn d) ≡ true
+later : (d : List ℕ) (i : ℕ) → nameBytes * i ≤ length d → twice (namesIn (drop (nameBytes * i) d)) ≡ true
+    → twice (namesIn d) ≡ true
 later d zero h e = e
 later d (suc i) h e =
     let t : List ℕ = drop (nameBytes * i) d in
@@ -130,7 +131,9 @@ module _ {d marks : List ℕ} {i : ℕ} (v : Marked d marks i) (pos : 0 < i) {lo
 
   looked : found ≡ (ltb 0 (getD marks k 0) && among x (namesIn (drop (nameBytes * i) d)))
   unfolding t
-  looked = ef ∙ ap₂ (λ (n l : List ℕ). ltb 0 (getD marks k 0) && among n (namesIn l)) (sym (words .bytes)) (ap afterName part ∙ rest t nameBytes ∙ next)
+  looked =
+      ef ∙ ap₂ (λ (n l : List ℕ). ltb 0 (getD marks k 0) && among n (namesIn l)) (sym (words .bytes))
+      (ap afterName part ∙ rest t nameBytes ∙ next)
 
   from-here : namesIn t ≡ x ∷ namesIn (drop (nameBytes * i) d)
   unfolding x

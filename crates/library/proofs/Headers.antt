@@ -57,7 +57,9 @@ module _ (v n d r w l : ℕ) {k : ℕ} (e : k ≡ wordsOf v) where
       module _ (hd : d ≡ headerBytes) where
         pub agree-records : (r ≡ recordsAt n → ⊥) → false ≡ agree v n d r w l
         unfolding agree
-        agree-records h = sym (and-true known ∙ and-true (le-leb n mostCards hn) ∙ and-true (eq-eqb d headerBytes hd) ∙ and-false (ne-eqb r (recordsAt n) h) _)
+        agree-records h =
+            sym
+            (and-true known ∙ and-true (le-leb n mostCards hn) ∙ and-true (eq-eqb d headerBytes hd) ∙ and-false (ne-eqb r (recordsAt n) h) _)
 
         module _ (hr : r ≡ recordsAt n) where
           so-far : agree v n d r w l ≡ (eqb w (wholeOf k n) && eqb l (wholeOf k n))
@@ -71,6 +73,12 @@ module _ (v n d r w l : ℕ) {k : ℕ} (e : k ≡ wordsOf v) where
 
           pub agree-length : w ≡ wholeOf k n → eqb l (wholeOf k n) ≡ agree v n d r w l
           agree-length h = sym (so-far ∙ and-true (eq-eqb w (wholeOf k n) h))
+
+-- the header's numbers as they are read
+pub headed-by : (s : List ℕ) {v n d r w : ℕ} {b : Bool}
+    → v ≡ version s → n ≡ count s → d ≡ directoryOffset s → r ≡ recordsOffset s → w ≡ wholeLength s
+    → b ≡ agree v n d r w (length s) → b ≡ headed s
+headed-by s ev en ed er ew e = e ∙ rw (ev, en, ed, er, ew)
 
 -- ---- what they say
 

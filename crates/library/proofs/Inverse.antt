@@ -80,7 +80,9 @@ module _ {v : ℕ} {ns ws : List ℕ} {n k : ℕ} (o : Offered v ns ws n k) wher
 
   pub names-back : directory (libraryOf v ns ws) ≡ ns
   unfolding s
-  names-back = ap₂ (λ (m : ℕ) (l : List ℕ). take (nameBytes * m) l) is-count body ∙ take-at ns (bytesOfAll ws) (nameBytes * n) (o .names-long)
+  names-back =
+      ap₂ (λ (m : ℕ) (l : List ℕ). take (nameBytes * m) l) is-count body ∙ take-at ns (bytesOfAll ws) (nameBytes * n)
+      (o .names-long)
 
   pub words-back : Below (2 ^ 64) ws → wordsIn (records (libraryOf v ns ws)) ≡ ws
   unfolding s

@@ -42,7 +42,9 @@ module _ {f : List (List ℕ) → Bool} {d t : List ℕ} (v : Walk f d t) where
   walk-here h = v .so-far ∙ ap f (cut-more nameBytes t (lit< tt) h)
 
   -- the first name left does not decide
-  pub walk-on : nameBytes ≤ length t → f (take nameBytes t ∷ namesIn (drop nameBytes t)) ≡ f (namesIn (drop nameBytes t)) → Walk f d (take (length t - nameBytes) (drop nameBytes t))
+  pub walk-on : nameBytes ≤ length t
+      → f (take nameBytes t ∷ namesIn (drop nameBytes t)) ≡ f (namesIn (drop nameBytes t))
+      → Walk f d (take (length t - nameBytes) (drop nameBytes t))
   walk-on h e = rw rest (record { so-far = walk-here h ∙ e })
 
 -- ---- how far before a name
@@ -56,8 +58,11 @@ pub place-end : {x d t : List ℕ} {i : ℕ} → Placed x d t i → length t < n
 place-end {x} {d} {t} v h = let e : placeOf x (namesIn t) ≡ 0 = ap (placeOf x) (cut-none nameBytes t h) in omega arith
 
 module _ {x d t : List ℕ} {i : ℕ} (v : Placed x d t i) (h : nameBytes ≤ length t) where
-  place-step : {b : Bool} → same x (take nameBytes t) ≡ b → placeOf x (namesIn t) ≡ cond b 0 (suc (placeOf x (namesIn (drop nameBytes t))))
-  place-step e = ap (placeOf x) (cut-more nameBytes t (lit< tt) h) ∙ ap (λ (b : Bool). cond b 0 (suc (placeOf x (namesIn (drop nameBytes t))))) e
+  place-step : {b : Bool} → same x (take nameBytes t) ≡ b
+      → placeOf x (namesIn t) ≡ cond b 0 (suc (placeOf x (namesIn (drop nameBytes t))))
+  place-step e =
+      ap (placeOf x) (cut-more nameBytes t (lit< tt) h) ∙ ap
+      (λ (b : Bool). cond b 0 (suc (placeOf x (namesIn (drop nameBytes t))))) e
 
   pub place-here : same x (take nameBytes t) ≡ true → i ≡ placeOf x (namesIn d)
   place-here e = let f = place-step e in omega arith

@@ -52,9 +52,12 @@ module _ (v : ℕ) (ns ws : List ℕ) {k : ℕ} (e : k ≡ wordsOf v) where
         pub offer-words : (length ws ≡ k * (namesHeld ns) → ⊥) → no Malformed ≡ offerJudged v ns ws
         offer-words h = refuse (so-far ∙ ne-eqb _ _ h)
 
-        pub offer-judged : length ws ≡ k * (namesHeld ns) → {w : Verdict (ℕ × ℕ)} → w ≡ namesJudged ns (namesHeld ns, k) → w ≡ offerJudged v ns ws
+        pub offer-judged : length ws ≡ k * (namesHeld ns) → {w : Verdict (ℕ × ℕ)}
+            → w ≡ namesJudged ns (namesHeld ns, k) → w ≡ offerJudged v ns ws
         unfolding offerJudged
-        offer-judged h f = f ∙ ap (λ (m : ℕ). namesJudged ns (namesHeld ns, m)) e ∙ sym (passed (ap not (so-far ∙ eq-eqb _ _ h)) Malformed _)
+        offer-judged h f =
+            f ∙ ap (λ (m : ℕ). namesJudged ns (namesHeld ns, m)) e ∙ sym
+            (passed (ap not (so-far ∙ eq-eqb _ _ h)) Malformed _)
 
 -- ---- what is known where nothing is refused
 
@@ -114,7 +117,8 @@ module _ (v : ℕ) (ns ws l : List ℕ) where
   write-refused {f} e = writes-by (no f) (rw e) (Refused f) refl
 
   module _ {n k : ℕ} (o : Offered v ns ws n k) where
-    to-five : {t : Bool} → ltb (length l) (wholeOf k n) ≡ t → written v ns ws (length l) ≡ refuseIf t ShortOutput (yes (wholeOf k n))
+    to-five : {t : Bool} → ltb (length l) (wholeOf k n) ≡ t
+        → written v ns ws (length l) ≡ refuseIf t ShortOutput (yes (wholeOf k n))
     unfolding written
     to-five e = rw (o .judged) (ap (λ (b : Bool). refuseIf b ShortOutput (yes (wholeOf k n))) e)
 

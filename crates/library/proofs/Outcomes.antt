@@ -91,7 +91,8 @@ module _ (s ns ws : List ℕ) where
     unfolding read
     to-five e = rw (v .judged) (ap (λ (b : Bool). refuseIf b ShortOutput (yes n)) e)
 
-    pub read-short : (ltb (length ns) (nameBytes * n) || ltb (length ws) (k * n)) ≡ true → Reads s ns ws (Refused ShortOutput) ns ws
+    pub read-short : (ltb (length ns) (nameBytes * n) || ltb (length ws) (k * n)) ≡ true
+        → Reads s ns ws (Refused ShortOutput) ns ws
     read-short e = reads-by (no ShortOutput) (to-five e) (Refused ShortOutput) refl
 
     pub read-yes : nameBytes * n ≤ length ns → k * n ≤ length ws → read s (length ns) (length ws) ≡ yes n

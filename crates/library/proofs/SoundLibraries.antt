@@ -96,13 +96,16 @@ differ i j h e =
 
 new : (i n : ℕ) → n ≤ i → among (nameOf i) (namesIn (namesOf n)) ≡ false
 new i zero h = ap (among (nameOf i)) (cut-none nameBytes [] (lit< tt))
-new i (suc n) h = ap (among (nameOf i)) (names-more n) ∙ or-false (same-not (nameOf i) (nameOf n) (differ i n h)) ∙ new i n (omega arith)
+new i (suc n) h =
+    ap (among (nameOf i)) (names-more n) ∙ or-false (same-not (nameOf i) (nameOf n) (differ i n h)) ∙ new i n
+    (omega arith)
 
 single : (n : ℕ) → twice (namesIn (namesOf n)) ≡ false
 single zero = ap twice (cut-none nameBytes [] (lit< tt))
 single (suc n) = ap twice (names-more n) ∙ or-false (new n n (omega arith)) ∙ single n
 
-meets-one : (n : ℕ) → n ≤ mostCards → offered writtenVersion (namesOf n) (replicate (wordsOf writtenVersion * n) 0) ≡ true
+meets-one : (n : ℕ) → n ≤ mostCards
+    → offered writtenVersion (namesOf n) (replicate (wordsOf writtenVersion * n) 0) ≡ true
 unfolding offered wordsOf
 meets-one n h =
     let l = names-long n in

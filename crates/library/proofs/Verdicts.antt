@@ -24,7 +24,8 @@ pub passed : {A : Type 0} {t : Bool} → t ≡ false → (f : Refusal) (v : Verd
 passed e f v = ap (λ (t : Bool). refuseIf t f v) e
 
 -- where nothing is refused, no test is true
-pub refuse-yes : {A : Type 0} (t : Bool) (f : Refusal) {v : Verdict A} {a : A} → refuseIf t f v ≡ yes a → (t ≡ false) × (v ≡ yes a)
+pub refuse-yes : {A : Type 0} (t : Bool) (f : Refusal) {v : Verdict A} {a : A} → refuseIf t f v ≡ yes a
+    → (t ≡ false) × (v ≡ yes a)
 refuse-yes true f e = never (cc)
 refuse-yes false f e = (refl, e)
 

@@ -55,7 +55,8 @@ module _ {src old cur t : List ℕ} {i : ℕ} (v : Loading src old cur t i) wher
     pub load-room : i < length cur
     load-room = let a = at .below in let f = v .filled .fits in let k = v .filled .kept in omega arith
 
-    pub load-more : {x : ℕ} → Word t x → Loading src old (set cur i x) (take (length t - wordBytes) (drop wordBytes t)) (i + 1)
+    pub load-more : {x : ℕ} → Word t x
+        → Loading src old (set cur i x) (take (length t - wordBytes) (drop wordBytes t)) (i + 1)
     load-more {x} w =
         rw (rest t wordBytes)
         (record {

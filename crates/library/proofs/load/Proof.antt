@@ -5,7 +5,6 @@ use Rattle.library.proofs.WordsRead.{Loading, load-first, load-room, lo
 use borrow.Author.Needs.{needs}
 use Rattle.library.proofs.load.Statement.{statement}
 use Rattle.library.proofs.load.Tie as tie
-use Rattle.library.specs.Answers.{left}
 
 abbrev Inv-loop : tie.InvT-loop
 Inv-loop src dst₀ t₀ i₀ dst t i = Loading src dst₀ dst t i
@@ -16,23 +15,11 @@ abbrev μ-loop : tie.MeasureT-loop
 loop-holds : tie.Need-loop-holds Inv-loop μ-loop
 loop-holds c = load-first _ (c .before .before .pre)
 
-u64-at-requires : tie.Need-u64-at-requires Inv-loop μ-loop
-u64-at-requires c κs = search needs
-
 mul-dst : tie.Need-mul-dst Inv-loop μ-loop
 mul-dst c = omega (arith, load-room (c .before .before .loop .inv) (c .before .loop-test .taken))
 
 slice-write-dst : tie.Need-slice-write-dst Inv-loop μ-loop
 slice-write-dst c = omega (arith, load-room (c .before .before .loop .inv) (c .before .loop-test .taken))
-
-sub-t : tie.Need-sub-t Inv-loop μ-loop
-sub-t c = search needs
-
-part-t-start : tie.Need-part-t-start Inv-loop μ-loop
-part-t-start c = search needs
-
-part-t-end : tie.Need-part-t-end Inv-loop μ-loop
-part-t-end c = search needs
 
 add-i : tie.Need-add-i Inv-loop μ-loop
 add-i c = omega (arith, load-room (c .before .before .before .loop .inv) (c .before .before .loop-test .taken))
@@ -41,7 +28,8 @@ loop-less : tie.Need-loop-less Inv-loop μ-loop
 loop-less c = load-less (c .before .before .before .loop .inv) (c .before .before .loop-test .taken)
 
 loop-again : tie.Need-loop-again Inv-loop μ-loop
-loop-again c = load-more (c .before .before .before .loop .inv) (c .before .before .loop-test .taken) (c .before .u64-at .ensures)
+loop-again c =
+    load-more (c .before .before .before .loop .inv) (c .before .before .loop-test .taken) (c .before .u64-at .ensures)
 
 same-length : tie.Need-same-length Inv-loop μ-loop
 same-length c = c .before .loop .inv .filled .kept
@@ -56,12 +44,12 @@ load-spec =
     Inv-loop
     μ-loop
     loop-holds
-    u64-at-requires
+    (λ c κs. search needs)
     mul-dst
     slice-write-dst
-    sub-t
-    part-t-start
-    part-t-end
+    (λ c. search needs)
+    (λ c. search needs)
+    (λ c. search needs)
     add-i
     loop-less
     loop-again

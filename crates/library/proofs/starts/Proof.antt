@@ -6,11 +6,11 @@ use Rattle.library.proofs.starts.Statement.{statement}
 use Rattle.library.proofs.starts.Tie as tie
 use mathlib.Core.List.{_++_}
 use Rattle.bytes_le.specs.Le.{bytesOf, wordBytes}
-use Rattle.library.specs.Answers.{left}
 use Rattle.library.specs.Directory.{nameBytes}
 use lib.ListN.{take}
 
-here : (c : tie.After-u64-at2) → Words (take nameBytes (c .before .before .before .args .d .now)) (c .before .u64-at .result) (c .u64-at2 .result)
+here : (c : tie.After-u64-at2)
+    → Words (take nameBytes (c .before .before .before .args .d .now)) (c .before .u64-at .result) (c .u64-at2 .result)
 here c = words-of _ (c .before .before .before .pre) (c .before .u64-at .ensures) (c .u64-at2 .ensures)
 
 there : (c : tie.After-u64-at2) → let a = c .before .before .before .args in Words (bytesOf wordBytes (a .low) ++ bytesOf wordBytes (a .high)) (a .low) (a .high)
