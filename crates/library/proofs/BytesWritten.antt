@@ -10,8 +10,8 @@ use lib.Seq.{length-take-le, paste, paste-zero, paste-suc, take-all, take-at, dr
 use Rattle.bytes_le.specs.Le.{bytesOf, length-bytes, byteValues, wordBytes}
 use Rattle.bytes_le.proofs.Laws.{rest}
 use Rattle.library.specs.Format.{wordsOf, wholeOf, bytesOfAll, headerOf, headerBytes, recordsAt}
-use Rattle.library.specs.Answers.{over}
 use Rattle.library.proofs.WordsRead.{at-place}
+use Rattle.bytes_le.specs.Buffer.{over}
 
 -- ---- a number, one byte after the other
 

@@ -11,10 +11,10 @@ use Rattle.bytes_le.specs.Le.{le, bytesOf, Word, wordBytes}
 use Rattle.bytes_le.proofs.Laws.{rest}
 use Rattle.name.specs.Name.{same, same-equal}
 use Rattle.name.proofs.Laws.{Words, words-of}
-use Rattle.library.specs.Directory.{among, twice, nameBytes, namesHeld, namesIn, slotOf, slots}
+use Rattle.library.specs.Directory.{among, twice, nameBytes, namesHeld, namesIn}
 use Rattle.library.proofs.Names.{or-true, or-false, cut-none, cut-more}
-use Rattle.library.specs.Answers.{found}
 use Rattle.library.proofs.Verdicts.{never}
+use Rattle.library.specs.inner.Inspecting.{found, slotOf, slots}
 
 -- the number of a name's mark
 abbrev markOf : List ℕ → ℕ

@@ -10,8 +10,9 @@ use lib.Dec.{eqb, leb, ltb}
 use lib.ListN.{length, take, drop}
 use Rattle.library.specs.Directory.{nameBytes}
 use Rattle.name.proofs.Laws.{and-true, and-false}
-use Rattle.library.specs.Format.{headerBytes, mostCards, wordsOf, writtenVersion, mostWords, recordsAt, wholeOf, version, count, directoryOffset, recordsOffset, wholeLength, agree, headed, directory}
+use Rattle.library.specs.Format.{headerBytes, mostCards, wordsOf, writtenVersion, recordsAt, wholeOf, version, count, directoryOffset, recordsOffset, wholeLength, agree, headed, directory}
 use Rattle.library.proofs.Verdicts.{never}
+use Rattle.library.specs.inner.Inspecting.{mostWords}
 
 -- no record is wider than that, so the words of all cards are few
 pub narrow : (v : ℕ) → wordsOf v ≤ mostWords

@@ -16,8 +16,8 @@ use Rattle.library.specs.declared.Writing.{Writing}
 use Rattle.library.specs.declared.Writing.the-variants.{Bytes}
 use Rattle.library.specs.Directory.{allNamed, twice, nameBytes, namesHeld, namesIn}
 use Rattle.library.specs.Format.{wordsOf, recordsAt, wholeOf, version, count, agree, headed, directory, records, wordsIn, bytesOfAll, headerOf, libraryOf, offered, directoryOffset, headerBytes, mostCards, recordsOffset, wholeLength}
-use Rattle.library.specs.Answers.{over, left, read, Reads, written, Writes, libraryJudged, numbersOf, offerJudged}
-use Rattle.library.specs.Unique.{reading-told, readingOf, writing-told, writingOf}
+use Rattle.library.specs.Answers.{left, read, Reads, written, Writes, libraryJudged, numbersOf, offerJudged}
+use Rattle.library.specs.Unique.{reading-told, asReading, writing-told, asWriting}
 use Rattle.library.proofs.Verdicts.{SoundLibrary, library-pass, library-yes, names-pass, names-yes, passed, refuse-yes, then-yes}
 use Rattle.library.proofs.Headers.{Agreed, agreed, only-version}
 use Rattle.library.proofs.WordsRead.{words-none, words-more, words-length}
@@ -27,6 +27,7 @@ use Rattle.library.proofs.Offers.{Offered, offers, write-yes}
 use Rattle.refusal.specs.Order.{Verdict, tells-one, yes}
 use Rattle.library.proofs.Names.{shorter}
 use Rattle.refusal.specs.declared.Refusal.the-variants.{Malformed, ShortOutput}
+use Rattle.bytes_le.specs.Buffer.{over}
 
 -- ---- bytes and words
 
@@ -155,7 +156,7 @@ read-after-write {v} {ns} {ws} {l} {l′} {m} {n₀} {w₀} {r = r} w b d hn hw 
     let back : take m l′ ≡ s = ap (take m) (w .library ∙ ap (λ (a : Verdict ℕ). left a s l) (sym answer)) ∙ take-at s (drop (length s) l) m long in
     let e : read (take m l′) (length n₀) (length w₀) ≡ yes (namesHeld ns) =
     rw back (read-yes s n₀ w₀ (made o) (rw (o .names-long) at hn) (rw (o .words-long) at hw)) in (
-      reading-told r (read (take m l′) (length n₀) (length w₀)) (d .answer) ∙ ap readingOf e,
+      reading-told r (read (take m l′) (length n₀) (length w₀)) (d .answer) ∙ ap asReading e,
       d .names ∙ ap (λ (a : Verdict ℕ). left a (directory (take m l′)) n₀) e ∙ ap (λ (x : List ℕ). over x n₀) (ap directory back ∙ names-back o),
       d .words ∙ ap (λ (a : Verdict ℕ). left a (wordsIn (records (take m l′))) w₀) e ∙ ap (λ (x : List ℕ). over x w₀) (ap (λ (y : List ℕ). wordsIn (records y)) back ∙ words-back o b),
     )
@@ -251,7 +252,7 @@ write-after-read {s} {ns} {ws} {ns′} {ws′} {n} {l} {l′} {r} d b w h =
     let long : length s ≡ wholeOf (wordsOf v) (count s) = a g b .long in
     let e : written v (take (nameBytes * n) ns′) (take (wordsOf v * n) ws′) (length l) ≡ yes (length s) =
     rw (dir, wds) (write-yes v (directory s) (wordsIn (records s)) l (is-offered g b) (rw long at h) ∙ ap yes (sym long)) in (
-      writing-told r (written v (take (nameBytes * n) ns′) (take (wordsOf v * n) ws′) (length l)) (w .answer) ∙ ap writingOf e,
+      writing-told r (written v (take (nameBytes * n) ns′) (take (wordsOf v * n) ws′) (length l)) (w .answer) ∙ ap asWriting e,
       w .library ∙ ap (λ (x : Verdict ℕ). left x (libraryOf v (take (nameBytes * n) ns′) (take (wordsOf v * n) ws′)) l) e
           ∙ ap (λ (x : List ℕ). over x l) (ap₂ (libraryOf v) dir wds ∙ written-back g b),
     )

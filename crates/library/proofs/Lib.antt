@@ -1,3 +1,4 @@
+-- Laws over plain values that the proofs of functions cite, and the theorems on reading, writing and finding.
 pub mod Verdicts
 pub mod Headers
 pub mod Names

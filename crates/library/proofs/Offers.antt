@@ -12,14 +12,16 @@ use Rattle.refusal.specs.declared.Refusal.{Refusal}
 use Rattle.refusal.specs.declared.Refusal.the-variants.{Malformed, ShortOutput}
 use Rattle.library.specs.declared.Writing.{Writing}
 use Rattle.library.specs.declared.Writing.the-variants.{Bytes, Refused}
-use Rattle.library.specs.Format.{wordsOf, wholeOf, bytesOfAll, headerOf, libraryOf, offered, headerBytes, mostCards, mostWords, recordsAt}
-use Rattle.library.specs.Answers.{over, left, written, Writes, namesJudged, offerJudged, verdictWritten}
+use Rattle.library.specs.Format.{wordsOf, wholeOf, bytesOfAll, headerOf, libraryOf, offered, headerBytes, mostCards, recordsAt}
+use Rattle.library.specs.Answers.{left, written, Writes, namesJudged, offerJudged, verdictWritten}
 use Rattle.library.proofs.Verdicts.{SoundNames, drawn, names-yes, passed, refuse-yes}
 use Rattle.library.proofs.Headers.{narrow, few, both}
 use Rattle.library.proofs.BytesWritten.{then-part, length-header, partFrom, partPut}
 use Rattle.refusal.specs.Order.{Verdict, no, refuseIf, tells, yes}
 use Rattle.library.specs.Directory.{nameBytes, namesHeld}
 use Rattle.name.specs.Name.{same}
+use Rattle.library.specs.inner.Inspecting.{mostWords}
+use Rattle.bytes_le.specs.Buffer.{over}
 
 module _ (v : ℕ) (ns ws : List ℕ) {k : ℕ} (e : k ≡ wordsOf v) where
   refuse : offered v ns ws ≡ false → no Malformed ≡ offerJudged v ns ws

@@ -16,13 +16,15 @@ use Rattle.refusal.specs.declared.Refusal.the-variants.{Malformed, BadName, Nam
 use Rattle.refusal.specs.Order.{Verdict, no, yes, refuseIf, tells}
 use Rattle.library.specs.declared.Reading.{Reading}
 use Rattle.library.specs.declared.Reading.the-variants.{Cards, Refused}
-use Rattle.library.specs.Answers.{Reads, left, libraryJudged, locating, namesJudged, over, read, recordOf, verdictRead}
+use Rattle.library.specs.Answers.{Reads, left, libraryJudged, locating, namesJudged, read, recordOf, verdictRead}
 use Rattle.library.specs.Directory.{among, nameBytes, namesHeld, namesIn, placeOf}
 use Rattle.library.proofs.Names.{among-place, length-pieces, or-false}
-use Rattle.library.specs.Format.{count, directory, headed, headerBytes, mostCards, mostWords, records, recordsAt, version, wholeOf, wordsIn, wordsOf}
+use Rattle.library.specs.Format.{count, directory, headed, headerBytes, mostCards, records, recordsAt, version, wholeOf, wordsIn, wordsOf}
 use Rattle.library.proofs.Headers.{directory-part, directoryPart, few, known-width, narrow, sized}
 use Rattle.library.proofs.Verdicts.{library-yes, passed, refuse-yes, then-yes}
 use Rattle.bytes_le.specs.Le.{wordBytes}
+use Rattle.library.specs.inner.Inspecting.{mostWords}
+use Rattle.bytes_le.specs.Buffer.{over}
 
 -- ---- a library inspected
 

@@ -14,7 +14,7 @@ use Rattle.library.specs.declared.Reading.the-variants.{Cards}
 use Rattle.library.specs.Directory.{allNamed, among, twice, nameBytes, namesHeld, namesIn}
 use Rattle.library.specs.Format.{wordsOf, version, count, headed, directory, libraryOf, offered, mostCards, writtenVersion}
 use Rattle.library.specs.Answers.{read, Reads, Sound, libraryJudged, namesJudged, numbersOf, offerJudged}
-use Rattle.library.specs.Unique.{reading-told, readingOf}
+use Rattle.library.specs.Unique.{reading-told, asReading}
 use Rattle.library.proofs.Verdicts.{SoundNames, library-pass, library-yes, names-pass, passed}
 use Rattle.library.proofs.Names.{or-false, cut-none, cut-more}
 use Rattle.library.proofs.Headers.{known-width, only-version}
@@ -45,7 +45,7 @@ pub sound-read : {s ns ws ns′ ws′ : List ℕ} {r : Reading}
     → Sound s → nameBytes * count s ≤ length ns → wordsOf (version s) * count s ≤ length ws
     → Reads s ns ws r ns′ ws′ → r ≡ Cards (count s)
 sound-read {s} {ns} {ws} {r = r} g hn hw d =
-    reading-told r (read s (length ns) (length ws)) (d .answer) ∙ ap readingOf (read-yes s ns ws (inspected s g) hn hw)
+    reading-told r (read s (length ns) (length ws)) (d .answer) ∙ ap asReading (read-yes s ns ws (inspected s g) hn hw)
 
 -- and its version is the one that is written
 pub sound-version : (s : List ℕ) → Sound s → version s ≡ writtenVersion

@@ -11,9 +11,9 @@ use Rattle.bytes_le.proofs.Laws.{rest}
 use Rattle.name.proofs.Laws.{Filled, fill-first, fill-more, fill-all}
 use Rattle.library.specs.Directory.{cut}
 use Rattle.library.specs.Format.{wordsIn}
-use Rattle.library.specs.Answers.{over}
 use Rattle.library.proofs.Names.{cut-none, cut-more, length-pieces}
 use Rattle.library.proofs.Verdicts.{never}
+use Rattle.bytes_le.specs.Buffer.{over}
 
 pub words-none : (s : List ℕ) → length s < wordBytes → wordsIn s ≡ []
 words-none s h = ap (map le) (cut-none wordBytes s h)

@@ -1,17 +1,16 @@
 -- What each operation answers, the refusals in their order, and what it leaves in a lent buffer.
 use mathlib.Core.Path.{_≡_}
 use mathlib.Core.Bool.{not, _||_}
-use mathlib.Core.List.{List, [], _++_}
+use mathlib.Core.List.{List, []}
 use Prim.Native.Nat.{ℕ, _+_, _*_}
 use lib.Dec.{ltb}
 use lib.ListN.{length, take, drop}
 use denote.Ref.{RefT, ptr, now}
 use Rattle.bytes_le.specs.Le.{wordBytes}
+use Rattle.bytes_le.specs.Buffer.{over}
 use Rattle.name.specs.Name.{asked, padded}
 use Rattle.refusal.specs.declared.Refusal.the-variants.{Malformed, BadName, NameTwice, NameNotHeld, ShortOutput}
 use Rattle.refusal.specs.Order.{Verdict, no, yes, refuseIf, andThen, Answer, tells}
-use Rattle.library.specs.declared.Inspection.{Inspection}
-use Rattle.library.specs.declared.Inspection.the-variants as inspection
 use Rattle.library.specs.declared.Reading.{Reading}
 use Rattle.library.specs.declared.Reading.the-variants as reading
 use Rattle.library.specs.declared.Located.{Located}
@@ -49,16 +48,7 @@ offerJudged v ns ws =
     refuseIf (not (offered v ns ws)) Malformed
     (namesJudged ns (namesHeld ns, wordsOf v))
 
--- what inspecting a library, or what is to become one, found
-abbrev pub found : Inspection → Verdict (ℕ × ℕ)
-found (inspection.Numbers n k) = yes (n, k)
-found (inspection.Refused f) = no f
-
 -- ---- what is left of a lent buffer
-
--- new, and after it what old has there
-abbrev pub over : List ℕ → List ℕ → List ℕ
-over new old = new ++ drop (length new) old
 
 -- a refusal leaves all of old; else new stands at its start
 abbrev pub left : {A : Type 0} → Verdict A → List ℕ → List ℕ → List ℕ

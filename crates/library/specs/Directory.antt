@@ -1,7 +1,7 @@
 -- A directory: the names that stand one after the other in its bytes.
 use mathlib.Core.Bool.{Bool, true, false, cond, _&&_, _||_}
 use mathlib.Core.List.{List, [], _∷_}
-use Prim.Native.Nat.{ℕ, zero, suc, _+_, _/_, _%_, _^_}
+use Prim.Native.Nat.{ℕ, zero, suc, _/_}
 use lib.ListN.{length, take, drop}
 use Rattle.name.specs.Name.{wellFormed, same}
 
@@ -44,13 +44,3 @@ twice (x ∷ l) = among x l || twice l
 abbrev pub placeOf : List ℕ → List (List ℕ) → ℕ
 placeOf x [] = 0
 placeOf x (y ∷ l) = cond (same x y) 0 (suc (placeOf x l))
-
--- ---- the search for a name that stands twice (an inner word: no answer tells of it)
-
--- how many marks it keeps
-abbrev pub slots : ℕ
-slots = 4093
-
--- the mark of a name, by its two words
-abbrev pub slotOf : ℕ → ℕ → ℕ
-slotOf low high = (low + high) % 2 ^ 64 % slots

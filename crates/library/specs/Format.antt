@@ -27,10 +27,6 @@ writtenVersion = 1
 abbrev pub recordBytes : ℕ
 recordBytes = wordBytes * wordsOf writtenVersion
 
--- no version's record has more words than this
-abbrev pub mostWords : ℕ
-mostWords = 24
-
 -- where the records of n cards start, and where those of k words each end
 abbrev pub recordsAt : ℕ → ℕ
 recordsAt n = headerBytes + nameBytes * n

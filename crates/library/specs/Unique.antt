@@ -16,29 +16,29 @@ use Rattle.library.specs.Answers.{toldRead, read, Reads, toldLocated, lo
 
 -- the answer that a verdict is: one whatever tells it
 
-abbrev pub readingOf : Verdict ℕ → Reading
-readingOf (yes n) = reading.Cards n
-readingOf (no f) = reading.Refused f
+abbrev pub asReading : Verdict ℕ → Reading
+asReading (yes n) = reading.Cards n
+asReading (no f) = reading.Refused f
 
-abbrev pub locatedOf : Verdict (ℕ × ℕ) → Located
-locatedOf (yes p) = located.Record (p .0) (p .1)
-locatedOf (no f) = located.Refused f
+abbrev pub asLocated : Verdict (ℕ × ℕ) → Located
+asLocated (yes p) = located.Record (p .0) (p .1)
+asLocated (no f) = located.Refused f
 
-abbrev pub writingOf : Verdict ℕ → Writing
-writingOf (yes n) = writing.Bytes n
-writingOf (no f) = writing.Refused f
+abbrev pub asWriting : Verdict ℕ → Writing
+asWriting (yes n) = writing.Bytes n
+asWriting (no f) = writing.Refused f
 
-pub reading-told : (r : Reading) (v : Verdict ℕ) → toldRead r ≡ tells v → r ≡ readingOf v
-reading-told (reading.Cards n) v e = ap readingOf (tells-one (yes n) v e)
-reading-told (reading.Refused f) v e = ap readingOf (tells-one (no f) v e)
+pub reading-told : (r : Reading) (v : Verdict ℕ) → toldRead r ≡ tells v → r ≡ asReading v
+reading-told (reading.Cards n) v e = ap asReading (tells-one (yes n) v e)
+reading-told (reading.Refused f) v e = ap asReading (tells-one (no f) v e)
 
-pub located-told : (r : Located) (v : Verdict (ℕ × ℕ)) → toldLocated r ≡ tells v → r ≡ locatedOf v
-located-told (located.Record at size) v e = ap locatedOf (tells-one (yes (at, size)) v e)
-located-told (located.Refused f) v e = ap locatedOf (tells-one (no f) v e)
+pub located-told : (r : Located) (v : Verdict (ℕ × ℕ)) → toldLocated r ≡ tells v → r ≡ asLocated v
+located-told (located.Record at size) v e = ap asLocated (tells-one (yes (at, size)) v e)
+located-told (located.Refused f) v e = ap asLocated (tells-one (no f) v e)
 
-pub writing-told : (r : Writing) (v : Verdict ℕ) → toldWritten r ≡ tells v → r ≡ writingOf v
-writing-told (writing.Bytes n) v e = ap writingOf (tells-one (yes n) v e)
-writing-told (writing.Refused f) v e = ap writingOf (tells-one (no f) v e)
+pub writing-told : (r : Writing) (v : Verdict ℕ) → toldWritten r ≡ tells v → r ≡ asWriting v
+writing-told (writing.Bytes n) v e = ap asWriting (tells-one (yes n) v e)
+writing-told (writing.Refused f) v e = ap asWriting (tells-one (no f) v e)
 
 pub unique-read : {s ns ws : List ℕ} {r r′ : Reading} {n n′ w w′ : List ℕ}
     → Reads s ns ws r n w → Reads s ns ws r′ n′ w′ → (r ≡ r′) × (n ≡ n′) × (w ≡ w′)

@@ -9,9 +9,11 @@ ghost use lib.ListN.{length, take, drop};
 ghost use Rattle.bytes_le.specs.Le.{wordBytes, bytesOf};
 ghost use Rattle.refusal.specs.Order.{tells};
 ghost use Rattle.name.specs.Name.{same};
-ghost use Rattle.library.specs.Directory.{nameBytes, namesIn, allNamed, among, twice, placeOf, slots, slotOf};
-ghost use Rattle.library.specs.Format.{mostCards, mostWords, wordsOf, writtenVersion, agree, wordsIn, bytesOfAll, headerOf};
-ghost use Rattle.library.specs.Answers.{namesJudged, libraryJudged, offerJudged, found, over, Reads, toldLocated, locating, Finds, Writes};
+ghost use Rattle.bytes_le.specs.Buffer.{over};
+ghost use Rattle.library.specs.inner.Inspecting.{found, mostWords, slots, slotOf};
+ghost use Rattle.library.specs.Directory.{nameBytes, namesIn, allNamed, among, twice, placeOf};
+ghost use Rattle.library.specs.Format.{mostCards, wordsOf, writtenVersion, agree, wordsIn, bytesOfAll, headerOf};
+ghost use Rattle.library.specs.Answers.{namesJudged, libraryJudged, offerJudged, Reads, toldLocated, locating, Finds, Writes};
 use bytes_le::WORD_BYTES;
 
 // The bytes of the header, and so where the directory starts.

@@ -16,12 +16,14 @@ use mir.Syntax.{w64}
 use mir.Val.{SFits, toZ, ofZ}
 use Rattle.whole.proofs.Halves.{back}
 use lib.IntN.{ℤ, pos, negsuc, negℤ, natAbs}
-use Rattle.sheet.specs.Digits.{glyphOf, digitsOf, plainDigits, decimalOf, signOf, belowZero, openedOf, signedDigits, picoOf, ampereDigits}
+use Rattle.sheet.specs.Digits.{glyphOf, digitsOf, plainDigits, decimalOf, signOf, belowZero, openedOf, signedDigits, picoOf, ampereDigits, decimals}
 use Rattle.sheet.specs.Lines.{readingOf}
 use Rattle.sheet.specs.declared.Parsed.{Parsed}
 use Rattle.sheet.specs.declared.Parsed.the-variants.{Number, Nothing}
-use Rattle.sheet.specs.Number.{allDigits, valueOf, nearest, parsedWith, parsedAfter, parsedOf}
+use Rattle.sheet.specs.Number.{allDigits, decimalValue, nearest, parsedWith, parsedAfter, parsedOf, firstBeyond}
 use Rattle.sheet.proofs.Texts.{then}
+use Rattle.card.specs.Judge.{at}
+use Rattle.card.proofs.Whole.{below}
 
 -- ---- a digit after those before it
 
@@ -52,23 +54,23 @@ plain-last k x h l e q = rw (plain-one k x h l) (rw e at q)
 
 -- ---- a number held among those of 64 bits
 
-pub near-below : (x : ℕ) → x ≤ 2 ^ 63 → (x ≡ 0 → ⊥) → negsuc (x - 1) ≡ nearest true x
+pub near-below : (x : ℕ) → x ≤ firstBeyond → (x ≡ 0 → ⊥) → negsuc (x - 1) ≡ nearest true x
 near-below zero h n = absurd (n refl)
-near-below (suc x) h n = let e : min (suc x) (2 ^ 63) ≡ suc x = omega arith in rw e (ap negsuc (omega arith))
+near-below (suc x) h n = let e : min (suc x) firstBeyond ≡ suc x = omega arith in rw e (ap negsuc (omega arith))
 
 pub near-zero : (x : ℕ) → x ≡ 0 → pos 0 ≡ nearest true x
 near-zero x e = rw e
 
-pub near-inside : (x : ℕ) → x < 2 ^ 63 → pos x ≡ nearest false x
-near-inside x h = let e : x ≡ min x (2 ^ 63 - 1) = omega arith in ap pos e
+pub near-inside : (x : ℕ) → x < firstBeyond → pos x ≡ nearest false x
+near-inside x h = let e : x ≡ min x (firstBeyond - 1) = omega arith in ap pos e
 
-pub near-end : (x : ℕ) → 2 ^ 63 ≤ x → pos (2 ^ 63 - 1) ≡ nearest false x
-near-end x h = let e : 2 ^ 63 - 1 ≡ min x (2 ^ 63 - 1) = omega arith in ap pos e
+pub near-end : (x : ℕ) → firstBeyond ≤ x → pos (firstBeyond - 1) ≡ nearest false x
+near-end x h = let e : firstBeyond - 1 ≡ min x (firstBeyond - 1) = omega arith in ap pos e
 
--- held at 2^63 a number is as near to them as before
-pub held-near : (below : Bool) (n : ℕ) → nearest below (min n (2 ^ 63)) ≡ nearest below n
-held-near false n = let e : min (min n (2 ^ 63)) (2 ^ 63 - 1) ≡ min n (2 ^ 63 - 1) = omega arith in ap pos e
-held-near true n = let e : min (min n (2 ^ 63)) (2 ^ 63) ≡ min n (2 ^ 63) = omega arith in ap (λ (m : ℕ). negℤ (pos m)) e
+-- held at the first beyond them a number is as near to them as before
+pub held-near : (below : Bool) (n : ℕ) → nearest below (min n firstBeyond) ≡ nearest below n
+held-near false n = let e : min (min n firstBeyond) (firstBeyond - 1) ≡ min n (firstBeyond - 1) = omega arith in ap pos e
+held-near true n = let e : min (min n firstBeyond) firstBeyond ≡ min n firstBeyond = omega arith in ap (λ (m : ℕ). negℤ (pos m)) e
 
 -- ---- signed numbers in digits
 
@@ -85,7 +87,7 @@ module _ {t r s : Text} {o : Opened} (z : ℤ) (e : o ≡ openedOf z) where
   signed-done p q = then (rw (ap (λ (u : Opened). u .below) e) at p) (rw (ap (λ (u : Opened). u .size) e) at q)
 
   -- the steps of a current: its picoamperes, whether a sign is shown, the sign, then the rest
-  pub amperes-done : {n : ℕ} {m : Bool} → n ≡ picoOf (o .size) → m ≡ (o .below && ltb 0 n) → Adds t (signOf m) r → Adds r (decimalOf (n / 10 ^ 12) ++ 46 ∷ digitsOf 10 12 n) s → Adds t (ampereDigits z) s
+  pub amperes-done : {n : ℕ} {m : Bool} → n ≡ picoOf (o .size) → m ≡ (o .below && ltb 0 n) → Adds t (signOf m) r → Adds r (decimalOf (n / 10 ^ decimals) ++ 46 ∷ digitsOf 10 decimals n) s → Adds t (ampereDigits z) s
   amperes-done f g p q =
       let size : o .size ≡ natAbs z = ap (λ (u : Opened). u .size) e in
       let below : o .below ≡ belowZero z = ap (λ (u : Opened). u .below) e in
@@ -102,9 +104,9 @@ module _ (s : List ℕ) (below : Bool) where
   unfolding parsedWith
   bad-numeral e h = rw (lt-ltb 0 (length s) h, ← e)
 
-  pub good-numeral : true ≡ allDigits s → 0 < length s → {x : ℕ} → x ≡ min (valueOf s) (2 ^ 63) → {z : ℤ} → z ≡ nearest below x → Number z ≡ parsedWith below s
+  pub good-numeral : true ≡ allDigits s → 0 < length s → {x : ℕ} → x ≡ min (decimalValue s) firstBeyond → {z : ℤ} → z ≡ nearest below x → Number z ≡ parsedWith below s
   unfolding parsedWith
-  good-numeral e h f g = rw (lt-ltb 0 (length s) h, ← e) (ap Number (g ∙ ap (nearest below) f ∙ held-near below (valueOf s)))
+  good-numeral e h f g = rw (lt-ltb 0 (length s) h, ← e) (ap Number (g ∙ ap (nearest below) f ∙ held-near below (decimalValue s)))
 
 module _ (w : List ℕ) where
   pub no-numeral : length w ≡ 0 → Nothing ≡ parsedOf w

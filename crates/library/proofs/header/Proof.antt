@@ -6,7 +6,8 @@ use Rattle.library.proofs.BytesWritten.{header-put}
 use borrow.Author.Needs.{needs}
 use Rattle.library.proofs.header.Statement.{statement}
 use Rattle.library.proofs.header.Tie as tie
-use Rattle.library.specs.Format.{mostCards, mostWords}
+use Rattle.library.specs.Format.{mostCards}
+use Rattle.library.specs.inner.Inspecting.{mostWords}
 
 fits : (c : tie.After-width) → c .width .result * c .before .args .count ≤ mostWords * mostCards
 fits c = few (c .width .ensures .1) (c .before .pre)

@@ -3,13 +3,13 @@ use mathlib.Core.Path.{_≡_, sym, ap, _∙_}
 use mathlib.Core.Bool.{true}
 use native.Mathlib.Omega.{arith}
 use Rattle.name.specs.Name.{asked}
-use Rattle.library.specs.Answers.{found}
 use Rattle.library.proofs.Outcomes.{record-within, locate-name, locate-none, locate-at, Inspected, inspected, locate-refused}
 use borrow.Author.Needs.{needs}
 use borrow.Author.Tests.{not-true, not-false}
 use Rattle.library.proofs.locate.Statement.{statement}
 use Rattle.library.proofs.locate.Tie as tie
 use Rattle.refusal.specs.Order.{tells}
+use Rattle.library.specs.inner.Inspecting.{found}
 
 abbrev cards-before-pad : tie.After-pad → tie.After-cards
 cards-before-pad c = c .before .before .before .before

@@ -2,12 +2,12 @@
 use mathlib.Core.Path.{sym, ap, _∙_}
 use native.Mathlib.Omega.{arith}
 use borrow.Author.Tests.{lt-ltb, le-ltb}
-use Rattle.library.specs.Answers.{found}
 use Rattle.library.proofs.Outcomes.{records-words, read-short, Inspected, inspected, read-cards, read-refused}
 use borrow.Author.Needs.{needs}
 use Rattle.library.proofs.read.Statement.{statement}
 use Rattle.library.proofs.read.Tie as tie
 use Rattle.library.proofs.Names.{or-false, or-true}
+use Rattle.library.specs.inner.Inspecting.{found}
 
 abbrev start-before-cards : tie.After-cards → tie.Start
 start-before-cards c = c .before .before .before .before .before .before

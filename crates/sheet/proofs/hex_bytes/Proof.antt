@@ -1,7 +1,7 @@
 -- `hex_bytes` meets its contract: a dash, too many pairs, pairs, or other bytes.
 use mathlib.Core.Path.{sym, _∙_}
 use borrow.Author.Needs.{needs}
-use Rattle.sheet.proofs.Twos.{dashed, too-many, not-pairs, all-spelled}
+use Rattle.sheet.proofs.HexPairs.{dashed, too-many, not-pairs, all-spelled}
 use Rattle.sheet.proofs.hex_bytes.Tie as tie
 use Rattle.sheet.proofs.hex_bytes.Statement.{statement}
 

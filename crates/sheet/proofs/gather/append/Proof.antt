@@ -2,9 +2,10 @@
 use Prim.Native.Nat.{_-_}
 use lib.ListN.{length, drop}
 use borrow.Author.Needs.{needs}
-use Rattle.sheet.proofs.Passing.{Left, all-left, append-on, append-end}
+use Rattle.sheet.proofs.ByteLoops.{Left, all-left, append-on, append-end}
 use Rattle.sheet.proofs.gather.append.Tie as tie
 use Rattle.sheet.proofs.gather.append.Statement.{statement}
+use Rattle.sheet.proofs.Texts.{gathered}
 
 abbrev Inv-loop : tie.InvT-loop
 Inv-loop s gathered₀ i₀ gathered i = Left gathered₀ s gathered (drop i s)

@@ -3,9 +3,10 @@ use mathlib.Core.Path.{refl, sym, _∙_}
 use Prim.Native.Nat.{_-_}
 use lib.ListN.{length}
 use borrow.Author.Needs.{needs}
-use Rattle.sheet.proofs.Passing.{Digits, digits-on, digits-not, digits-end}
+use Rattle.sheet.proofs.ByteLoops.{Digits, digits-on, digits-not, digits-end}
 use Rattle.sheet.proofs.numeral.all_digits.Tie as tie
 use Rattle.sheet.proofs.numeral.all_digits.Statement.{statement}
+use Rattle.sheet.proofs.Ranges.{within}
 
 abbrev Inv-loop : tie.InvT-loop
 Inv-loop s i₀ i = Digits s i

@@ -3,9 +3,10 @@ use mathlib.Core.Path.{refl}
 use Prim.Native.Nat.{_-_}
 use lib.ListN.{length}
 use borrow.Author.Needs.{needs}
-use Rattle.sheet.proofs.Passing.{Value, value-on, value-end}
+use Rattle.sheet.proofs.ByteLoops.{Value, value-on, value-end}
 use Rattle.sheet.proofs.numeral.value.Tie as tie
 use Rattle.sheet.proofs.numeral.value.Statement.{statement}
+use Rattle.sheet.proofs.Ranges.{within}
 
 abbrev Inv-loop : tie.InvT-loop
 Inv-loop s x₀ i₀ x i = Value s i x

@@ -3,7 +3,7 @@ use mathlib.Core.Path.{refl, sym, _∙_}
 use native.Mathlib.Omega.{arith}
 use lib.ListN.{length, length-drop}
 use borrow.Author.Needs.{needs}
-use Rattle.sheet.proofs.Twos.{Same, after-two, pairs-on, pairs-first, pairs-second, pairs-end}
+use Rattle.sheet.proofs.HexPairs.{Same, after-two, pairs-on, pairs-first, pairs-second, pairs-end}
 use Rattle.sheet.proofs.pairs.are_pairs.Tie as tie
 use Rattle.sheet.proofs.pairs.are_pairs.Statement.{statement}
 

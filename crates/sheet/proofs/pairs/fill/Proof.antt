@@ -4,7 +4,7 @@ use Prim.Native.Nat.{ℕ, _+_, _*_}
 use native.Mathlib.Omega.{arith}
 use lib.ListN.{length, length-drop}
 use borrow.Author.Needs.{needs}
-use Rattle.sheet.proofs.Twos.{Spelling, after-two, spell-first, spell-small, spell-on, spell-end}
+use Rattle.sheet.proofs.HexPairs.{Spelling, after-two, spell-first, spell-small, spell-on, spell-end}
 use Rattle.sheet.proofs.pairs.fill.Tie as tie
 use Rattle.sheet.proofs.pairs.fill.Statement.{statement}
 
