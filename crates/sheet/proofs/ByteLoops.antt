@@ -33,14 +33,16 @@ pub all-left : {t : Text} {l : List ℕ} → Left t l t l
 all-left = record { same = refl }
 
 next-left : {t r s : Text} {l m : List ℕ} {x : ℕ} → Left t l r (x ∷ m) → Adds r (x ∷ []) s → Left t l s m
-next-left {r = r} {m = m} {x = x} v a = record { same = v .same ∙ append-two r (x ∷ []) m ∙ ap (λ (u : Text). appended u m) (sym (a .sum)) }
+next-left {r = r} {m = m} {x = x} v a =
+    record { same = v .same ∙ append-two r (x ∷ []) m ∙ ap (λ (u : Text). appended u m) (sym (a .sum)) }
 
 last-left : {t r : Text} {l : List ℕ} → Left t l r [] → Adds t l r
 unfolding appended
 last-left v = record { sum = sym (v .same) }
 
 module _ (s : List ℕ) (i : ℕ) {t r : Text} {l : List ℕ} where
-  pub append-on : {r′ : Text} → Left t l r (drop i s) → i < length s → Adds r (getD s i 0 ∷ []) r′ → Left t l r′ (drop (i + 1) s)
+  pub append-on : {r′ : Text} → Left t l r (drop i s) → i < length s → Adds r (getD s i 0 ∷ []) r′
+      → Left t l r′ (drop (i + 1) s)
   append-on v h a = next-left (rw (split s i h) at v) a
 
   pub append-end : Left t l r (drop i s) → length s ≤ i → Adds t l r
@@ -53,7 +55,8 @@ pub record Bare (s : List ℕ) (i : ℕ) : Type 0 where
   pub so-far : unpadded s ≡ take i s ++ unpadded (drop i s)
 
 module _ {s : List ℕ} {i : ℕ} (v : Bare s i) where
-  bare-step : i < length s → {t : Bool} → eqb (getD s i 0) 0 ≡ t → unpadded s ≡ take i s ++ cond t [] (getD s i 0 ∷ unpadded (drop (i + 1) s))
+  bare-step : i < length s → {t : Bool} → eqb (getD s i 0) 0 ≡ t
+      → unpadded s ≡ take i s ++ cond t [] (getD s i 0 ∷ unpadded (drop (i + 1) s))
   unfolding unpadded
   bare-step h e =
       v .so-far ∙ ap (λ (l : List ℕ). take i s ++ unpadded l) (split s i h)
@@ -62,7 +65,8 @@ module _ {s : List ℕ} {i : ℕ} (v : Bare s i) where
   pub bare-on : i < length s → (getD s i 0 ≡ 0 → ⊥) → Bare s (i + 1)
   bare-on h n = record {
     within = omega arith;
-    so-far = bare-step h (ne-eqb (getD s i 0) 0 n) ∙ sym (append-snoc (take i s) (getD s i 0) (unpadded (drop (i + 1) s)))
+    so-far =
+        bare-step h (ne-eqb (getD s i 0) 0 n) ∙ sym (append-snoc (take i s) (getD s i 0) (unpadded (drop (i + 1) s)))
         ∙ ap (λ (l : List ℕ). l ++ unpadded (drop (i + 1) s)) (sym (ap (λ (n : ℕ). take n s) (add-one i) ∙ take-suc s i 0 h));
   }
 
@@ -71,7 +75,8 @@ module _ {s : List ℕ} {i : ℕ} (v : Bare s i) where
 
   pub bare-end : length s ≤ i → s ≡ unpadded s
   unfolding unpadded
-  bare-end h = sym (v .so-far ∙ ap₂ (λ (a b : List ℕ). a ++ unpadded b) (take-all i s h) (none-left s i h) ∙ append-nil s)
+  bare-end h =
+      sym (v .so-far ∙ ap₂ (λ (a b : List ℕ). a ++ unpadded b) (take-all i s h) (none-left s i h) ∙ append-nil s)
 
 -- ---- whether all are digits
 
@@ -114,14 +119,17 @@ pub record Value (s : List ℕ) (i x : ℕ) : Type 0 where
   pub held : x ≤ firstBeyond
 
 module _ {s : List ℕ} {i x : ℕ} (v : Value s i x) where
-  pub value-on : i < length s → (d y : ℕ) → d ≡ digitOf (getD s i 0) → y ≡ min (10 * x + d) firstBeyond → Value s (i + 1) y
+  pub value-on : i < length s → (d y : ℕ) → d ≡ digitOf (getD s i 0) → y ≡ min (10 * x + d) firstBeyond
+      → Value s (i + 1) y
   unfolding decimalFrom
   value-on h d y e f =
       let g : min (decimalFrom 0 s) firstBeyond ≡ min (decimalFrom (10 * x + d) (drop (i + 1) s)) firstBeyond =
       v .so-far ∙ ap (λ (l : List ℕ). min (decimalFrom x l) firstBeyond) (split s i h)
       ∙ ap (λ (z : ℕ). min (decimalFrom (10 * x + z) (drop (i + 1) s)) firstBeyond) (sym e) in record {
         within = omega arith;
-        so-far = g ∙ held-on (10 * x + d) (drop (i + 1) s) ∙ ap (λ (z : ℕ). min (decimalFrom z (drop (i + 1) s)) firstBeyond) (sym f);
+        so-far =
+            g ∙ held-on (10 * x + d) (drop (i + 1) s) ∙ ap
+            (λ (z : ℕ). min (decimalFrom z (drop (i + 1) s)) firstBeyond) (sym f);
         held = omega arith;
       }
 

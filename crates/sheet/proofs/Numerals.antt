@@ -43,13 +43,16 @@ plain-more zero x h l = absurd (not-suc-le-zero h)
 plain-more (suc k) x h l = let e : k ≡ suc k - 1 = omega arith in rw (le-ltb x 10 l) (ap (λ (n : ℕ). plainDigits n (x / 10) ++ glyphOf (x % 10) ∷ []) e)
 
 module _ {t r s : Text} {g : ℕ} (k x : ℕ) (h : 0 < k) where
-  pub spell-on : (b : ℕ) → Adds t (digitsOf b (k - 1) (x / b)) r → g ≡ glyphOf (x % b) → Adds r (g ∷ []) s → Adds t (digitsOf b k x) s
+  pub spell-on : (b : ℕ) → Adds t (digitsOf b (k - 1) (x / b)) r → g ≡ glyphOf (x % b) → Adds r (g ∷ []) s
+      → Adds t (digitsOf b k x) s
   spell-on b p e q = rw (digits-more b k x h) (then p (rw e at q))
 
-  pub plain-on : 10 ≤ x → Adds t (plainDigits (k - 1) (x / 10)) r → g ≡ glyphOf (x % 10) → Adds r (g ∷ []) s → Adds t (plainDigits k x) s
+  pub plain-on : 10 ≤ x → Adds t (plainDigits (k - 1) (x / 10)) r → g ≡ glyphOf (x % 10) → Adds r (g ∷ []) s
+      → Adds t (plainDigits k x) s
   plain-on l p e q = rw (plain-more k x h l) (then p (rw e at q))
 
-pub plain-last : {t s : Text} {g : ℕ} (k x : ℕ) → 0 < k → x < 10 → g ≡ glyphOf x → Adds t (g ∷ []) s → Adds t (plainDigits k x) s
+pub plain-last : {t s : Text} {g : ℕ} (k x : ℕ) → 0 < k → x < 10 → g ≡ glyphOf x → Adds t (g ∷ []) s
+    → Adds t (plainDigits k x) s
 plain-last k x h l e q = rw (plain-one k x h l) (rw e at q)
 
 -- ---- a number held among those of 64 bits
@@ -79,7 +82,8 @@ module _ {t r : Text} (v : ℤ) (h : SFits w64 v) where
   pub as-given : (f : ℤ → List ℕ) → Adds t (f (toZ w64 (ofZ w64 v))) r → Adds t (f v) r
   as-given f a = subst (λ (z : ℤ). Adds t (f z) r) (back v h) a
 
-  pub as-read : (n : ℕ) (w : ℤ) → SFits w64 w → Adds t (readingOf n (toZ w64 (ofZ w64 v)) (toZ w64 (ofZ w64 w))) r → Adds t (readingOf n v w) r
+  pub as-read : (n : ℕ) (w : ℤ) → SFits w64 w → Adds t (readingOf n (toZ w64 (ofZ w64 v)) (toZ w64 (ofZ w64 w))) r
+      → Adds t (readingOf n v w) r
   as-read n w k a = rw (back v h, back w k) at a
 
 module _ {t r s : Text} {o : Opened} (z : ℤ) (e : o ≡ openedOf z) where
@@ -87,7 +91,8 @@ module _ {t r s : Text} {o : Opened} (z : ℤ) (e : o ≡ openedOf z) where
   signed-done p q = then (rw (ap (λ (u : Opened). u .below) e) at p) (rw (ap (λ (u : Opened). u .size) e) at q)
 
   -- the steps of a current: its picoamperes, whether a sign is shown, the sign, then the rest
-  pub amperes-done : {n : ℕ} {m : Bool} → n ≡ picoOf (o .size) → m ≡ (o .below && ltb 0 n) → Adds t (signOf m) r → Adds r (decimalOf (n / 10 ^ decimals) ++ 46 ∷ digitsOf 10 decimals n) s → Adds t (ampereDigits z) s
+  pub amperes-done : {n : ℕ} {m : Bool} → n ≡ picoOf (o .size) → m ≡ (o .below && ltb 0 n) → Adds t (signOf m) r
+      → Adds r (decimalOf (n / 10 ^ decimals) ++ 46 ∷ digitsOf 10 decimals n) s → Adds t (ampereDigits z) s
   amperes-done f g p q =
       let size : o .size ≡ natAbs z = ap (λ (u : Opened). u .size) e in
       let below : o .below ≡ belowZero z = ap (λ (u : Opened). u .below) e in
@@ -104,9 +109,11 @@ module _ (s : List ℕ) (below : Bool) where
   unfolding parsedWith
   bad-numeral e h = rw (lt-ltb 0 (length s) h, ← e)
 
-  pub good-numeral : true ≡ allDigits s → 0 < length s → {x : ℕ} → x ≡ min (decimalValue s) firstBeyond → {z : ℤ} → z ≡ nearest below x → Number z ≡ parsedWith below s
+  pub good-numeral : true ≡ allDigits s → 0 < length s → {x : ℕ} → x ≡ min (decimalValue s) firstBeyond → {z : ℤ}
+      → z ≡ nearest below x → Number z ≡ parsedWith below s
   unfolding parsedWith
-  good-numeral e h f g = rw (lt-ltb 0 (length s) h, ← e) (ap Number (g ∙ ap (nearest below) f ∙ held-near below (decimalValue s)))
+  good-numeral e h f g =
+      rw (lt-ltb 0 (length s) h, ← e) (ap Number (g ∙ ap (nearest below) f ∙ held-near below (decimalValue s)))
 
 module _ (w : List ℕ) where
   pub no-numeral : length w ≡ 0 → Nothing ≡ parsedOf w
@@ -117,9 +124,12 @@ module _ (w : List ℕ) where
       by [] e = refl
       by (b ∷ w) e = absurd (omega arith)
 
-  pub with-minus : {r : Parsed} → getD w 0 0 ≡ 45 → r ≡ parsedWith true (take (length w - 1) (drop 1 w)) → r ≡ parsedOf w
+  pub with-minus : {r : Parsed} → getD w 0 0 ≡ 45 → r ≡ parsedWith true (take (length w - 1) (drop 1 w))
+      → r ≡ parsedOf w
   unfolding parsedOf
-  with-minus z e = rw (eq-eqb (getD w 0 0) 45 z) (e ∙ ap (parsedWith true) (take-all (length w - 1) (drop 1 w) (rw length-drop (le-refl _))))
+  with-minus z e =
+      rw (eq-eqb (getD w 0 0) 45 z)
+      (e ∙ ap (parsedWith true) (take-all (length w - 1) (drop 1 w) (rw length-drop (le-refl _))))
 
   pub without-minus : {r : Parsed} → (getD w 0 0 ≡ 45 → ⊥) → r ≡ parsedWith false w → r ≡ parsedOf w
   unfolding parsedOf

@@ -27,7 +27,8 @@ plain-spells (suc k) n h =
     let q : n / 10 < 10 ^ k = div-lt-iff-lt-mul (lit< tt) .1 (rw pow-suc at h) in
     by (ltb n 10) refl (plain-spells k (n / 10) q)
   where
-    by : (t : Bool) → ltb n 10 ≡ t → decimalValue (plainDigits k (n / 10)) ≡ n / 10 → decimalValue (cond t (glyphOf n ∷ []) (plainDigits k (n / 10) ++ glyphOf (n % 10) ∷ [])) ≡ n
+    by : (t : Bool) → ltb n 10 ≡ t → decimalValue (plainDigits k (n / 10)) ≡ n / 10
+        → decimalValue (cond t (glyphOf n ∷ []) (plainDigits k (n / 10) ++ glyphOf (n % 10) ∷ [])) ≡ n
     by true e r = ap (λ (y : ℕ). 0 + y) (digit-back n (ltb-true n 10 e)) ∙ zero-add n
     by false e r =
         let d = digit-back (n % 10) (omega arith) in

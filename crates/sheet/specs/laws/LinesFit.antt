@@ -65,7 +65,8 @@ pub label-whole : (label : List ℕ) (n : ℕ) → length label ≤ 80 → shown
 unfolding labelLine
 label-whole label n h = let k = plain-long mostDigits n in text-whole (labelLine label n) (simp length-append (omega arith))
 
-pub listing-whole : (name bytes : List ℕ) → length name ≤ 16 → shown (textOf (listingLine name bytes)) ≡ listingLine name bytes
+pub listing-whole : (name bytes : List ℕ) → length name ≤ 16
+    → shown (textOf (listingLine name bytes)) ≡ listingLine name bytes
 unfolding listingLine
 listing-whole name bytes h =
     let number = judgedNumber (judgeOf bytes) in
