@@ -66,7 +66,8 @@ module _ {s : List ℕ} {w i x : ℕ} (d : Down s w i x) (h : 0 < i) where
   pub down-fits : (b : ℕ) → w ≤ 8 → b < 256 → 256 * x + b < 2 ^ 64
   down-fits b hw hb =
       let a = d .within in
-      lt-of-lt-of-le (byte-more (w - i) x b (d .bound) hb) (pow-le-pow-right {n = 256} (lit< tt) {i = suc (w - i)} {j = 8} (omega arith))
+      lt-of-lt-of-le (byte-more (w - i) x b (d .bound) hb)
+      (pow-le-pow-right {n = 256} (lit< tt) {i = suc (w - i)} {j = 8} (omega arith))
 
 pub down-last : {s : List ℕ} {w i x : ℕ} → Down s w i x → i ≤ 0 → (x ≡ le (take w s)) × (x < 256 ^ w)
 down-last {s} {w} {i} {x} d h =
@@ -102,7 +103,8 @@ pub no-word : (s : List ℕ) (at : ℕ) → length s ≤ at → Word (drop at s)
 no-word s at h = rw (drop-of-length-le s h) (short-word [] 0 (lit< tt) refl)
 
 module _ (s : List ℕ) (b₀ b₁ b₂ b₃ b₄ b₅ b₆ b₇ : ℕ)
-    (p₀ : (b₀ ≡ getD s 0 0) × (b₀ < 256)) (p₁ : (b₁ ≡ getD s 1 0) × (b₁ < 256)) (p₂ : (b₂ ≡ getD s 2 0) × (b₂ < 256)) (p₃ : (b₃ ≡ getD s 3 0) × (b₃ < 256))
+    (p₀ : (b₀ ≡ getD s 0 0) × (b₀ < 256)) (p₁ : (b₁ ≡ getD s 1 0) × (b₁ < 256)) (p₂ : (b₂ ≡ getD s 2 0) × (b₂ < 256))
+    (p₃ : (b₃ ≡ getD s 3 0) × (b₃ < 256))
     (p₄ : (b₄ ≡ getD s 4 0) × (b₄ < 256)) (p₅ : (b₅ ≡ getD s 5 0) × (b₅ < 256)) (p₆ : (b₆ ≡ getD s 6 0) × (b₆ < 256)) (p₇ : (b₇ ≡ getD s 7 0) × (b₇ < 256)) (h : 8 ≤ length s) where
   eight : List ℕ
   eight = b₀ ∷ b₁ ∷ b₂ ∷ b₃ ∷ b₄ ∷ b₅ ∷ b₆ ∷ b₇ ∷ []

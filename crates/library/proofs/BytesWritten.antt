@@ -37,7 +37,9 @@ module _ {d : List ℕ} {at w x : ℕ} {cur : List ℕ} {y i : ℕ} (v : Putting
   pub put-more : i < w → Putting d at w x (set cur (at + i) (y % byteValues)) (y / byteValues) (i + 1)
   put-more h =
       let e : w - i ≡ suc (w - (i + 1)) = omega arith in
-      let p = at-place (bytesOf w x) i (y % byteValues) (bytesOf (w - (i + 1)) (y / byteValues)) (v .ahead ∙ ap (λ (n : ℕ). bytesOf n y) e) in
+      let p =
+      at-place (bytesOf w x) i (y % byteValues) (bytesOf (w - (i + 1)) (y / byteValues))
+      (v .ahead ∙ ap (λ (n : ℕ). bytesOf n y) e) in
       let hd : at + i < length d = let r = v .room in omega arith in
       record {
         within = omega arith;
@@ -53,7 +55,8 @@ module _ {d : List ℕ} {at w x : ℕ} {cur : List ℕ} {y i : ℕ} (v : Putting
   pub put-all : w ≤ i → cur ≡ take at d ++ bytesOf w x ++ drop (at + w) d
   put-all h =
       let e : i ≡ w = let a = v .within in omega arith in
-      v .so-far ∙ ap (paste d at (bytesOf w x)) e ∙ ap (λ (q : List ℕ). take at d ++ q ++ drop (at + w) d) (take-all w (bytesOf w x) (le-of-eq (length-bytes w x)))
+      v .so-far ∙ ap (paste d at (bytesOf w x)) e ∙ ap (λ (q : List ℕ). take at d ++ q ++ drop (at + w) d)
+      (take-all w (bytesOf w x) (le-of-eq (length-bytes w x)))
 
 -- ---- a buffer cur that starts with p, and then gets q
 
@@ -74,7 +77,8 @@ module _ (p q d cur : List ℕ) (at : ℕ) (e : cur ≡ over p d) (l : length p 
   joined : p ++ over q (drop (length p) d) ≡ over (p ++ q) d
   joined =
       sym (append-assoc p q (drop (length q) (drop (length p) d)))
-      ∙ ap (λ (r : List ℕ). p ++ q ++ r) (drop-drop (length q) (length p) d ∙ ap (λ (n : ℕ). drop n d) (sym (length-append p q)))
+      ∙ ap (λ (r : List ℕ). p ++ q ++ r)
+      (drop-drop (length q) (length p) d ∙ ap (λ (n : ℕ). drop n d) (sym (length-append p q)))
 
   -- q is put at its place
   pub then-put : (w : ℕ) → length q ≡ w → take at cur ++ q ++ drop (at + w) cur ≡ over (p ++ q) d
@@ -85,8 +89,10 @@ module _ (p q d cur : List ℕ) (at : ℕ) (e : cur ≡ over p d) (l : length p 
   -- q is written to the start of the part from its place on, which comes back as y
   pub then-part : (y : List ℕ) → y ≡ over q (partFrom at cur) → partPut at cur y ≡ over (p ++ q) d
   then-part y f =
-      let none : drop (length cur - at) (drop at cur) ≡ [] = drop-of-length-le (drop at cur) (le-of-eq (length-drop at cur)) in
-      ap₂ _++_ starts (ap₂ _++_ (f ∙ ap (over q) (rest cur at ∙ remains)) none ∙ append-nil (over q (drop (length p) d))) ∙ joined
+      let none : drop (length cur - at) (drop at cur) ≡ [] =
+      drop-of-length-le (drop at cur) (le-of-eq (length-drop at cur)) in
+      ap₂ _++_ starts
+      (ap₂ _++_ (f ∙ ap (over q) (rest cur at ∙ remains)) none ∙ append-nil (over q (drop (length p) d))) ∙ joined
 
 -- ---- words, one after the other
 
@@ -118,7 +124,8 @@ module _ {ws d cur : List ℕ} {i : ℕ} (v : Storing ws d cur i) where
       let l = long in
       let w = v .within in
       let r = v .room in
-      ap length (v .so-far) ∙ length-append (bytesOfAll (take i ws)) (drop (length (bytesOfAll (take i ws))) d) ∙ omega (arith, length-drop (length (bytesOfAll (take i ws))) d)
+      ap length (v .so-far) ∙ length-append (bytesOfAll (take i ws)) (drop (length (bytesOfAll (take i ws))) d) ∙
+      omega (arith, length-drop (length (bytesOfAll (take i ws))) d)
 
   -- b is the next word's bytes, and the part from their place on comes back as y
   pub store-more : i < length ws → {b y : List ℕ} → b ≡ bytesOf wordBytes (getD ws i 0)
@@ -127,7 +134,8 @@ module _ {ws d cur : List ℕ} {i : ℕ} (v : Storing ws d cur i) where
   store-more h {b} {y} eb ey =
       let p : List ℕ = bytesOfAll (take i ws) in
       let longer : p ++ b ≡ bytesOfAll (take (i + 1) ws) =
-      ap (λ (l : List ℕ). p ++ l) (eb ∙ sym (append-nil (bytesOf wordBytes (getD ws i 0)))) ∙ sym (bytes-append (take i ws) (getD ws i 0 ∷ []))
+      ap (λ (l : List ℕ). p ++ l) (eb ∙ sym (append-nil (bytesOf wordBytes (getD ws i 0)))) ∙ sym
+      (bytes-append (take i ws) (getD ws i 0 ∷ []))
       ∙ ap bytesOfAll (sym (take-suc ws i 0 h) ∙ ap (λ (n : ℕ). take n ws) (sym (add-one i))) in
       record { within = omega arith; room = v .room; so-far = then-part p b d cur (wordBytes * i) (v .so-far) long y ey ∙ ap (λ (l : List ℕ). over l d) longer }
 

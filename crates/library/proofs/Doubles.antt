@@ -65,9 +65,12 @@ later d (suc i) h e =
     let t : List ℕ = drop (nameBytes * i) d in
     let long : nameBytes ≤ length t = rw length-drop (omega arith) in
     let e₁ : nameBytes * i + nameBytes ≡ nameBytes * suc i = omega arith in
-    let next : drop (nameBytes * suc i) d ≡ drop nameBytes t = sym (drop-drop nameBytes (nameBytes * i) d ∙ ap (λ (n : ℕ). drop n d) e₁) in
+    let next : drop (nameBytes * suc i) d ≡ drop nameBytes t =
+    sym (drop-drop nameBytes (nameBytes * i) d ∙ ap (λ (n : ℕ). drop n d) e₁) in
     later d i (omega arith)
-    (ap twice (cut-more nameBytes t (lit< tt) long) ∙ ap (λ (b : Bool). among (take nameBytes t) (namesIn (drop nameBytes t)) || b) (sym (ap (λ (l : List ℕ). twice (namesIn l)) next) ∙ e)
+    (ap twice (cut-more nameBytes t (lit< tt) long) ∙ ap
+    (λ (b : Bool). among (take nameBytes t) (namesIn (drop nameBytes t)) || b)
+    (sym (ap (λ (l : List ℕ). twice (namesIn l)) next) ∙ e)
     ∙ or-right (among (take nameBytes t) (namesIn (drop nameBytes t))))
   where
     or-right : (a : Bool) → a || true ≡ true
@@ -99,7 +102,8 @@ marks-all {d} {marks} {i} v h = let e : i ≡ 0 = omega arith in sym (rw e at (v
 pub holds-name : {d marks : List ℕ} {i : ℕ} → Marked d marks i → 0 < i → nameBytes ≤ length (fromName (i - 1) d)
 holds-name v h = let w = v .within in rw (rest, length-drop) (omega arith)
 
--- one turn: t is the directory from the name before place i on, with its words low and high and its mark's number k; found is what looking it up gave
+-- one turn: t is the directory from the name before place i on, with its words low and high and its mark's number k;
+-- found is what looking it up gave
 module _ {d marks : List ℕ} {i : ℕ} (v : Marked d marks i) (pos : 0 < i) {low high k : ℕ} {found : Bool}
     (p : Word (fromName (i - 1) d) low) (q : Word (drop wordBytes (fromName (i - 1) d)) high)
     (ek : k ≡ slotOf low high) (hk : k < slots)
@@ -113,7 +117,9 @@ module _ {d marks : List ℕ} {i : ℕ} (v : Marked d marks i) (pos : 0 < i) {lo
 
   next : drop nameBytes t ≡ drop (nameBytes * i) d
   unfolding t
-  next = let e : nameBytes * (i - 1) + nameBytes ≡ nameBytes * i = omega arith in drop-drop nameBytes (nameBytes * (i - 1)) d ∙ ap (λ (n : ℕ). drop n d) e
+  next =
+      let e : nameBytes * (i - 1) + nameBytes ≡ nameBytes * i = omega arith in
+      drop-drop nameBytes (nameBytes * (i - 1)) d ∙ ap (λ (n : ℕ). drop n d) e
 
   part : fromName (i - 1) d ≡ t
   unfolding t
@@ -149,14 +155,16 @@ module _ {d marks : List ℕ} {i : ℕ} (v : Marked d marks i) (pos : 0 < i) {lo
   pub marks-more : found ≡ false → Marked d (set marks k 1) (i - 1)
   unfolding t
   marks-more e =
-      let a : among x (namesIn (drop (nameBytes * i) d)) ≡ false = by-mark (getD marks k 0) _ found (λ h. ap (λ (n : ℕ). getD marks n 0) (sym is-mark) ∙ v .marked x h) looked e in
+      let a : among x (namesIn (drop (nameBytes * i) d)) ≡ false =
+      by-mark (getD marks k 0) _ found (λ h. ap (λ (n : ℕ). getD marks n 0) (sym is-mark) ∙ v .marked x h) looked e in
       let hs : k < length marks = let l = v .kept in omega arith in
       record {
         within = let w = v .within in omega arith;
         kept = length-set marks k 1 ∙ v .kept;
         single = ap twice from-here ∙ or-false a ∙ v .single;
         marked = λ y h.
-            mark-cons y x (namesIn (drop (nameBytes * i) d)) (set marks k 1) (same y x) refl (sym (ap (among y) from-here) ∙ h)
+            mark-cons y x (namesIn (drop (nameBytes * i) d)) (set marks k 1) (same y x) refl
+            (sym (ap (among y) from-here) ∙ h)
             (λ f. ap (λ (n : ℕ). getD (set marks k 1) n 0) (ap markOf f ∙ is-mark) ∙ getD-set-same marks k 1 0 hs)
             (λ f. stays marks (markOf y) k (v .marked y f));
       }

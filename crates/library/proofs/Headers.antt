@@ -60,13 +60,15 @@ module _ (v n d r w l : ℕ) {k : ℕ} (e : k ≡ wordsOf v) where
         unfolding agree
         agree-records h =
             sym
-            (and-true known ∙ and-true (le-leb n mostCards hn) ∙ and-true (eq-eqb d headerBytes hd) ∙ and-false (ne-eqb r (recordsAt n) h) _)
+            (and-true known ∙ and-true (le-leb n mostCards hn) ∙ and-true (eq-eqb d headerBytes hd) ∙ and-false
+            (ne-eqb r (recordsAt n) h) _)
 
         module _ (hr : r ≡ recordsAt n) where
           so-far : agree v n d r w l ≡ (eqb w (wholeOf k n) && eqb l (wholeOf k n))
           unfolding agree
           so-far =
-              and-true known ∙ and-true (le-leb n mostCards hn) ∙ and-true (eq-eqb d headerBytes hd) ∙ and-true (eq-eqb r (recordsAt n) hr)
+              and-true known ∙ and-true (le-leb n mostCards hn) ∙ and-true (eq-eqb d headerBytes hd) ∙ and-true
+              (eq-eqb r (recordsAt n) hr)
               ∙ ap (λ (m : ℕ). eqb w (wholeOf m n) && eqb l (wholeOf m n)) (sym e)
 
           pub agree-whole : (w ≡ wholeOf k n → ⊥) → false ≡ agree v n d r w l
@@ -99,7 +101,9 @@ pub agreed : (v n d r w l : ℕ) → agree v n d r w l ≡ true → Agreed v n d
 unfolding agree
 agreed v n d r w l e =
     let m = wholeOf (wordsOf v) n in
-    let e₁ = both (ltb 0 (wordsOf v)) (leb n mostCards && (eqb d headerBytes && (eqb r (recordsAt n) && (eqb w m && eqb l m)))) e in
+    let e₁ =
+    both (ltb 0 (wordsOf v)) (leb n mostCards && (eqb d headerBytes && (eqb r (recordsAt n) && (eqb w m && eqb l m))))
+    e in
     let e₂ = both (leb n mostCards) (eqb d headerBytes && (eqb r (recordsAt n) && (eqb w m && eqb l m))) (e₁ .1) in
     let e₃ = both (eqb d headerBytes) (eqb r (recordsAt n) && (eqb w m && eqb l m)) (e₂ .1) in
     let e₄ = both (eqb r (recordsAt n)) (eqb w m && eqb l m) (e₃ .1) in
@@ -127,7 +131,9 @@ abbrev pub directoryPart : List ℕ → ℕ → List ℕ
 directoryPart s n = take (recordsAt n - headerBytes) (drop headerBytes s)
 
 pub directory-part : (s : List ℕ) {n : ℕ} → n ≡ count s → directoryPart s n ≡ directory s
-directory-part s {n} e = let f : recordsAt n - headerBytes ≡ nameBytes * count s = omega arith in ap (λ (k : ℕ). take k (drop headerBytes s)) f
+directory-part s {n} e =
+    let f : recordsAt n - headerBytes ≡ nameBytes * count s = omega arith in
+    ap (λ (k : ℕ). take k (drop headerBytes s)) f
 
 -- a right header has a version that is known
 pub known-width : (s : List ℕ) → headed s ≡ true → 0 < wordsOf (version s)

@@ -44,7 +44,8 @@ words-back-of : (ws : List ℕ) → Below (2 ^ 64) ws → wordsIn (bytesOfAll ws
 words-back-of [] b = words-none [] (lit< tt)
 words-back-of (x ∷ ws) b =
     let long : wordBytes ≤ length (bytesOfAll (x ∷ ws)) = rw length-all (omega arith) in
-    words-more (bytesOfAll (x ∷ ws)) long ∙ ap₂ (λ (y : ℕ) (l : List ℕ). y ∷ l) (le-bytes wordBytes x (b 0)) (words-back-of ws (λ i. b (suc i)))
+    words-more (bytesOfAll (x ∷ ws)) long ∙ ap₂ (λ (y : ℕ) (l : List ℕ). y ∷ l) (le-bytes wordBytes x (b 0))
+    (words-back-of ws (λ i. b (suc i)))
 
 bytes-back : (m : ℕ) (s : List ℕ) → length s ≡ wordBytes * m → Below byteValues s → bytesOfAll (wordsIn s) ≡ s
 bytes-back zero [] e b = ap bytesOfAll (words-none [] (lit< tt))
@@ -53,9 +54,11 @@ bytes-back (suc m) s e b =
     let long : wordBytes ≤ length s = omega arith in
     let t : List ℕ = take wordBytes s in
     let first : bytesOf wordBytes (le t) ≡ t =
-    ap (λ (n : ℕ). bytesOf n (le t)) (sym (length-take-le wordBytes s long)) ∙ bytes-le t (below-take byteValues wordBytes s (lit< tt) b) in
+    ap (λ (n : ℕ). bytesOf n (le t)) (sym (length-take-le wordBytes s long)) ∙ bytes-le t
+    (below-take byteValues wordBytes s (lit< tt) b) in
     let shorter : length (drop wordBytes s) ≡ wordBytes * m = rw length-drop (omega arith) in
-    ap bytesOfAll (words-more s long) ∙ ap₂ _++_ first (bytes-back m (drop wordBytes s) shorter (below-drop byteValues wordBytes s b)) ∙ take-append-drop wordBytes s
+    ap bytesOfAll (words-more s long) ∙ ap₂ _++_ first
+    (bytes-back m (drop wordBytes s) shorter (below-drop byteValues wordBytes s b)) ∙ take-append-drop wordBytes s
 
 -- ---- the library that names and words make
 
@@ -88,7 +91,9 @@ module _ {v : ℕ} {ns ws : List ℕ} {n k : ℕ} (o : Offered v ns ws n k) wher
   pub words-back : Below (2 ^ 64) ws → wordsIn (records (libraryOf v ns ws)) ≡ ws
   unfolding s
   words-back b =
-      ap wordsIn (ap (λ (m : ℕ). drop (recordsAt m) s) is-count ∙ sym (drop-drop (nameBytes * n) headerBytes s) ∙ ap (drop (nameBytes * n)) body ∙ drop-at ns (bytesOfAll ws) (nameBytes * n) (o .names-long))
+      ap wordsIn
+      (ap (λ (m : ℕ). drop (recordsAt m) s) is-count ∙ sym (drop-drop (nameBytes * n) headerBytes s) ∙ ap
+      (drop (nameBytes * n)) body ∙ drop-at ns (bytesOfAll ws) (nameBytes * n) (o .names-long))
       ∙ words-back-of ws b
 
   -- its header's numbers, each where it belongs
@@ -98,15 +103,19 @@ module _ {v : ℕ} {ns ws : List ℕ} {n k : ℕ} (o : Offered v ns ws n k) wher
       let m : ℕ = namesHeld ns in
       let em : m ≡ n = sym (o .is-count) in
       let ek : wordsOf v ≡ k = sym (o .is-width) in
-      let f₁ : recordsOffset s ≡ recordsAt (count s) = le-bytes 4 (recordsAt m) (let f = o .cards in omega arith) ∙ ap recordsAt (em ∙ sym is-count) in
+      let f₁ : recordsOffset s ≡ recordsAt (count s) =
+      le-bytes 4 (recordsAt m) (let f = o .cards in omega arith) ∙ ap recordsAt (em ∙ sym is-count) in
       let same : wholeOf (wordsOf v) m ≡ wholeOf (wordsOf (version s)) (count s) =
       ap₂ wholeOf (ap wordsOf (sym is-version)) (em ∙ sym is-count) in
-      let small : wholeOf (wordsOf v) m < byteValues ^ 4 = rw (ek, em) (let f = o .cards in let g = o .words in omega arith) in
-      let f₂ : wholeLength s ≡ wholeOf (wordsOf (version s)) (count s) = le-bytes 4 (wholeOf (wordsOf v) m) small ∙ same in
+      let small : wholeOf (wordsOf v) m < byteValues ^ 4 =
+      rw (ek, em) (let f = o .cards in let g = o .words in omega arith) in
+      let f₂ : wholeLength s ≡ wholeOf (wordsOf (version s)) (count s) =
+      le-bytes 4 (wholeOf (wordsOf v) m) small ∙ same in
       let f₃ : length s ≡ wholeOf (wordsOf (version s)) (count s) = whole ∙ ap₂ wholeOf (sym ek) (sym em) ∙ same in
       and-true (lt-ltb 0 (wordsOf (version s)) (rw is-version (o .known)))
       ∙ and-true (le-leb (count s) mostCards (let f = o .cards in omega (arith, is-count)))
-      ∙ and-true (eq-eqb (directoryOffset s) headerBytes refl) ∙ and-true (eq-eqb _ _ f₁) ∙ and-true (eq-eqb _ _ f₂) ∙ eq-eqb _ _ f₃
+      ∙ and-true (eq-eqb (directoryOffset s) headerBytes refl) ∙ and-true (eq-eqb _ _ f₁) ∙ and-true (eq-eqb _ _ f₂) ∙
+      eq-eqb _ _ f₃
 
   pub is-sound : SoundLibrary (libraryOf v ns ws)
   unfolding s
@@ -122,7 +131,8 @@ module _ {v : ℕ} {ns ws : List ℕ} {n k : ℕ} (o : Offered v ns ws n k) wher
   pub made : Inspected (libraryOf v ns ws) n k
   unfolding s
   made =
-      let e : _≡_ {A = ℕ × ℕ} (numbersOf s) (n, k) = ap₂ (λ (a b : ℕ). (a, b)) is-count (ap wordsOf is-version ∙ sym (o .is-width)) in
+      let e : _≡_ {A = ℕ × ℕ} (numbersOf s) (n, k) =
+      ap₂ (λ (a b : ℕ). (a, b)) is-count (ap wordsOf is-version ∙ sym (o .is-width)) in
       inspected s (library-pass is-sound ∙ ap yes e)
 
 -- ---- reading after writing
@@ -153,12 +163,16 @@ read-after-write {v} {ns} {ws} {l} {l′} {m} {n₀} {w₀} {r = r} w b d hn hw 
     let o = t .0 in
     let s : List ℕ = libraryOf v ns ws in
     let long : length s ≡ m = made o .long ∙ sym (t .1) in
-    let back : take m l′ ≡ s = ap (take m) (w .library ∙ ap (λ (a : Verdict ℕ). left a s l) (sym answer)) ∙ take-at s (drop (length s) l) m long in
+    let back : take m l′ ≡ s =
+    ap (take m) (w .library ∙ ap (λ (a : Verdict ℕ). left a s l) (sym answer)) ∙ take-at s (drop (length s) l) m long
+    in
     let e : read (take m l′) (length n₀) (length w₀) ≡ yes (namesHeld ns) =
     rw back (read-yes s n₀ w₀ (made o) (rw (o .names-long) at hn) (rw (o .words-long) at hw)) in (
       reading-told r (read (take m l′) (length n₀) (length w₀)) (d .answer) ∙ ap asReading e,
-      d .names ∙ ap (λ (a : Verdict ℕ). left a (directory (take m l′)) n₀) e ∙ ap (λ (x : List ℕ). over x n₀) (ap directory back ∙ names-back o),
-      d .words ∙ ap (λ (a : Verdict ℕ). left a (wordsIn (records (take m l′))) w₀) e ∙ ap (λ (x : List ℕ). over x w₀) (ap (λ (y : List ℕ). wordsIn (records y)) back ∙ words-back o b),
+      d .names ∙ ap (λ (a : Verdict ℕ). left a (directory (take m l′)) n₀) e ∙ ap (λ (x : List ℕ). over x n₀)
+          (ap directory back ∙ names-back o),
+      d .words ∙ ap (λ (a : Verdict ℕ). left a (wordsIn (records (take m l′))) w₀) e ∙ ap (λ (x : List ℕ). over x w₀)
+          (ap (λ (y : List ℕ). wordsIn (records y)) back ∙ words-back o b),
     )
 
 -- ---- writing after reading
@@ -171,7 +185,8 @@ module _ {s : List ℕ} (g : SoundLibrary s) (b : Below byteValues s) where
   field : (k at : ℕ) → at + k ≤ length s → bytesOf k (leAt k s at) ≡ take k (drop at s)
   field k at h =
       let m : length (take k (drop at s)) ≡ k = length-take-le k (drop at s) (rw length-drop (omega arith)) in
-      ap (λ (i : ℕ). bytesOf i (leAt k s at)) (sym m) ∙ bytes-le (take k (drop at s)) (below-take byteValues k (drop at s) (lit< tt) (below-drop byteValues at s b))
+      ap (λ (i : ℕ). bytesOf i (leAt k s at)) (sym m) ∙ bytes-le (take k (drop at s))
+      (below-take byteValues k (drop at s) (lit< tt) (below-drop byteValues at s b))
 
   header-back : headerOf (version s) (count s) ≡ take headerBytes s
   unfolding headerOf
@@ -179,16 +194,23 @@ module _ {s : List ℕ} (g : SoundLibrary s) (b : Below byteValues s) where
       let h : headerBytes ≤ length s = let l = a .long in omega arith in
       let f₀ = field 2 0 (omega arith) in
       let f₁ = field 2 2 (omega arith) in
-      let f₂ : bytesOf 4 headerBytes ≡ take 4 (drop 4 s) = ap (bytesOf 4) (sym (a .directory)) ∙ field 4 4 (omega arith) in
-      let f₃ : bytesOf 4 (recordsAt (count s)) ≡ take 4 (drop 8 s) = ap (bytesOf 4) (sym (a .records)) ∙ field 4 8 (omega arith) in
-      let f₄ : bytesOf 4 (wholeOf (wordsOf (version s)) (count s)) ≡ take 4 (drop 12 s) = ap (bytesOf 4) (sym (a .whole)) ∙ field 4 12 (omega arith) in
+      let f₂ : bytesOf 4 headerBytes ≡ take 4 (drop 4 s) =
+      ap (bytesOf 4) (sym (a .directory)) ∙ field 4 4 (omega arith) in
+      let f₃ : bytesOf 4 (recordsAt (count s)) ≡ take 4 (drop 8 s) =
+      ap (bytesOf 4) (sym (a .records)) ∙ field 4 8 (omega arith) in
+      let f₄ : bytesOf 4 (wholeOf (wordsOf (version s)) (count s)) ≡ take 4 (drop 12 s) =
+      ap (bytesOf 4) (sym (a .whole)) ∙ field 4 12 (omega arith) in
       let g₁ : bytesOf 2 (version s) ++ bytesOf 2 (count s) ≡ take 4 s = ap₂ _++_ f₀ f₁ ∙ sym (take-add 2 2 s) in
-      let g₂ : bytesOf 2 (version s) ++ bytesOf 2 (count s) ++ bytesOf 4 headerBytes ≡ take 8 s = ap₂ _++_ g₁ f₂ ∙ sym (take-add 4 4 s) in
-      let g₃ : bytesOf 2 (version s) ++ bytesOf 2 (count s) ++ bytesOf 4 headerBytes ++ bytesOf 4 (recordsAt (count s)) ≡ take 12 s = ap₂ _++_ g₂ f₃ ∙ sym (take-add 8 4 s) in
+      let g₂ : bytesOf 2 (version s) ++ bytesOf 2 (count s) ++ bytesOf 4 headerBytes ≡ take 8 s =
+      ap₂ _++_ g₁ f₂ ∙ sym (take-add 4 4 s) in
+      let g₃ : bytesOf 2 (version s) ++ bytesOf 2 (count s) ++ bytesOf 4 headerBytes ++ bytesOf 4 (recordsAt (count s)) ≡ take 12 s =
+      ap₂ _++_ g₂ f₃ ∙ sym (take-add 8 4 s) in
       ap₂ _++_ g₃ f₄ ∙ sym (take-add 12 4 s)
 
   names-long : length (directory s) ≡ nameBytes * count s
-  names-long = let l = a .long in length-take-le (nameBytes * count s) (drop headerBytes s) (rw length-drop (omega arith))
+  names-long =
+      let l = a .long in
+      length-take-le (nameBytes * count s) (drop headerBytes s) (rw length-drop (omega arith))
 
   records-long : length (records s) ≡ wordBytes * (wordsOf (version s) * count s)
   records-long = let l = a .long in length-drop (recordsAt (count s)) s ∙ omega arith
@@ -202,8 +224,11 @@ module _ {s : List ℕ} (g : SoundLibrary s) (b : Below byteValues s) where
   written-back : libraryOf (version s) (directory s) (wordsIn (records s)) ≡ s
   written-back =
       let names : headerOf (version s) (namesHeld (directory s)) ++ directory s ≡ take (recordsAt (count s)) s =
-      ap (λ (h : List ℕ). h ++ directory s) (ap (headerOf (version s)) cards ∙ header-back) ∙ sym (take-add headerBytes (nameBytes * count s) s) in
-      ap₂ _++_ names (bytes-back (wordsOf (version s) * count s) (records s) records-long (below-drop byteValues (recordsAt (count s)) s b)) ∙ take-append-drop (recordsAt (count s)) s
+      ap (λ (h : List ℕ). h ++ directory s) (ap (headerOf (version s)) cards ∙ header-back) ∙ sym
+      (take-add headerBytes (nameBytes * count s) s) in
+      ap₂ _++_ names
+      (bytes-back (wordsOf (version s) * count s) (records s) records-long
+      (below-drop byteValues (recordsAt (count s)) s b)) ∙ take-append-drop (recordsAt (count s)) s
 
   meets-one : offered (version s) (directory s) (wordsIn (records s)) ≡ true
   unfolding offered
@@ -211,7 +236,8 @@ module _ {s : List ℕ} (g : SoundLibrary s) (b : Below byteValues s) where
       let n = cards in
       let l = names-long in
       let h = a .cards in
-      and-true (lt-ltb 0 (wordsOf (version s)) (a .known)) ∙ and-true (eq-eqb (length (directory s)) (nameBytes * (namesHeld (directory s))) (omega arith))
+      and-true (lt-ltb 0 (wordsOf (version s)) (a .known)) ∙ and-true
+      (eq-eqb (length (directory s)) (nameBytes * (namesHeld (directory s))) (omega arith))
       ∙ and-true (le-leb (namesHeld (directory s)) mostCards (omega arith))
       ∙ eq-eqb _ _ (words-long ∙ ap (λ (m : ℕ). wordsOf (version s) * m) (sym cards))
 
@@ -219,7 +245,8 @@ module _ {s : List ℕ} (g : SoundLibrary s) (b : Below byteValues s) where
   unfolding offerJudged
   is-offered =
       offers (version s) (directory s) (wordsIn (records s))
-      (passed (ap not meets-one) Malformed _ ∙ names-pass (g .names) _ ∙ ap (λ (n : ℕ). yes (n, wordsOf (version s))) cards)
+      (passed (ap not meets-one) Malformed _ ∙ names-pass (g .names) _ ∙ ap (λ (n : ℕ). yes (n, wordsOf (version s)))
+      cards)
 
 -- what a verdict of reading that gives a count says
 read-yes-of : (s : List ℕ) (p q : ℕ) {n : ℕ} → read s p q ≡ yes n → SoundLibrary s × (n ≡ count s)
@@ -233,26 +260,33 @@ read-yes-of s p q e =
     same : {x y : ℕ} → yes x ≡ yes y → x ≡ y
     same e = cc
 
--- a library that was read into any buffers and is written from their starts into any buffer that is long enough comes back
+-- a library that was read into any buffers and is written from their starts into any buffer that is long enough comes
+-- back
 pub write-after-read : {s ns ws ns′ ws′ : List ℕ} {n : ℕ} {l l′ : List ℕ} {r : Writing}
     → Reads s ns ws (Cards n) ns′ ws′ → Below byteValues s
     → Writes (version s) (take (nameBytes * n) ns′) (take (wordsOf (version s) * n) ws′) l r l′ → length s ≤ length l
     → (r ≡ Bytes (length s)) × (l′ ≡ over s l)
 write-after-read {s} {ns} {ws} {ns′} {ws′} {n} {l} {l′} {r} d b w h =
-    let answer : yes n ≡ read s (length ns) (length ws) = tells-one (yes n) (read s (length ns) (length ws)) (d .answer) in
+    let answer : yes n ≡ read s (length ns) (length ws) =
+    tells-one (yes n) (read s (length ns) (length ws)) (d .answer) in
     let t = read-yes-of s (length ns) (length ws) (sym answer) in
     let g = t .0 in
     let v : ℕ = version s in
     let dir : take (nameBytes * n) ns′ ≡ directory s =
     ap (take (nameBytes * n)) (d .names ∙ ap (λ (x : Verdict ℕ). left x (directory s) ns) (sym answer))
-    ∙ take-at (directory s) (drop (length (directory s)) ns) (nameBytes * n) (names-long g b ∙ ap (λ (m : ℕ). nameBytes * m) (sym (t .1))) in
+    ∙ take-at (directory s) (drop (length (directory s)) ns) (nameBytes * n)
+    (names-long g b ∙ ap (λ (m : ℕ). nameBytes * m) (sym (t .1))) in
     let wds : take (wordsOf v * n) ws′ ≡ wordsIn (records s) =
     ap (take (wordsOf v * n)) (d .words ∙ ap (λ (x : Verdict ℕ). left x (wordsIn (records s)) ws) (sym answer))
-    ∙ take-at (wordsIn (records s)) (drop (length (wordsIn (records s))) ws) (wordsOf v * n) (words-long g b ∙ ap (λ (m : ℕ). wordsOf v * m) (sym (t .1))) in
+    ∙ take-at (wordsIn (records s)) (drop (length (wordsIn (records s))) ws) (wordsOf v * n)
+    (words-long g b ∙ ap (λ (m : ℕ). wordsOf v * m) (sym (t .1))) in
     let long : length s ≡ wholeOf (wordsOf v) (count s) = a g b .long in
     let e : written v (take (nameBytes * n) ns′) (take (wordsOf v * n) ws′) (length l) ≡ yes (length s) =
-    rw (dir, wds) (write-yes v (directory s) (wordsIn (records s)) l (is-offered g b) (rw long at h) ∙ ap yes (sym long)) in (
-      writing-told r (written v (take (nameBytes * n) ns′) (take (wordsOf v * n) ws′) (length l)) (w .answer) ∙ ap asWriting e,
-      w .library ∙ ap (λ (x : Verdict ℕ). left x (libraryOf v (take (nameBytes * n) ns′) (take (wordsOf v * n) ws′)) l) e
+    rw (dir, wds)
+    (write-yes v (directory s) (wordsIn (records s)) l (is-offered g b) (rw long at h) ∙ ap yes (sym long)) in (
+      writing-told r (written v (take (nameBytes * n) ns′) (take (wordsOf v * n) ws′) (length l)) (w .answer) ∙ ap
+          asWriting e,
+      w .library ∙ ap
+          (λ (x : Verdict ℕ). left x (libraryOf v (take (nameBytes * n) ns′) (take (wordsOf v * n) ws′)) l) e
           ∙ ap (λ (x : List ℕ). over x l) (ap₂ (libraryOf v) dir wds ∙ written-back g b),
     )

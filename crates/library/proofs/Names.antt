@@ -68,7 +68,9 @@ module _ {x d t : List ℕ} {i : ℕ} (v : Placed x d t i) (h : nameBytes ≤ le
   place-here e = let f = place-step e in omega arith
 
   pub place-on : same x (take nameBytes t) ≡ false → Placed x d (take (length t - nameBytes) (drop nameBytes t)) (i + 1)
-  place-on e = let f = place-step e in rw (rest t nameBytes) (record { counted = rw (length-drop nameBytes t) (omega arith); so-far = omega arith })
+  place-on e =
+      let f = place-step e in
+      rw (rest t nameBytes) (record { counted = rw (length-drop nameBytes t) (omega arith); so-far = omega arith })
 
 one-more : (a b : ℕ) (t : Bool) → ltb a b ≡ t → t ≡ ltb (suc a) (suc b)
 one-more a b true e = sym (lt-ltb (suc a) (suc b) (suc-le-suc (ltb-true a b e)))

@@ -49,7 +49,8 @@ module _ (v : ℕ) (ns ws : List ℕ) {k : ℕ} (e : k ≡ wordsOf v) where
         so-far : offered v ns ws ≡ eqb (length ws) (k * (namesHeld ns))
         unfolding offered
         so-far =
-            and-true known ∙ and-true (eq-eqb _ _ hn) ∙ and-true (le-leb _ mostCards hc) ∙ ap (λ (m : ℕ). eqb (length ws) (m * (namesHeld ns))) (sym e)
+            and-true known ∙ and-true (eq-eqb _ _ hn) ∙ and-true (le-leb _ mostCards hc) ∙ ap
+            (λ (m : ℕ). eqb (length ws) (m * (namesHeld ns))) (sym e)
 
         pub offer-words : (length ws ≡ k * (namesHeld ns) → ⊥) → no Malformed ≡ offerJudged v ns ws
         offer-words h = refuse (so-far ∙ ne-eqb _ _ h)
@@ -139,8 +140,10 @@ module _ (v : ℕ) (ns ws l : List ℕ) where
         let head : List ℕ = headerOf v n in
         let l₂ : List ℕ = partPut headerBytes l₁ y in
         let s₂ : l₂ ≡ over (head ++ ns) l = then-part head ns l l₁ headerBytes e₁ (length-header v n) y ey in
-        let k₂ : length (head ++ ns) ≡ recordsAt n = length-append head ns ∙ omega (arith, length-header v n, o .names-long) in
+        let k₂ : length (head ++ ns) ≡ recordsAt n =
+        length-append head ns ∙ omega (arith, length-header v n, o .names-long) in
         let s₃ = then-part (head ++ ns) (bytesOfAll ws) l l₂ (recordsAt n) s₂ k₂ z ez in
-        let same : head ++ ns ++ bytesOfAll ws ≡ libraryOf v ns ws = ap (λ (m : ℕ). headerOf v m ++ ns ++ bytesOfAll ws) (o .is-count) in
+        let same : head ++ ns ++ bytesOfAll ws ≡ libraryOf v ns ws =
+        ap (λ (m : ℕ). headerOf v m ++ ns ++ bytesOfAll ws) (o .is-count) in
         rw (s₃, same)
         (writes-by (yes (wholeOf k n)) (write-yes h) (Bytes (wholeOf k n)) refl)

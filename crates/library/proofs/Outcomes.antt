@@ -132,7 +132,8 @@ module _ (s x : List ℕ) where
     locate-name h = rw (v .judged, h)
 
     -- i is what searching the directory's part gave
-    module _ (h : asked x ≡ true) {i : ℕ} {w : List ℕ} (ew : w ≡ padded x) (ei : i ≡ placeOf w (namesIn (directoryPart s n))) where
+    module _ (h : asked x ≡ true) {i : ℕ} {w : List ℕ} (ew : w ≡ padded x)
+        (ei : i ≡ placeOf w (namesIn (directoryPart s n))) where
       place : placeOf (padded x) (namesIn (directory s)) ≡ i
       place = sym (ei ∙ ap₂ (λ (a b : List ℕ). placeOf a (namesIn b)) ew (directory-part s (v .is-count)))
 
@@ -164,7 +165,9 @@ located-within s x {at} {size} e =
     let n : ℕ = g .value .0 in
     let k : ℕ = g .value .1 in
     let v : Inspected s n k = inspected s (g .first) in
-    let h : i < n = ltb-true i n (ap (ltb i) (sym (names-count v)) ∙ sym (among-place (padded x) (namesIn (directory s))) ∙ not-false _ (q .0)) in
+    let h : i < n =
+    ltb-true i n
+    (ap (ltb i) (sym (names-count v)) ∙ sym (among-place (padded x) (namesIn (directory s))) ∙ not-false _ (q .0)) in
     let r : k * i + k ≤ k * n = record-within k h in
     let o : _≡_ {A = ℕ × ℕ} (recordOf (g .value) i) (at, size) = cc in
     let a : at ≡ recordsAt n + wordBytes * (k * i) = sym (ap (λ (w : ℕ × ℕ). w .0) o) in

@@ -28,7 +28,8 @@ use Rattle.refusal.specs.declared.Refusal.the-variants.{BadName, Malformed, Nam
 
 none-draws : {A B : Type 0} (p q r : Bool) (next : A → Verdict B) (a : A)
     → let v = refuseIf p Malformed (refuseIf q BadName (refuseIf r NameTwice (yes a))) in
-    (andThen v next ≡ no Malformed → ⊥) → (andThen v next ≡ no BadName → ⊥) → (andThen v next ≡ no NameTwice → ⊥) → v ≡ yes a
+    (andThen v next ≡ no Malformed → ⊥) → (andThen v next ≡ no BadName → ⊥) → (andThen v next ≡ no NameTwice → ⊥) → v
+    ≡ yes a
 none-draws false false false next a h₁ h₂ h₃ = refl
 none-draws false false true next a h₁ h₂ h₃ = absurd (h₃ refl)
 none-draws false true r next a h₁ h₂ h₃ = absurd (h₂ refl)
@@ -38,7 +39,8 @@ pub not-refused : (s : List ℕ) (a b : ℕ)
     → (read s a b ≡ no Malformed → ⊥) → (read s a b ≡ no BadName → ⊥) → (read s a b ≡ no NameTwice → ⊥) → Sound s
 unfolding read libraryJudged namesJudged
 not-refused s a b h₁ h₂ h₃ =
-    none-draws (not (headed s)) (not (allNamed (namesIn (directory s)))) (twice (namesIn (directory s))) _ (numbersOf s) h₁ h₂ h₃
+    none-draws (not (headed s)) (not (allNamed (namesIn (directory s)))) (twice (namesIn (directory s))) _
+    (numbersOf s) h₁ h₂ h₃
 
 -- a sound library is read wherever the buffers are long enough
 pub sound-read : {s ns ws ns′ ws′ : List ℕ} {r : Reading}
@@ -110,7 +112,8 @@ unfolding offered wordsOf
 meets-one n h =
     let l = names-long n in
     let m : namesHeld (namesOf n) ≡ n = omega arith in
-    and-true (eq-eqb (length (namesOf n)) (nameBytes * (namesHeld (namesOf n))) (omega arith)) ∙ and-true (le-leb (namesHeld (namesOf n)) mostCards (omega arith))
+    and-true (eq-eqb (length (namesOf n)) (nameBytes * (namesHeld (namesOf n))) (omega arith)) ∙ and-true
+    (le-leb (namesHeld (namesOf n)) mostCards (omega arith))
     ∙ eq-eqb _ _ (length-replicate (wordsOf writtenVersion * n) 0 ∙ ap (λ (k : ℕ). nameBytes * k) (sym m))
 
 -- a sound library of n cards
@@ -126,5 +129,8 @@ sound-of-every-size n h =
     let ws : List ℕ = replicate (wordsOf writtenVersion * n) 0 in
     let names : SoundNames ns = record { valid = all-well n h; single = single n } in
     let m : namesHeld ns ≡ n = let l = names-long n in omega arith in
-    let o : Offered writtenVersion ns ws n (wordsOf writtenVersion) = offers writtenVersion ns ws (passed (ap not (meets-one n h)) Malformed _ ∙ names-pass names _ ∙ ap (λ (k : ℕ). yes (k, wordsOf writtenVersion)) m) in
+    let o : Offered writtenVersion ns ws n (wordsOf writtenVersion) =
+    offers writtenVersion ns ws
+    (passed (ap not (meets-one n h)) Malformed _ ∙ names-pass names _ ∙ ap
+    (λ (k : ℕ). yes (k, wordsOf writtenVersion)) m) in
     record { library = libraryOf writtenVersion ns ws; sound = library-pass (is-sound o); cards = sym (made o .is-count) }

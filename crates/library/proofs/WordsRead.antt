@@ -35,7 +35,9 @@ pub at-place : (l : List ℕ) (i x : ℕ) (r : List ℕ) → drop i l ≡ x ∷ 
 at-place [] zero x r e = never (cc)
 at-place [] (suc i) x r e = never (cc)
 at-place (y ∷ l) zero x r e = record { below = omega arith; here = cc; after = cc }
-at-place (y ∷ l) (suc i) x r e = let a = at-place l i x r e in record { below = suc-le-suc (a .below); here = a .here; after = a .after }
+at-place (y ∷ l) (suc i) x r e =
+    let a = at-place l i x r e in
+    record { below = suc-le-suc (a .below); here = a .here; after = a .after }
 
 -- ---- words from bytes
 
@@ -69,5 +71,6 @@ module _ {src old cur t : List ℕ} {i : ℕ} (v : Loading src old cur t i) wher
 
   pub load-all : length t < wordBytes → cur ≡ over (wordsIn src) old
   load-all h =
-      let e : length (wordsIn src) - i ≡ 0 = sym (length-drop i (wordsIn src)) ∙ ap length (v .ahead ∙ words-none t h) in
+      let e : length (wordsIn src) - i ≡ 0 =
+      sym (length-drop i (wordsIn src)) ∙ ap length (v .ahead ∙ words-none t h) in
       let l : length (wordsIn src) ≤ i = omega arith in fill-all (v .filled) l

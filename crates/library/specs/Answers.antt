@@ -64,7 +64,8 @@ verdictRead (reading.Refused f) = no f
 abbrev pub toldRead : Reading → Answer ℕ
 toldRead r = tells (verdictRead r)
 
--- 1, 2, 3, then 5 where one of the outputs, a bytes and b words, is shorter than what it must hold; else the count of cards
+-- 1, 2, 3, then 5 where one of the outputs, a bytes and b words, is shorter than what it must hold; else the count of
+-- cards
 unfoldable pub read : List ℕ → ℕ → ℕ → Verdict ℕ
 read s a b =
     andThen (libraryJudged s)

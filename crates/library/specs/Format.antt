@@ -1,4 +1,5 @@
--- The form of a library: a header, the names, the records. Numbers are little-endian, and a version says how wide a record is.
+-- The form of a library: a header, the names, the records. Numbers are little-endian, and a version says how wide a
+-- record is.
 use mathlib.Core.Bool.{Bool, cond, _&&_}
 use mathlib.Core.List.{List, [], _∷_, _++_, map}
 use Prim.Native.Nat.{ℕ, _+_, _*_}
@@ -34,7 +35,8 @@ recordsAt n = headerBytes + nameBytes * n
 abbrev pub wholeOf : ℕ → ℕ → ℕ
 wholeOf k n = recordsAt n + wordBytes * (k * n)
 
--- the header's numbers: the version in bytes 0-1, the count of cards in 2-3, the directory's offset in 4-7, the records' in 8-11, the whole length in 12-15
+-- the header's numbers: the version in bytes 0-1, the count of cards in 2-3, the directory's offset in 4-7, the
+-- records' in 8-11, the whole length in 12-15
 abbrev pub version : List ℕ → ℕ
 version s = leAt 2 s 0
 
@@ -50,7 +52,8 @@ recordsOffset s = leAt 4 s 8
 abbrev pub wholeLength : List ℕ → ℕ
 wholeLength s = leAt 4 s 12
 
--- a version v that is known, a count n that is not too high, the directory after the header, the records after it, the whole length, and that very length l
+-- a version v that is known, a count n that is not too high, the directory after the header, the records after it,
+-- the whole length, and that very length l
 unfoldable pub agree : ℕ → ℕ → ℕ → ℕ → ℕ → ℕ → Bool
 agree v n directory records whole l =
     ltb 0 (wordsOf v)

@@ -43,8 +43,12 @@ writing-told (writing.Refused f) v e = ap asWriting (tells-one (no f) v e)
 pub unique-read : {s ns ws : List ℕ} {r r′ : Reading} {n n′ w w′ : List ℕ}
     → Reads s ns ws r n w → Reads s ns ws r′ n′ w′ → (r ≡ r′) × (n ≡ n′) × (w ≡ w′)
 unique-read {s} {ns} {ws} {r} {r′} a b =
-    let v = read s (length ns) (length ws) in
-    (unique-by-equation (reading-told r v (a .answer)) (reading-told r′ v (b .answer)), unique-by-equation (a .names) (b .names), unique-by-equation (a .words) (b .words))
+    let v = read s (length ns) (length ws) in (
+      unique-by-equation (reading-told r v (a .answer)) (reading-told r′ v (b .answer)),
+      unique-by-equation (a .names)
+          (b .names),
+      unique-by-equation (a .words) (b .words),
+    )
 
 pub unique-locate : (s x : List ℕ) (r r′ : Located)
     → toldLocated r ≡ tells (locating s x) → toldLocated r′ ≡ tells (locating s x) → r ≡ r′
@@ -58,5 +62,8 @@ unique-find a b = (unique-by-equation (a .bytes) (b .bytes), unique-by-equation 
 pub unique-write : {v : ℕ} {ns ws l : List ℕ} {r r′ : Writing} {m m′ : List ℕ}
     → Writes v ns ws l r m → Writes v ns ws l r′ m′ → (r ≡ r′) × (m ≡ m′)
 unique-write {v} {ns} {ws} {l} {r} {r′} a b =
-    let w = written v ns ws (length l) in
-    (unique-by-equation (writing-told r w (a .answer)) (writing-told r′ w (b .answer)), unique-by-equation (a .library) (b .library))
+    let w = written v ns ws (length l) in (
+      unique-by-equation (writing-told r w (a .answer)) (writing-told r′ w (b .answer)),
+      unique-by-equation
+          (a .library) (b .library),
+    )

@@ -67,7 +67,8 @@ module _ {s : List ℕ} {i : ℕ} (v : Bare s i) where
     within = omega arith;
     so-far =
         bare-step h (ne-eqb (getD s i 0) 0 n) ∙ sym (append-snoc (take i s) (getD s i 0) (unpadded (drop (i + 1) s)))
-        ∙ ap (λ (l : List ℕ). l ++ unpadded (drop (i + 1) s)) (sym (ap (λ (n : ℕ). take n s) (add-one i) ∙ take-suc s i 0 h));
+        ∙ ap (λ (l : List ℕ). l ++ unpadded (drop (i + 1) s))
+        (sym (ap (λ (n : ℕ). take n s) (add-one i) ∙ take-suc s i 0 h));
   }
 
   pub bare-stop : i < length s → getD s i 0 ≡ 0 → take i s ≡ unpadded s
@@ -136,5 +137,6 @@ module _ {s : List ℕ} {i x : ℕ} (v : Value s i x) where
   pub value-end : length s ≤ i → x ≡ min (decimalFrom 0 s) firstBeyond
   unfolding decimalFrom
   value-end h =
-      let g : min (decimalFrom 0 s) firstBeyond ≡ min x firstBeyond = v .so-far ∙ ap (λ (l : List ℕ). min (decimalFrom x l) firstBeyond) (none-left s i h) in
+      let g : min (decimalFrom 0 s) firstBeyond ≡ min x firstBeyond =
+      v .so-far ∙ ap (λ (l : List ℕ). min (decimalFrom x l) firstBeyond) (none-left s i h) in
       let b = v .held in omega arith

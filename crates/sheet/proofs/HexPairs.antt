@@ -140,7 +140,8 @@ module _ (w old : List ℕ) where
   pub dashed : true ≡ isDash w → ReadsHex w old (Bytes 0) old
   dashed e =
       let z = dash-alone w (sym e) in
-      answered (judged (sym e) refl refl) (ap (λ (l : List ℕ). Bytes (length l)) (sym z)) (ap (λ (l : List ℕ). over l old) (sym z))
+      answered (judged (sym e) refl refl) (ap (λ (l : List ℕ). Bytes (length l)) (sym z))
+      (ap (λ (l : List ℕ). over l old) (sym z))
 
   module _ (e : false ≡ isDash w) where
     pub too-many : length old < length w / 2 → ReadsHex w old Bad old

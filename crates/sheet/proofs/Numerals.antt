@@ -30,7 +30,9 @@ use Rattle.card.proofs.Whole.{below}
 digits-more : (b k x : ℕ) → 0 < k → digitsOf b k x ≡ digitsOf b (k - 1) (x / b) ++ glyphOf (x % b) ∷ []
 unfolding digitsOf
 digits-more b zero x h = absurd (not-suc-le-zero h)
-digits-more b (suc k) x h = let e : k ≡ suc k - 1 = omega arith in ap (λ (n : ℕ). digitsOf b n (x / b) ++ glyphOf (x % b) ∷ []) e
+digits-more b (suc k) x h =
+    let e : k ≡ suc k - 1 = omega arith in
+    ap (λ (n : ℕ). digitsOf b n (x / b) ++ glyphOf (x % b) ∷ []) e
 
 plain-one : (k x : ℕ) → 0 < k → x < 10 → plainDigits k x ≡ glyphOf x ∷ []
 unfolding plainDigits
@@ -40,7 +42,9 @@ plain-one (suc k) x h l = rw (lt-ltb x 10 l)
 plain-more : (k x : ℕ) → 0 < k → 10 ≤ x → plainDigits k x ≡ plainDigits (k - 1) (x / 10) ++ glyphOf (x % 10) ∷ []
 unfolding plainDigits
 plain-more zero x h l = absurd (not-suc-le-zero h)
-plain-more (suc k) x h l = let e : k ≡ suc k - 1 = omega arith in rw (le-ltb x 10 l) (ap (λ (n : ℕ). plainDigits n (x / 10) ++ glyphOf (x % 10) ∷ []) e)
+plain-more (suc k) x h l =
+    let e : k ≡ suc k - 1 = omega arith in
+    rw (le-ltb x 10 l) (ap (λ (n : ℕ). plainDigits n (x / 10) ++ glyphOf (x % 10) ∷ []) e)
 
 module _ {t r s : Text} {g : ℕ} (k x : ℕ) (h : 0 < k) where
   pub spell-on : (b : ℕ) → Adds t (digitsOf b (k - 1) (x / b)) r → g ≡ glyphOf (x % b) → Adds r (g ∷ []) s
@@ -72,8 +76,12 @@ near-end x h = let e : firstBeyond - 1 ≡ min x (firstBeyond - 1) = omega arith
 
 -- held at the first beyond them a number is as near to them as before
 pub held-near : (below : Bool) (n : ℕ) → nearest below (min n firstBeyond) ≡ nearest below n
-held-near false n = let e : min (min n firstBeyond) (firstBeyond - 1) ≡ min n (firstBeyond - 1) = omega arith in ap pos e
-held-near true n = let e : min (min n firstBeyond) firstBeyond ≡ min n firstBeyond = omega arith in ap (λ (m : ℕ). negℤ (pos m)) e
+held-near false n =
+    let e : min (min n firstBeyond) (firstBeyond - 1) ≡ min n (firstBeyond - 1) = omega arith in
+    ap pos e
+held-near true n =
+    let e : min (min n firstBeyond) firstBeyond ≡ min n firstBeyond = omega arith in
+    ap (λ (m : ℕ). negℤ (pos m)) e
 
 -- ---- signed numbers in digits
 

@@ -31,7 +31,8 @@ decimalValue l = decimalFrom 0 l
 abbrev pub firstBeyond : ℕ
 firstBeyond = 2 ^ 63
 
--- the signed number of 64 bits nearest to n, or to -n: itself, unless it is beyond them. The two ends, -2^63 and 2^63 - 1, are no card, transistor,
+-- the signed number of 64 bits nearest to n, or to -n: itself, unless it is beyond them. The two ends, -2^63 and 2^63
+-- - 1, are no card, transistor,
 -- node or voltage, so that a number beyond them is refused as they are.
 abbrev pub nearest : Bool → ℕ → ℤ
 nearest false n = pos (min n (firstBeyond - 1))

@@ -44,7 +44,8 @@ loop-again : tie.Need-loop-again Inv-loop μ-loop
 loop-again c =
     let a = (start-before-byte c) .args in
     down-more (c .before .before .loop .inv) (c .before .loop-test .taken) _
-    (c .byte .ensures .0 ∙ ap (λ (l : List ℕ). getD l (c .before .before .loop .i - 1) 0) (rest (a .s .now) (a .at))) (c .byte .ensures .1)
+    (c .byte .ensures .0 ∙ ap (λ (l : List ℕ). getD l (c .before .before .loop .i - 1) 0) (rest (a .s .now) (a .at)))
+    (c .byte .ensures .1)
 
 returns-2 : tie.Need-returns-2 Inv-loop μ-loop
 returns-2 c = down-last (c .before .loop .inv) (c .loop-test .left)

@@ -12,4 +12,5 @@ returns-2 c = rw rest at (c .word .ensures)
 
 pub u64-at-spec : {M : Type 1} → statement M
 u64-at-spec =
-    tie.close (tie.spec returns (λ c. search needs) (λ c. search needs) (λ c. search needs) (λ c κs. search needs) returns-2)
+    tie.close
+    (tie.spec returns (λ c. search needs) (λ c. search needs) (λ c. search needs) (λ c κs. search needs) returns-2)

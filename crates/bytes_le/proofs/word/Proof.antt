@@ -34,7 +34,10 @@ else1-before-wide8 c =
 
 returns-2 : tie.Need-returns-2
 returns-2 c =
-    whole-word _ _ _ _ _ _ _ _ _ ((wide-before-wide8 c) .wide .ensures) ((wide2-before-wide8 c) .wide2 .ensures) ((wide3-before-wide8 c) .wide3 .ensures) ((wide4-before-wide8 c) .wide4 .ensures) ((wide5-before-wide8 c) .wide5 .ensures) ((wide6-before-wide8 c) .wide6 .ensures) (c .before .before .wide7 .ensures) (c .wide8 .ensures)
+    whole-word _ _ _ _ _ _ _ _ _ ((wide-before-wide8 c) .wide .ensures) ((wide2-before-wide8 c) .wide2 .ensures)
+    ((wide3-before-wide8 c) .wide3 .ensures) ((wide4-before-wide8 c) .wide4 .ensures)
+    ((wide5-before-wide8 c) .wide5 .ensures) ((wide6-before-wide8 c) .wide6 .ensures)
+    (c .before .before .wide7 .ensures) (c .wide8 .ensures)
     ((else1-before-wide8 c) .if1 .left) _ refl
 
 pub word-spec : {M : Type 1} → statement M

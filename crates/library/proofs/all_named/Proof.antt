@@ -42,7 +42,8 @@ loop-again c =
 returns : tie.Need-returns Inv-loop μ-loop
 returns c =
     sym
-    (walk-here ((loop-before-else1 c) .loop .inv) (c .before .before .before .loop-test .taken) ∙ and-false (sym (c .before .is-well-formed .ensures) ∙ c .if1 .left) _)
+    (walk-here ((loop-before-else1 c) .loop .inv) (c .before .before .before .loop-test .taken) ∙ and-false
+    (sym (c .before .is-well-formed .ensures) ∙ c .if1 .left) _)
 
 returns-2 : tie.Need-returns-2 Inv-loop μ-loop
 returns-2 c = sym (walk-end (c .before .loop .inv) (c .loop-test .left))

@@ -17,7 +17,8 @@ returns : tie.Need-returns
 returns c =
     let d = (start-before-is-same c) .args .d .now in
     c .is-same .ensures
-    ∙ ap (same ((start-before-is-same c) .args .x .now)) (c .before .before .pad .ensures ∙ padded-full _ (length-take-le 16 d ((start-before-is-same c) .pre)))
+    ∙ ap (same ((start-before-is-same c) .args .x .now))
+    (c .before .before .pad .ensures ∙ padded-full _ (length-take-le 16 d ((start-before-is-same c) .pre)))
 
 pub begins-spec : {M : Type 1} → statement M
 begins-spec = tie.close (tie.spec slice-aggregate-pad (λ c κs. search needs) (λ c κs. search needs) returns)

@@ -21,7 +21,8 @@ loop-holds c = record { so-far = refl }
 returns : tie.Need-returns Inv-loop μ-loop
 returns c =
     sym
-    (walk-here (c .before .before .before .loop .inv) (c .before .before .loop-test .taken) ∙ or-true (sym (c .before .starts .ensures) ∙ c .if1 .taken) _)
+    (walk-here (c .before .before .before .loop .inv) (c .before .before .loop-test .taken) ∙ or-true
+    (sym (c .before .starts .ensures) ∙ c .if1 .taken) _)
 
 abbrev loop-before-t : tie.After-t Inv-loop μ-loop → tie.At-loop Inv-loop μ-loop
 loop-before-t c = c .before .before .before .before

@@ -32,14 +32,19 @@ start-before-judge c = c .before .before .before .before .before .before .before
 
 said : (c : tie.After-agrees) → c .agrees .result ≡ headed ((start-before-agrees c) .args .s .now)
 said c =
-    headed-by ((start-before-agrees c) .args .s .now) ((u16-at-before-agrees c) .u16-at .ensures) ((u16-at2-before-agrees c) .u16-at2 .ensures)
-    (c .before .before .before .u32-at .ensures) (c .before .before .u32-at2 .ensures) (c .before .u32-at3 .ensures) (c .agrees .ensures)
+    headed-by ((start-before-agrees c) .args .s .now) ((u16-at-before-agrees c) .u16-at .ensures)
+    ((u16-at2-before-agrees c) .u16-at2 .ensures)
+    (c .before .before .before .u32-at .ensures) (c .before .before .u32-at2 .ensures) (c .before .u32-at3 .ensures)
+    (c .agrees .ensures)
 
 right : (c : tie.Then1) → headed ((start-before-agrees (c .before)) .args .s .now) ≡ true
 right c = sym (said (c .before)) ∙ c .if1 .taken
 
 part-judge-end : tie.Need-part-judge-end
-part-judge-end c = let h = sized ((start-before-agrees (c .before)) .args .s .now) (right c) in let e = (u16-at2-before-agrees (c .before)) .u16-at2 .ensures in omega arith
+part-judge-end c =
+    let h = sized ((start-before-agrees (c .before)) .args .s .now) (right c) in
+    let e = (u16-at2-before-agrees (c .before)) .u16-at2 .ensures in
+    omega arith
 
 returns : tie.Need-returns
 returns c =

@@ -16,13 +16,15 @@ returns : tie.Need-returns
 unfolding namesJudged
 returns c =
     sym
-    (passed (ap not (valid (c .before .before))) BadName _ ∙ drawn (sym (c .before .doubled .ensures) ∙ c .if2 .taken) NameTwice _)
+    (passed (ap not (valid (c .before .before))) BadName _ ∙ drawn (sym (c .before .doubled .ensures) ∙ c .if2 .taken)
+    NameTwice _)
 
 returns-2 : tie.Need-returns-2
 unfolding namesJudged
 returns-2 c =
     sym
-    (passed (ap not (valid (c .before .before))) BadName _ ∙ passed (sym (c .before .doubled .ensures) ∙ c .if2 .left) NameTwice _)
+    (passed (ap not (valid (c .before .before))) BadName _ ∙ passed (sym (c .before .doubled .ensures) ∙ c .if2 .left)
+    NameTwice _)
 
 returns-3 : tie.Need-returns-3
 unfolding namesJudged

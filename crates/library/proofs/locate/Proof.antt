@@ -73,12 +73,14 @@ mul-size c = omega (arith, seen (cards-before-else2 c))
 returns : tie.Need-returns
 returns c =
     ap tells
-    (locate-name _ _ (seen (c .before .before .before)) (sym (c .before .is-asked .ensures) ∙ not-true _ (c .if1 .taken)))
+    (locate-name _ _ (seen (c .before .before .before))
+    (sym (c .before .is-asked .ensures) ∙ not-true _ (c .if1 .taken)))
 
 returns-2 : tie.Need-returns-2
 returns-2 c =
     ap tells
-    (locate-none _ _ (seen (cards-before-then2 c)) (is-asked (else1-before-then2 c)) ((pad-before-then2 c) .pad .ensures) (c .before .search .ensures) (c .if2 .taken))
+    (locate-none _ _ (seen (cards-before-then2 c)) (is-asked (else1-before-then2 c))
+    ((pad-before-then2 c) .pad .ensures) (c .before .search .ensures) (c .if2 .taken))
 
 returns-3 : tie.Need-returns-3
 returns-3 c =
@@ -88,7 +90,8 @@ returns-3 c =
 returns-4 : tie.Need-returns-4
 returns-4 c =
     ap tells
-    (locate-at _ _ (seen (cards-before-else2 c)) (is-asked (else1-before-else2 c)) ((pad-before-else2 c) .pad .ensures) (c .before .search .ensures) (c .if2 .left))
+    (locate-at _ _ (seen (cards-before-else2 c)) (is-asked (else1-before-else2 c))
+    ((pad-before-else2 c) .pad .ensures) (c .before .search .ensures) (c .if2 .left))
 
 pub locate-spec : {M : Type 1} → statement M
 locate-spec =

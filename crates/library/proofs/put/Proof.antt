@@ -1,4 +1,5 @@
--- `library::put` meets its contract: the bytes passed stand at the place, and what is left of the number has the others.
+-- `library::put` meets its contract: the bytes passed stand at the place, and what is left of the number has the
+-- others.
 use Prim.Native.Nat.{_-_}
 use Rattle.library.proofs.BytesWritten.{Putting, put-first, put-more, put-all}
 use borrow.Author.Needs.{needs}

@@ -9,13 +9,19 @@ use Rattle.library.proofs.width.Tie as tie
 
 returns : tie.Need-returns
 unfolding wordsOf
-returns c =
-    (sym (ap (λ (t : Bool). cond t (wordsOf writtenVersion) 0) (eq-eqb _ writtenVersion (c .match .keys1))), omega arith)
+returns c = (
+  sym (ap (λ (t : Bool). cond t (wordsOf writtenVersion) 0) (eq-eqb _ writtenVersion (c .match .keys1))),
+  omega
+      arith,
+)
 
 returns-2 : tie.Need-returns-2
 unfolding wordsOf
-returns-2 c =
-    (sym (ap (λ (t : Bool). cond t (wordsOf writtenVersion) 0) (ne-eqb _ writtenVersion (c .match .rest .1))), omega arith)
+returns-2 c = (
+  sym (ap (λ (t : Bool). cond t (wordsOf writtenVersion) 0) (ne-eqb _ writtenVersion (c .match .rest .1))),
+  omega
+      arith,
+)
 
 pub width-spec : {M : Type 1} → statement M
 width-spec = tie.close (tie.spec returns returns-2)

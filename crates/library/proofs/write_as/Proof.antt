@@ -44,7 +44,9 @@ start-before-slice-known4 c =
     .before .before .before .before .before .before .before .before
 
 -- what the arm of good names and words knows
-seen : (c : tie.After-cards) → let a = (start-before-cards c) .args in Offered (a .version) (a .names .now) (a .words .now) (c .cards .given .0 .0) (c .cards .given .0 .1 .0)
+seen : (c : tie.After-cards) → let a =
+    (start-before-cards c) .args in Offered (a .version) (a .names .now) (a .words .now) (c .cards .given .0 .0)
+    (c .cards .given .0 .1 .0)
 seen c = offers _ _ _ (sym (c .before .before .offer .ensures) ∙ ap found (c .cards .given .1))
 
 mul-e : tie.Need-mul-e
@@ -74,12 +76,24 @@ header-requires c κs = omega (arith, seen (c .before .before))
 copy-requires-2 : tie.Need-copy-requires-2
 copy-requires-2 c κs =
     rw (rest, length-drop)
-    (omega (arith, seen (cards-before-copy-arg2 c), c .before .before .before .copy .kept .1 .0, (else1-before-copy-arg2 c) .if1 .left))
+    (omega (
+      arith,
+      seen (cards-before-copy-arg2 c),
+      c .before .before .before .copy .kept .1 .0,
+      (else1-before-copy-arg2 c)
+          .if1 .left,
+    ))
 
 store-requires : tie.Need-store-requires
 store-requires c κs =
     rw (rest, length-drop)
-    (omega (arith, seen (cards-before-store-arg c), (copy-before-store-arg c) .copy .kept .1 .0, (else1-before-store-arg c) .if1 .left))
+    (omega (
+      arith,
+      seen (cards-before-store-arg c),
+      (copy-before-store-arg c) .copy .kept .1 .0,
+      (else1-before-store-arg c)
+          .if1 .left,
+    ))
 
 returns-2 : tie.Need-returns-2
 returns-2 c =
@@ -87,8 +101,12 @@ returns-2 c =
 
 returns-3 : tie.Need-returns-3
 returns-3 c =
-    write-bytes _ _ _ _ (seen (cards-before-store-arg (c .before .before .before))) ((else1-before-store-arg (c .before .before .before)) .if1 .left) _
-    ((copy-before-store-arg (c .before .before .before)) .copy .ensures ∙ ap (λ (h : List ℕ). over h ((start-before-slice-known4 c) .args .library .now)) ((header-before-slice-known4 c) .header .ensures)) _ ((copy2-before-slice-known4 c) .copy2 .ensures) _ (c .before .before .store .ensures)
+    write-bytes _ _ _ _ (seen (cards-before-store-arg (c .before .before .before)))
+    ((else1-before-store-arg (c .before .before .before)) .if1 .left) _
+    ((copy-before-store-arg (c .before .before .before)) .copy .ensures ∙ ap
+    (λ (h : List ℕ). over h ((start-before-slice-known4 c) .args .library .now))
+    ((header-before-slice-known4 c) .header .ensures)) _ ((copy2-before-slice-known4 c) .copy2 .ensures) _
+    (c .before .before .store .ensures)
 
 pub write-as-spec : {M : Type 1} → statement M
 write-as-spec =

@@ -25,7 +25,8 @@ loop-before-result c = c .before .before .before .before
 returns : tie.Need-returns Inv-loop μ-loop
 returns c =
     rw sub-zero
-    (bare-stop ((loop-before-result c) .loop .inv) (c .before .before .before .loop-test .taken) (c .before .if1 .taken))
+    (bare-stop ((loop-before-result c) .loop .inv) (c .before .before .before .loop-test .taken)
+    (c .before .if1 .taken))
 
 loop-again : tie.Need-loop-again Inv-loop μ-loop
 loop-again c = bare-on (c .before .before .before .loop .inv) (c .before .before .loop-test .taken) (c .if1 .left)

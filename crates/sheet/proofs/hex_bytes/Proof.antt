@@ -18,7 +18,11 @@ abbrev is-dash-before-else3 : tie.Else3 → tie.After-is-dash
 is-dash-before-else3 c = c .before .before .before .before
 
 returns-3 : tie.Need-returns-3
-returns-3 c = let d = (then3-before-slice-known2 c) in all-spelled _ _ (sym (d .before .before .before .if1 .left) ∙ d .before .before .before .before .is-dash .ensures) (d .before .before .if2 .left) (sym (d .if3 .taken) ∙ d .before .are-pairs .ensures) (c .before .before .fill .ensures)
+returns-3 c =
+    let d = (then3-before-slice-known2 c) in
+    all-spelled _ _ (sym (d .before .before .before .if1 .left) ∙ d .before .before .before .before .is-dash .ensures)
+    (d .before .before .if2 .left) (sym (d .if3 .taken) ∙ d .before .are-pairs .ensures)
+    (c .before .before .fill .ensures)
 
 returns-4 : tie.Need-returns-4
 returns-4 c =

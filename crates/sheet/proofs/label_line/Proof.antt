@@ -12,7 +12,8 @@ returns : tie.Need-returns
 unfolding labelLine
 returns c =
     gathered ((empty-before-push2 c) .empty .ensures)
-    (then (c .before .before .before .append .ensures) (then (c .before .before .push .ensures) (then (c .before .decimal .ensures) (c .push2 .ensures))))
+    (then (c .before .before .before .append .ensures)
+    (then (c .before .before .push .ensures) (then (c .before .decimal .ensures) (c .push2 .ensures))))
 
 pub label-line-spec : {M : Type 1} → statement M
 label-line-spec =

@@ -31,8 +31,11 @@ returns c =
     gathered ((empty-before-push3 c) .empty .ensures)
     (then ((append-before-push3 c) .append .ensures)
     (then ((push-before-push3 c) .push .ensures)
-    (then (mask-listed _ number ((clip-before-push3 c) .clip .ensures) ((listed-mask-before-push3 c) .listed-mask .ensures) (c .before .before .before .hex .ensures))
-    (then (c .before .before .push2 .ensures) (then (number-listed _ number (c .before .decimal .ensures)) (c .push3 .ensures))))))
+    (then
+    (mask-listed _ number ((clip-before-push3 c) .clip .ensures) ((listed-mask-before-push3 c) .listed-mask .ensures)
+    (c .before .before .before .hex .ensures))
+    (then (c .before .before .push2 .ensures)
+    (then (number-listed _ number (c .before .decimal .ensures)) (c .push3 .ensures))))))
 
 pub listing-line-spec : {M : Type 1} → statement M
 listing-line-spec =

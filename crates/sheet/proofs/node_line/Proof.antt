@@ -19,7 +19,8 @@ returns c =
     gathered ((empty-before-push c) .empty .ensures)
     (then (c .before .before .append .ensures)
     (then
-    (as-read (s .args .microvolts) (s .fits .microvolts) (s .args .node) (s .args .ticks) (s .fits .ticks) (c .before .reading .ensures))
+    (as-read (s .args .microvolts) (s .fits .microvolts) (s .args .node) (s .args .ticks) (s .fits .ticks)
+    (c .before .reading .ensures))
     (c .push .ensures)))
 
 pub node-line-spec : {M : Type 1} → statement M

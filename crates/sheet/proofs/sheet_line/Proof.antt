@@ -19,7 +19,8 @@ returns c =
     let s = (start-before-push2 c) in
     gathered ((empty-before-push2 c) .empty .ensures)
     (then
-    (as-read (s .args .microvolts) (s .fits .microvolts) (s .args .node) (s .args .ticks) (s .fits .ticks) (c .before .before .before .reading .ensures))
+    (as-read (s .args .microvolts) (s .fits .microvolts) (s .args .node) (s .args .ticks) (s .fits .ticks)
+    (c .before .before .before .reading .ensures))
     (then (c .before .before .push .ensures)
     (then (as-given (s .args .ticks) (s .fits .ticks) ampereDigits (c .before .amperes .ensures)) (c .push2 .ensures))))
 

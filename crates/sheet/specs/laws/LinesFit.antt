@@ -35,7 +35,8 @@ unfolding plainDigits
 plain-long zero n = omega arith
 plain-long (suc k) n =
     let h = plain-long k (n / 10) in
-    one-or-more (ltb n 10) (glyphOf n) (plainDigits k (n / 10) ++ glyphOf (n % 10) ∷ []) k (rw length-append (omega arith))
+    one-or-more (ltb n 10) (glyphOf n) (plainDigits k (n / 10) ++ glyphOf (n % 10) ∷ []) k
+    (rw length-append (omega arith))
 
 sign-long : (b : Bool) → length (signOf b) ≤ 1
 sign-long true = omega arith
@@ -63,7 +64,9 @@ reading-long node v ticks =
 
 pub label-whole : (label : List ℕ) (n : ℕ) → length label ≤ 80 → shown (textOf (labelLine label n)) ≡ labelLine label n
 unfolding labelLine
-label-whole label n h = let k = plain-long mostDigits n in text-whole (labelLine label n) (simp length-append (omega arith))
+label-whole label n h =
+    let k = plain-long mostDigits n in
+    text-whole (labelLine label n) (simp length-append (omega arith))
 
 pub listing-whole : (name bytes : List ℕ) → length name ≤ 16
     → shown (textOf (listingLine name bytes)) ≡ listingLine name bytes
@@ -76,14 +79,17 @@ listing-whole name bytes h =
 
 pub node-whole : (node : ℕ) (v ticks : ℤ) → shown (textOf (nodeLine node v ticks)) ≡ nodeLine node v ticks
 unfolding nodeLine
-node-whole node v ticks = let h = reading-long node v ticks in text-whole (nodeLine node v ticks) (simp length-append (omega arith))
+node-whole node v ticks =
+    let h = reading-long node v ticks in
+    text-whole (nodeLine node v ticks) (simp length-append (omega arith))
 
 pub sheet-whole : (node : ℕ) (v ticks : ℤ) → shown (textOf (sheetLine node v ticks)) ≡ sheetLine node v ticks
 unfolding sheetLine
 sheet-whole node v ticks =
     let h = reading-long node v ticks in
     let k = ampere-long ticks in
-    text-whole (sheetLine node v ticks) (rw length-append (omega (arith, length-append (ampereDigits ticks) (newline ∷ []))))
+    text-whole (sheetLine node v ticks)
+    (rw length-append (omega (arith, length-append (ampereDigits ticks) (newline ∷ []))))
 
 pub hex-whole : (k n : ℕ) → k ≤ wordDigits → shown (textOf (hexDigits k n)) ≡ hexDigits k n
 hex-whole k n h = let d = digits-long 16 k n in text-whole (hexDigits k n) (omega arith)

@@ -21,7 +21,13 @@ abbrev start-before-spell : tie.After-spell → tie.Start
 start-before-spell c = c .before .before .before .before .before .before .before
 
 returns : tie.Need-returns
-returns c = let s = (start-before-spell c) in amperes-done (s .args .ticks) ((open-before-spell c) .«open» .ensures ∙ ap openedOf (back (s .args .ticks) (s .fits .ticks))) ((picoamperes-before-spell c) .picoamperes .ensures) ((shows-minus-before-spell c) .shows-minus .ensures) (c .before .before .before .sign .ensures) (then (c .before .before .decimal .ensures) (then (c .before .push .ensures) (c .spell .ensures)))
+returns c =
+    let s = (start-before-spell c) in
+    amperes-done (s .args .ticks)
+    ((open-before-spell c) .«open» .ensures ∙ ap openedOf (back (s .args .ticks) (s .fits .ticks)))
+    ((picoamperes-before-spell c) .picoamperes .ensures) ((shows-minus-before-spell c) .shows-minus .ensures)
+    (c .before .before .before .sign .ensures)
+    (then (c .before .before .decimal .ensures) (then (c .before .push .ensures) (c .spell .ensures)))
 
 pub amperes-spec : {M : Type 1} → statement M
 amperes-spec =

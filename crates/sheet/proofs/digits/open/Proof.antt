@@ -15,13 +15,25 @@ abbrev start-before-known-told : tie.After-known-told → tie.Start
 start-before-known-told c = c .before .before .before .before
 
 add-t6 : tie.Need-add-t6
-add-t6 c = let s = (start-before-known-told2 c) in let h = room-down (s .args .v) (s .fits .v) _ (c .before .before .before .«open» .ensures) _ 1 (c .before .n2 .given .1) in omega arith
+add-t6 c =
+    let s = (start-before-known-told2 c) in
+    let h =
+    room-down (s .args .v) (s .fits .v) _ (c .before .before .before .«open» .ensures) _ 1 (c .before .n2 .given .1)
+    in
+    omega arith
 
 returns : tie.Need-returns
-returns c = let s = (start-before-known-told c) in ap openedOf (is-up (s .args .v) (s .fits .v) _ (c .before .before .before .«open» .ensures) _ (c .before .n .given .1))
+returns c =
+    let s = (start-before-known-told c) in
+    ap openedOf
+    (is-up (s .args .v) (s .fits .v) _ (c .before .before .before .«open» .ensures) _ (c .before .n .given .1))
 
 returns-2 : tie.Need-returns-2
-returns-2 c = let s = (start-before-known-told2 c) in rw add-one (ap openedOf (is-down (s .args .v) (s .fits .v) _ (c .before .before .before .«open» .ensures) _ (c .before .n2 .given .1)))
+returns-2 c =
+    let s = (start-before-known-told2 c) in
+    rw add-one
+    (ap openedOf
+    (is-down (s .args .v) (s .fits .v) _ (c .before .before .before .«open» .ensures) _ (c .before .n2 .given .1)))
 
 pub open-spec : {M : Type 1} → statement M
 open-spec = tie.close (tie.spec (λ c κs. search needs) (λ c. search needs) (λ c. search needs) add-t6 returns returns-2)

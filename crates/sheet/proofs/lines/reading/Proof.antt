@@ -15,7 +15,13 @@ start-before-signed2 c = c .before .before .before .before .before
 
 returns : tie.Need-returns
 unfolding readingOf
-returns c = let s = (start-before-signed2 c) in then ((decimal-before-signed2 c) .decimal .ensures) (then (c .before .before .before .push .ensures) (then (as-given (s .args .microvolts) (s .fits .microvolts) signedDigits (c .before .before .signed .ensures)) (then (c .before .push2 .ensures) (as-given (s .args .ticks) (s .fits .ticks) signedDigits (c .signed2 .ensures)))))
+returns c =
+    let s = (start-before-signed2 c) in
+    then ((decimal-before-signed2 c) .decimal .ensures)
+    (then (c .before .before .before .push .ensures)
+    (then (as-given (s .args .microvolts) (s .fits .microvolts) signedDigits (c .before .before .signed .ensures))
+    (then (c .before .push2 .ensures)
+    (as-given (s .args .ticks) (s .fits .ticks) signedDigits (c .signed2 .ensures)))))
 
 pub reading-spec : {M : Type 1} → statement M
 reading-spec =

@@ -13,7 +13,8 @@ returns c = rw (c .before .if1 .taken) (near-zero _ (c .if2 .taken))
 returns-2 : tie.Need-returns-2
 returns-2 c =
     rw (c .before .before .if1 .taken)
-    (toZ-ofZ w64 (c .close .result) (search needs) ∙ c .close .ensures ∙ near-below _ (c .before .before .before .pre) (c .before .if2 .left))
+    (toZ-ofZ w64 (c .close .result) (search needs) ∙ c .close .ensures ∙ near-below _ (c .before .before .before .pre)
+    (c .before .if2 .left))
 
 returns-3 : tie.Need-returns-3
 returns-3 c =

@@ -47,7 +47,9 @@ loop-less c =
 loop-again : tie.Need-loop-again Inv-loop μ-loop
 loop-again c =
     rw (after-two ((loop-before-t c) .loop .t .now))
-    (pairs-on ((loop-before-t c) .loop .inv) ((in-loop-before-t c) .loop-test .taken) (sym ((is-hex-before-t c) .is-hex .ensures) ∙ (then1-before-t c) .if1 .taken) (sym (c .before .before .is-hex2 .ensures) ∙ c .before .if2 .taken))
+    (pairs-on ((loop-before-t c) .loop .inv) ((in-loop-before-t c) .loop-test .taken)
+    (sym ((is-hex-before-t c) .is-hex .ensures) ∙ (then1-before-t c) .if1 .taken)
+    (sym (c .before .before .is-hex2 .ensures) ∙ c .before .if2 .taken))
 
 returns : tie.Need-returns Inv-loop μ-loop
 returns c =

@@ -37,7 +37,9 @@ loop-less c =
 loop-again : tie.Need-loop-again Inv-loop μ-loop
 loop-again c =
     rw (after-two ((loop-before-nibble2 (c .before)) .loop .t .now))
-    (spell-on ((loop-before-nibble2 (c .before)) .loop .inv) ((in-loop-before-nibble2 (c .before)) .loop-test .taken) _ (ap₂ (λ (a b : ℕ). 16 * a + b) (c .before .before .before .nibble .ensures .0) (c .before .nibble2 .ensures .0)))
+    (spell-on ((loop-before-nibble2 (c .before)) .loop .inv) ((in-loop-before-nibble2 (c .before)) .loop-test .taken)
+    _
+    (ap₂ (λ (a b : ℕ). 16 * a + b) (c .before .before .before .nibble .ensures .0) (c .before .nibble2 .ensures .0)))
 
 same-length : tie.Need-same-length Inv-loop μ-loop
 same-length c = c .before .loop .inv .filled .kept
