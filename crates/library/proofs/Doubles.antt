@@ -14,7 +14,7 @@ use Rattle.name.proofs.Laws.{Words, words-of}
 use Rattle.library.specs.Directory.{among, twice, nameBytes, namesHeld, namesIn}
 use Rattle.library.proofs.Names.{or-true, or-false, cut-none, cut-more}
 use Rattle.library.proofs.Verdicts.{never}
-use Rattle.library.specs.inner.Inspecting.{found, slotOf, slots}
+use Rattle.library.specs.inner.Inspecting.{slotOf, slots}
 
 -- the number of a name's mark
 abbrev markOf : List ℕ → ℕ

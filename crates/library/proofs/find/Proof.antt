@@ -11,8 +11,9 @@ use Rattle.library.proofs.find.Statement.{statement}
 use Rattle.library.proofs.find.Tie as tie
 use Rattle.refusal.specs.Order.{tells-one, yes}
 
-answer : (c : tie.After-locate) → let a =
-    c .before .before .before .args in locating (a .library .now) (a .name .now) ≡ verdictLocated (c .locate .result)
+answer : (c : tie.After-locate)
+    → let a = c .before .before .before .args in
+    locating (a .library .now) (a .name .now) ≡ verdictLocated (c .locate .result)
 answer c =
     let a = c .before .before .before .args in
     sym
@@ -24,9 +25,9 @@ start-before-at c = c .before .before .before .before .before
 abbrev start-before-result2 : tie.After-result2 → tie.Start
 start-before-result2 c = c .before .before .before .before .before .before
 
-located : (c : tie.After-at) → let a =
-    (start-before-at c) .args in locating (a .library .now) (a .name .now) ≡ yes
-    (c .at .given .0 .0, c .at .given .0 .1 .0)
+located : (c : tie.After-at)
+    → let a = (start-before-at c) .args in
+    locating (a .library .now) (a .name .now) ≡ yes (c .at .given .0 .0, c .at .given .0 .1 .0)
 located c = answer (c .before .before) ∙ ap verdictLocated (c .at .given .1)
 
 inside : (c : tie.After-at)

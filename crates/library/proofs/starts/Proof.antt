@@ -13,9 +13,9 @@ here : (c : tie.After-u64-at2)
     → Words (take nameBytes (c .before .before .before .args .d .now)) (c .before .u64-at .result) (c .u64-at2 .result)
 here c = words-of _ (c .before .before .before .pre) (c .before .u64-at .ensures) (c .u64-at2 .ensures)
 
-there : (c : tie.After-u64-at2) → let a =
-    c .before .before .before .args in Words (bytesOf wordBytes (a .low) ++ bytesOf wordBytes (a .high)) (a .low)
-    (a .high)
+there : (c : tie.After-u64-at2)
+    → let a = c .before .before .before .args in
+    Words (bytesOf wordBytes (a .low) ++ bytesOf wordBytes (a .high)) (a .low) (a .high)
 there c = words-made (search needs) (search needs)
 
 returns : tie.Need-returns

@@ -43,10 +43,10 @@ start-before-slice-known4 c =
     c .before .before .before .before .before .before .before .before .before .before .before .before .before .before
     .before .before .before .before .before .before .before .before
 
--- what the arm of good names and words knows
-seen : (c : tie.After-cards) → let a =
-    (start-before-cards c) .args in Offered (a .version) (a .names .now) (a .words .now) (c .cards .given .0 .0)
-    (c .cards .given .0 .1 .0)
+-- what is known where names and words are sound
+seen : (c : tie.After-cards)
+    → let a = (start-before-cards c) .args in
+    Offered (a .version) (a .names .now) (a .words .now) (c .cards .given .0 .0) (c .cards .given .0 .1 .0)
 seen c = offers _ _ _ (sym (c .before .before .offer .ensures) ∙ ap found (c .cards .given .1))
 
 mul-e : tie.Need-mul-e
