@@ -45,8 +45,7 @@ pub unique-read : {s ns ws : List ℕ} {r r′ : Reading} {n n′ w w′ : List 
 unique-read {s} {ns} {ws} {r} {r′} a b =
     let v = read s (length ns) (length ws) in (
       unique-by-equation (reading-told r v (a .answer)) (reading-told r′ v (b .answer)),
-      unique-by-equation (a .names)
-          (b .names),
+      unique-by-equation (a .names) (b .names),
       unique-by-equation (a .words) (b .words),
     )
 
@@ -64,6 +63,5 @@ pub unique-write : {v : ℕ} {ns ws l : List ℕ} {r r′ : Writing} {m m′ : L
 unique-write {v} {ns} {ws} {l} {r} {r′} a b =
     let w = written v ns ws (length l) in (
       unique-by-equation (writing-told r w (a .answer)) (writing-told r′ w (b .answer)),
-      unique-by-equation
-          (a .library) (b .library),
+      unique-by-equation (a .library) (b .library),
     )

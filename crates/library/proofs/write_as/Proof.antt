@@ -80,8 +80,7 @@ copy-requires-2 c κs =
       arith,
       seen (cards-before-copy-arg2 c),
       c .before .before .before .copy .kept .1 .0,
-      (else1-before-copy-arg2 c)
-          .if1 .left,
+      (else1-before-copy-arg2 c) .if1 .left,
     ))
 
 store-requires : tie.Need-store-requires
@@ -91,8 +90,7 @@ store-requires c κs =
       arith,
       seen (cards-before-store-arg c),
       (copy-before-store-arg c) .copy .kept .1 .0,
-      (else1-before-store-arg c)
-          .if1 .left,
+      (else1-before-store-arg c) .if1 .left,
     ))
 
 returns-2 : tie.Need-returns-2

@@ -23,16 +23,14 @@ returns-2 : tie.Need-returns-2
 returns-2 c =
     simp (
       above 48 ((start-before-then4 c) .args .b) 57 (omega arith),
-      within 65 ((start-before-then4 c) .args .b) 70
-          (omega arith) (omega arith),
+      within 65 ((start-before-then4 c) .args .b) 70 (omega arith) (omega arith),
     )
 
 returns-3 : tie.Need-returns-3
 returns-3 c =
     simp (
       above 48 ((start-before-then6 c) .args .b) 57 (omega arith),
-      above 65 ((start-before-then6 c) .args .b) 70
-          (omega arith),
+      above 65 ((start-before-then6 c) .args .b) 70 (omega arith),
       within 97 ((start-before-then6 c) .args .b) 102 (omega arith) (omega arith),
     )
 
@@ -41,16 +39,14 @@ returns-4 c =
     simp (
       under 48 (c .before .args .b) 57 (omega arith),
       under 65 (c .before .args .b) 70 (omega arith),
-      under 97
-          (c .before .args .b) 102 (omega arith),
+      under 97 (c .before .args .b) 102 (omega arith),
     )
 
 returns-5 : tie.Need-returns-5
 returns-5 c =
     simp (
       above 48 (c .before .before .before .args .b) 57 (omega arith),
-      under 65 (c .before .before .before .args .b) 70
-          (omega arith),
+      under 65 (c .before .before .before .args .b) 70 (omega arith),
       under 97 (c .before .before .before .args .b) 102 (omega arith),
     )
 
@@ -58,8 +54,7 @@ returns-6 : tie.Need-returns-6
 returns-6 c =
     simp (
       above 48 ((start-before-then5 c) .args .b) 57 (omega arith),
-      above 65 ((start-before-then5 c) .args .b) 70
-          (omega arith),
+      above 65 ((start-before-then5 c) .args .b) 70 (omega arith),
       under 97 ((start-before-then5 c) .args .b) 102 (omega arith),
     )
 
@@ -67,8 +62,7 @@ returns-7 : tie.Need-returns-7
 returns-7 c =
     simp (
       above 48 ((start-before-else6 c) .args .b) 57 (omega arith),
-      above 65 ((start-before-else6 c) .args .b) 70
-          (omega arith),
+      above 65 ((start-before-else6 c) .args .b) 70 (omega arith),
       above 97 ((start-before-else6 c) .args .b) 102 (omega arith),
     )
 
