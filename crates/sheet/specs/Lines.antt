@@ -7,7 +7,7 @@ use lib.IntN.{ℤ}
 use Rattle.card.specs.Clip.{clipOf}
 use Rattle.card.specs.Judge.{judgeOf}
 use Rattle.card.specs.Told.{judgedNumber}
-use Rattle.sheet.specs.Digits.{hexDigits, decimalOf, signedDigits, ampereDigits}
+use Rattle.sheet.specs.Digits.{maskDigits, hexDigits, decimalOf, signedDigits, ampereDigits}
 
 abbrev pub space : ℕ
 space = 32
@@ -30,7 +30,8 @@ listedMask number mask = cond (leb 6 number && leb number 10) 0 mask
 
 -- a card's name, which has no padding, its mask and its number
 abbrev pub cardLine : List ℕ → ℕ → ℕ → List ℕ
-cardLine name mask number = name ++ (space ∷ (hexDigits 4 (listedMask number mask) ++ (space ∷ (decimalOf number ++ newline ∷ []))))
+cardLine name mask number =
+    name ++ (space ∷ (hexDigits maskDigits (listedMask number mask) ++ (space ∷ (decimalOf number ++ newline ∷ []))))
 
 -- the listing of a card: the mask that clipping its record gives, and 0 or the number by which loading refuses it
 unfoldable pub listingLine : List ℕ → List ℕ → List ℕ

@@ -5,18 +5,6 @@ use Rattle.card.specs.Told.{judgedNumber}
 use Rattle.sheet.proofs.lines.judged.Tie as tie
 use Rattle.sheet.proofs.lines.judged.Statement.{statement}
 
-judge-requires : tie.Need-judge-requires
-judge-requires c κs = search needs
-
-enum-told : tie.Need-enum-told
-enum-told c = search needs
-
-enum-known-f : tie.Need-enum-known-f
-enum-known-f c = search needs
-
-number-requires : tie.Need-number-requires
-number-requires c κs = search needs
-
 returns : tie.Need-returns
 returns c = sym (ap judgedNumber (sym (c .before .before .judge .ensures) ∙ c .enum-told .given .1))
 
@@ -25,4 +13,5 @@ returns-2 c = cc
 
 pub judged-spec : {M : Type 1} → statement M
 judged-spec =
-    tie.close (tie.spec judge-requires enum-told enum-known-f number-requires returns returns-2)
+    tie.close
+    (tie.spec (λ c κs. search needs) (λ c. search needs) (λ c. search needs) (λ c κs. search needs) returns returns-2)

@@ -12,7 +12,8 @@ use lib.Seq.{take-all, getD-drop, drop-drop}
 use Rattle.name.proofs.Laws.{Filled, fill-first, fill-more, fill-all}
 use Rattle.sheet.specs.declared.Hex.{Hex}
 use Rattle.sheet.specs.declared.Hex.the-variants.{Bytes, Bad}
-use Rattle.sheet.specs.Hex.{isHex, nibbleOf, allPairs, pairsOf, isDash, spells, over, hexIf, overIf, ReadsHex}
+use Rattle.sheet.specs.Hex.{isHex, nibbleOf, allPairs, pairsOf, isDash, spells, hexIf, overIf, ReadsHex}
+use Rattle.bytes_le.specs.Buffer.{over}
 
 -- two bytes, and those after them
 two : (s : List ℕ) → 2 ≤ length s → s ≡ getD s 0 0 ∷ getD s 1 0 ∷ drop 2 s
@@ -31,7 +32,8 @@ pub record Same (word t : List ℕ) : Type 0 where
 
 module _ {word t : List ℕ} (v : Same word t) where
   module _ (h : 2 ≤ length t) where
-    step : {c d : Bool} → isHex (getD t 0 0) ≡ c → isHex (getD t 1 0) ≡ d → allPairs word ≡ c && (d && allPairs (drop 2 t))
+    step : {c d : Bool} → isHex (getD t 0 0) ≡ c → isHex (getD t 1 0) ≡ d
+        → allPairs word ≡ c && (d && allPairs (drop 2 t))
     unfolding allPairs
     step e f = v .so-far ∙ ap allPairs (two t h) ∙ ap₂ (λ (c d : Bool). c && (d && allPairs (drop 2 t))) e f
 
@@ -123,20 +125,23 @@ dash-alone (a ∷ []) e = refl
 dash-alone (a ∷ b ∷ w) e = let z = eqb-true (length (a ∷ b ∷ w)) 1 (first-true _ _ e) in absurd (omega arith)
 
 module _ (w old : List ℕ) where
-  answered : {b : Bool} {r : Hex} {new : List ℕ} → spells w (length old) ≡ b → r ≡ hexIf b (length (pairsOf w)) → new ≡ overIf b (pairsOf w) old → ReadsHex w old r new
+  answered : {b : Bool} {r : Hex} {new : List ℕ} → spells w (length old) ≡ b → r ≡ hexIf b (length (pairsOf w))
+      → new ≡ overIf b (pairsOf w) old → ReadsHex w old r new
   answered e a n = record {
     answer = a ∙ ap (λ (b : Bool). hexIf b (length (pairsOf w))) (sym e);
     bytes = n ∙ ap (λ (b : Bool). overIf b (pairsOf w) old) (sym e);
   }
 
-  judged : {a b c : Bool} → isDash w ≡ a → leb (length w / 2) (length old) ≡ b → allPairs w ≡ c → spells w (length old) ≡ (a || (b && c))
+  judged : {a b c : Bool} → isDash w ≡ a → leb (length w / 2) (length old) ≡ b → allPairs w ≡ c
+      → spells w (length old) ≡ (a || (b && c))
   unfolding spells
   judged {c = c} e f g = ap₂ (λ (x y : Bool). x || y) e (ap₂ _&&_ f g)
 
   pub dashed : true ≡ isDash w → ReadsHex w old (Bytes 0) old
   dashed e =
       let z = dash-alone w (sym e) in
-      answered (judged (sym e) refl refl) (ap (λ (l : List ℕ). Bytes (length l)) (sym z)) (ap (λ (l : List ℕ). over l old) (sym z))
+      answered (judged (sym e) refl refl) (ap (λ (l : List ℕ). Bytes (length l)) (sym z))
+      (ap (λ (l : List ℕ). over l old) (sym z))
 
   module _ (e : false ≡ isDash w) where
     pub too-many : length old < length w / 2 → ReadsHex w old Bad old
@@ -149,5 +154,6 @@ module _ (w old : List ℕ) where
       pub not-pairs : false ≡ allPairs w → ReadsHex w old Bad old
       not-pairs f = answered (fits f) refl refl
 
-      pub all-spelled : true ≡ allPairs w → {new : List ℕ} → new ≡ over (pairsOf w) old → ReadsHex w old (Bytes (length w / 2)) new
+      pub all-spelled : true ≡ allPairs w → {new : List ℕ} → new ≡ over (pairsOf w) old
+          → ReadsHex w old (Bytes (length w / 2)) new
       all-spelled f g = answered (fits f) (ap Bytes (sym (whole-pairs w))) g

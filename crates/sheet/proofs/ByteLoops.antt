@@ -2,7 +2,7 @@
 use mathlib.Core.Path.{_≡_, refl, sym, ap, ap₂, _∙_}
 use mathlib.Core.Bool.{Bool, true, false, cond, _&&_}
 use mathlib.Core.List.{List, [], _∷_, _++_, append-nil}
-use Prim.Native.Nat.{ℕ, _+_, _*_, _-_, _^_, _<_, _≤_, min}
+use Prim.Native.Nat.{ℕ, _+_, _*_, _<_, _≤_, min}
 use native.Mathlib.Decide.{decLt}
 use native.Mathlib.Numerals.{add-one}
 use native.Mathlib.Omega.{arith}
@@ -13,8 +13,9 @@ use lib.Seq.{take-all, take-suc, drop-cons, append-snoc}
 use Rattle.sheet.specs.declared.Text.{Text}
 use Rattle.sheet.specs.Text.{appended, Adds}
 use Rattle.sheet.specs.Lines.{unpadded}
-use Rattle.sheet.specs.Number.{isDigit, digitOf, allDigits, valueFrom}
+use Rattle.sheet.specs.Number.{isDigit, digitOf, allDigits, decimalFrom, firstBeyond}
 use Rattle.sheet.proofs.Texts.{append-two}
+use Rattle.card.specs.Judge.{at}
 
 -- the byte at i and those after it
 split : (s : List ℕ) (i : ℕ) → i < length s → drop i s ≡ getD s i 0 ∷ drop (i + 1) s
@@ -32,14 +33,16 @@ pub all-left : {t : Text} {l : List ℕ} → Left t l t l
 all-left = record { same = refl }
 
 next-left : {t r s : Text} {l m : List ℕ} {x : ℕ} → Left t l r (x ∷ m) → Adds r (x ∷ []) s → Left t l s m
-next-left {r = r} {m = m} {x = x} v a = record { same = v .same ∙ append-two r (x ∷ []) m ∙ ap (λ (u : Text). appended u m) (sym (a .sum)) }
+next-left {r = r} {m = m} {x = x} v a =
+    record { same = v .same ∙ append-two r (x ∷ []) m ∙ ap (λ (u : Text). appended u m) (sym (a .sum)) }
 
 last-left : {t r : Text} {l : List ℕ} → Left t l r [] → Adds t l r
 unfolding appended
 last-left v = record { sum = sym (v .same) }
 
 module _ (s : List ℕ) (i : ℕ) {t r : Text} {l : List ℕ} where
-  pub append-on : {r′ : Text} → Left t l r (drop i s) → i < length s → Adds r (getD s i 0 ∷ []) r′ → Left t l r′ (drop (i + 1) s)
+  pub append-on : {r′ : Text} → Left t l r (drop i s) → i < length s → Adds r (getD s i 0 ∷ []) r′
+      → Left t l r′ (drop (i + 1) s)
   append-on v h a = next-left (rw (split s i h) at v) a
 
   pub append-end : Left t l r (drop i s) → length s ≤ i → Adds t l r
@@ -52,7 +55,8 @@ pub record Bare (s : List ℕ) (i : ℕ) : Type 0 where
   pub so-far : unpadded s ≡ take i s ++ unpadded (drop i s)
 
 module _ {s : List ℕ} {i : ℕ} (v : Bare s i) where
-  bare-step : i < length s → {t : Bool} → eqb (getD s i 0) 0 ≡ t → unpadded s ≡ take i s ++ cond t [] (getD s i 0 ∷ unpadded (drop (i + 1) s))
+  bare-step : i < length s → {t : Bool} → eqb (getD s i 0) 0 ≡ t
+      → unpadded s ≡ take i s ++ cond t [] (getD s i 0 ∷ unpadded (drop (i + 1) s))
   unfolding unpadded
   bare-step h e =
       v .so-far ∙ ap (λ (l : List ℕ). take i s ++ unpadded l) (split s i h)
@@ -61,8 +65,10 @@ module _ {s : List ℕ} {i : ℕ} (v : Bare s i) where
   pub bare-on : i < length s → (getD s i 0 ≡ 0 → ⊥) → Bare s (i + 1)
   bare-on h n = record {
     within = omega arith;
-    so-far = bare-step h (ne-eqb (getD s i 0) 0 n) ∙ sym (append-snoc (take i s) (getD s i 0) (unpadded (drop (i + 1) s)))
-        ∙ ap (λ (l : List ℕ). l ++ unpadded (drop (i + 1) s)) (sym (ap (λ (n : ℕ). take n s) (add-one i) ∙ take-suc s i 0 h));
+    so-far =
+        bare-step h (ne-eqb (getD s i 0) 0 n) ∙ sym (append-snoc (take i s) (getD s i 0) (unpadded (drop (i + 1) s)))
+        ∙ ap (λ (l : List ℕ). l ++ unpadded (drop (i + 1) s))
+        (sym (ap (λ (n : ℕ). take n s) (add-one i) ∙ take-suc s i 0 h));
   }
 
   pub bare-stop : i < length s → getD s i 0 ≡ 0 → take i s ≡ unpadded s
@@ -70,7 +76,8 @@ module _ {s : List ℕ} {i : ℕ} (v : Bare s i) where
 
   pub bare-end : length s ≤ i → s ≡ unpadded s
   unfolding unpadded
-  bare-end h = sym (v .so-far ∙ ap₂ (λ (a b : List ℕ). a ++ unpadded b) (take-all i s h) (none-left s i h) ∙ append-nil s)
+  bare-end h =
+      sym (v .so-far ∙ ap₂ (λ (a b : List ℕ). a ++ unpadded b) (take-all i s h) (none-left s i h) ∙ append-nil s)
 
 -- ---- whether all are digits
 
@@ -93,39 +100,43 @@ module _ {s : List ℕ} {i : ℕ} (v : Digits s i) where
   unfolding allDigits
   digits-end h = sym (v .so-far ∙ ap allDigits (none-left s i h))
 
--- ---- the value of digits, held at 2^63
+-- ---- the value of digits, held at the first beyond 64 bits
 
-grows : (x : ℕ) (l : List ℕ) → x ≤ valueFrom x l
-unfolding valueFrom
+grows : (x : ℕ) (l : List ℕ) → x ≤ decimalFrom x l
+unfolding decimalFrom
 grows x [] = omega arith
 grows x (b ∷ l) = let h = grows (10 * x + digitOf b) l in omega arith
 
-held-on : (x : ℕ) (l : List ℕ) → min (valueFrom x l) (2 ^ 63) ≡ min (valueFrom (min x (2 ^ 63)) l) (2 ^ 63)
-held-on x l = by (decLt (2 ^ 63) x)
+held-on : (x : ℕ) (l : List ℕ) → min (decimalFrom x l) firstBeyond ≡ min (decimalFrom (min x firstBeyond) l) firstBeyond
+held-on x l = by (decLt firstBeyond x)
   where
-    by : Dec (2 ^ 63 < x) → min (valueFrom x l) (2 ^ 63) ≡ min (valueFrom (min x (2 ^ 63)) l) (2 ^ 63)
-    by (yes h) = omega (arith, grows x l, grows (min x (2 ^ 63)) l)
-    by (no h) = let e : min x (2 ^ 63) ≡ x = omega arith in rw e
+    by : Dec (firstBeyond < x) → min (decimalFrom x l) firstBeyond ≡ min (decimalFrom (min x firstBeyond) l) firstBeyond
+    by (yes h) = omega (arith, grows x l, grows (min x firstBeyond) l)
+    by (no h) = let e : min x firstBeyond ≡ x = omega arith in rw e
 
 pub record Value (s : List ℕ) (i x : ℕ) : Type 0 where
   pub within : i ≤ length s
-  pub so-far : min (valueFrom 0 s) (2 ^ 63) ≡ min (valueFrom x (drop i s)) (2 ^ 63)
-  pub held : x ≤ 2 ^ 63
+  pub so-far : min (decimalFrom 0 s) firstBeyond ≡ min (decimalFrom x (drop i s)) firstBeyond
+  pub held : x ≤ firstBeyond
 
 module _ {s : List ℕ} {i x : ℕ} (v : Value s i x) where
-  pub value-on : i < length s → (d y : ℕ) → d ≡ digitOf (getD s i 0) → y ≡ min (10 * x + d) (2 ^ 63) → Value s (i + 1) y
-  unfolding valueFrom
+  pub value-on : i < length s → (d y : ℕ) → d ≡ digitOf (getD s i 0) → y ≡ min (10 * x + d) firstBeyond
+      → Value s (i + 1) y
+  unfolding decimalFrom
   value-on h d y e f =
-      let g : min (valueFrom 0 s) (2 ^ 63) ≡ min (valueFrom (10 * x + d) (drop (i + 1) s)) (2 ^ 63) =
-      v .so-far ∙ ap (λ (l : List ℕ). min (valueFrom x l) (2 ^ 63)) (split s i h)
-      ∙ ap (λ (z : ℕ). min (valueFrom (10 * x + z) (drop (i + 1) s)) (2 ^ 63)) (sym e) in record {
+      let g : min (decimalFrom 0 s) firstBeyond ≡ min (decimalFrom (10 * x + d) (drop (i + 1) s)) firstBeyond =
+      v .so-far ∙ ap (λ (l : List ℕ). min (decimalFrom x l) firstBeyond) (split s i h)
+      ∙ ap (λ (z : ℕ). min (decimalFrom (10 * x + z) (drop (i + 1) s)) firstBeyond) (sym e) in record {
         within = omega arith;
-        so-far = g ∙ held-on (10 * x + d) (drop (i + 1) s) ∙ ap (λ (z : ℕ). min (valueFrom z (drop (i + 1) s)) (2 ^ 63)) (sym f);
+        so-far =
+            g ∙ held-on (10 * x + d) (drop (i + 1) s) ∙ ap
+            (λ (z : ℕ). min (decimalFrom z (drop (i + 1) s)) firstBeyond) (sym f);
         held = omega arith;
       }
 
-  pub value-end : length s ≤ i → x ≡ min (valueFrom 0 s) (2 ^ 63)
-  unfolding valueFrom
+  pub value-end : length s ≤ i → x ≡ min (decimalFrom 0 s) firstBeyond
+  unfolding decimalFrom
   value-end h =
-      let g : min (valueFrom 0 s) (2 ^ 63) ≡ min x (2 ^ 63) = v .so-far ∙ ap (λ (l : List ℕ). min (valueFrom x l) (2 ^ 63)) (none-left s i h) in
+      let g : min (decimalFrom 0 s) firstBeyond ≡ min x firstBeyond =
+      v .so-far ∙ ap (λ (l : List ℕ). min (decimalFrom x l) firstBeyond) (none-left s i h) in
       let b = v .held in omega arith

@@ -2,7 +2,7 @@
 use mathlib.Core.Path.{_≡_, _∙_}
 use mathlib.Core.Bool.{Bool, true, false, cond, _&&_}
 use mathlib.Core.List.{List, [], _∷_, _++_}
-use Prim.Native.Nat.{ℕ, zero, suc, _+_, _-_, _/_, _%_, _^_, _≤_}
+use Prim.Native.Nat.{ℕ, zero, suc, _-_, _/_, _%_, _^_, _≤_}
 use native.Mathlib.Omega.{arith}
 use lib.Dec.{ltb}
 use lib.IntN.{ℤ, natAbs}
@@ -12,7 +12,7 @@ use Rattle.card.specs.Clip.{clipOf}
 use Rattle.card.specs.Judge.{judgeOf}
 use Rattle.card.specs.Told.{judgedNumber}
 use Rattle.sheet.specs.Text.{room, textOf, shown}
-use Rattle.sheet.specs.Digits.{glyphOf, digitsOf, hexDigits, plainDigits, signOf, belowZero, picoOf, ampereDigits}
+use Rattle.sheet.specs.Digits.{glyphOf, digitsOf, hexDigits, plainDigits, signOf, belowZero, picoOf, ampereDigits, decimals, maskDigits, mostDigits, wordDigits}
 use Rattle.sheet.specs.Lines.{newline, labelLine, listedMask, listingLine, readingOf, nodeLine, sheetLine}
 
 pub text-whole : (l : List ℕ) → length l ≤ room → shown (textOf l) ≡ l
@@ -35,7 +35,8 @@ unfolding plainDigits
 plain-long zero n = omega arith
 plain-long (suc k) n =
     let h = plain-long k (n / 10) in
-    one-or-more (ltb n 10) (glyphOf n) (plainDigits k (n / 10) ++ glyphOf (n % 10) ∷ []) k (rw length-append (omega arith))
+    one-or-more (ltb n 10) (glyphOf n) (plainDigits k (n / 10) ++ glyphOf (n % 10) ∷ []) k
+    (rw length-append (omega arith))
 
 sign-long : (b : Bool) → length (signOf b) ≤ 1
 sign-long true = omega arith
@@ -45,44 +46,50 @@ ampere-long : (z : ℤ) → length (ampereDigits z) ≤ 34
 ampere-long z =
     let n = picoOf (natAbs z) in
     let h = sign-long (belowZero z && ltb 0 n) in
-    let k = plain-long 20 (n / 10 ^ 12) in
-    let d = digits-long 10 12 n in
+    let k = plain-long mostDigits (n / 10 ^ decimals) in
+    let d = digits-long 10 decimals n in
     simp length-append (omega arith)
 
 reading-long : (node : ℕ) (v ticks : ℤ) → length (readingOf node v ticks) ≤ 64
 unfolding readingOf
 reading-long node v ticks =
-    let n = plain-long 20 node in
+    let n = plain-long mostDigits node in
     let a = sign-long (belowZero v) in
-    let b = plain-long 20 (natAbs v) in
+    let b = plain-long mostDigits (natAbs v) in
     let c = sign-long (belowZero ticks) in
-    let d = plain-long 20 (natAbs ticks) in
+    let d = plain-long mostDigits (natAbs ticks) in
     simp length-append (omega arith)
 
 -- ---- the lines
 
 pub label-whole : (label : List ℕ) (n : ℕ) → length label ≤ 80 → shown (textOf (labelLine label n)) ≡ labelLine label n
 unfolding labelLine
-label-whole label n h = let k = plain-long 20 n in text-whole (labelLine label n) (simp length-append (omega arith))
+label-whole label n h =
+    let k = plain-long mostDigits n in
+    text-whole (labelLine label n) (simp length-append (omega arith))
 
-pub listing-whole : (name bytes : List ℕ) → length name ≤ 16 → shown (textOf (listingLine name bytes)) ≡ listingLine name bytes
+pub listing-whole : (name bytes : List ℕ) → length name ≤ 16
+    → shown (textOf (listingLine name bytes)) ≡ listingLine name bytes
 unfolding listingLine
 listing-whole name bytes h =
     let number = judgedNumber (judgeOf bytes) in
-    let b = digits-long 16 4 (listedMask number (clipOf bytes .mask)) in
-    let d = plain-long 20 number in
+    let b = digits-long 16 maskDigits (listedMask number (clipOf bytes .mask)) in
+    let d = plain-long mostDigits number in
     text-whole (listingLine name bytes) (simp length-append (omega arith))
 
 pub node-whole : (node : ℕ) (v ticks : ℤ) → shown (textOf (nodeLine node v ticks)) ≡ nodeLine node v ticks
 unfolding nodeLine
-node-whole node v ticks = let h = reading-long node v ticks in text-whole (nodeLine node v ticks) (simp length-append (omega arith))
+node-whole node v ticks =
+    let h = reading-long node v ticks in
+    text-whole (nodeLine node v ticks) (simp length-append (omega arith))
 
 pub sheet-whole : (node : ℕ) (v ticks : ℤ) → shown (textOf (sheetLine node v ticks)) ≡ sheetLine node v ticks
 unfolding sheetLine
 sheet-whole node v ticks =
     let h = reading-long node v ticks in
     let k = ampere-long ticks in
-    text-whole (sheetLine node v ticks) (rw length-append (omega (arith, length-append (ampereDigits ticks) (newline ∷ []))))
+    text-whole (sheetLine node v ticks)
+    (rw length-append (omega (arith, length-append (ampereDigits ticks) (newline ∷ []))))
 
-pub hex-whole : (k n : ℕ) → k ≤ 16 → shown (textOf (hexDigits k n)) ≡ hexDigits k n
+pub hex-whole : (k n : ℕ) → k ≤ wordDigits → shown (textOf (hexDigits k n)) ≡ hexDigits k n
 hex-whole k n h = let d = digits-long 16 k n in text-whole (hexDigits k n) (omega arith)
