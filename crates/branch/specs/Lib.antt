@@ -4,3 +4,5 @@ pub mod Outcome
 pub mod Ready
 pub mod Worked
 pub mod Currents
+pub mod Ends
+pub mod Empty

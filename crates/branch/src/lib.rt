@@ -8,6 +8,12 @@ ghost use Rattle.branch.specs.Currents.{levelOf, someOff, refuse, at13, 
 
 mod values; // values.rt: T's and ratios at given voltages
 mod rows; // rows.rt: which row overloads, and each row's ticks
+mod ends; // ends.rt: where the branches start and end
+mod empty; // empty.rt: a ready card of zeros
+
+pub use ends::from_roles;
+pub use ends::to_roles;
+pub use empty::no_ready;
 
 use card::Judged;
 use card::WorkedCard;
