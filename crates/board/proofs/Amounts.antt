@@ -4,34 +4,33 @@ use mathlib.Core.Bool.{Bool, true, false, cond}
 use mathlib.Core.List.{List}
 use mathlib.Core.Logic.{_⊎_, inl, inr}
 use Prim.Native.Nat.{ℕ, zero, suc, _+_, _*_, _^_, _≤_, _<_, zero-le}
-use native.Mathlib.Nat.{le-of-lt, suc-mul}
+use native.Mathlib.Nat.{suc-mul}
 use native.Mathlib.Numerals.{add-one}
 use native.Mathlib.Omega.{arith}
-use lib.Dec.{eqb}
+use lib.Dec.{eqb, lit<}
 use lib.ListN.{length, getD, set, length-set, List·getD-eq-default}
 use lib.Seq.{getD-set-same, getD-set-other}
-use lib.IntN.{ℤ, pos, negsuc, natAbs, negℤ, _+ℤ_, _-ℤ_, +ℤ-idr, +ℤ-assoc}
+use lib.IntN.{ℤ, pos, natAbs, negℤ, _+ℤ_, _-ℤ_, +ℤ-idr, +ℤ-assoc}
 use borrow.Author.Tests.{eqb-true, eqb-false}
 use mir.Syntax.{w64}
-use mir.Val.{SFits, toZ, ofZ}
-use mir.ValLaws.{toZ-ofZ}
+use mir.Val.{SFits}
 use Rattle.whole.specs.Biased.{below-or-not}
-use Rattle.board.specs.Verdict.{nodesMost}
+use Rattle.branch.specs.Outcome.{tickLimit}
+use Rattle.board.specs.Counts.{roles, branches, nodesMost}
 use Rattle.board.specs.Desk.{atNode}
-use Rattle.board.specs.Parts.{More, Within, Room, Wired, ends, endsGive, spread}
-use Rattle.board.proofs.Totals.{abs-add, abs-neg, abs-ends}
+use Rattle.board.specs.inner.Parts.{More, Within, Room, Wired, ends, endsGive, spread}
+use Rattle.board.specs.inner.Sizes.{flowMost, workedMost, handedMost}
+use Rattle.board.proofs.Integers.{abs-add, abs-neg, abs-ends, turned, held, fits, held-is}
 
--- ---- what the machine holds of a small number is the number
+-- ---- the sizes fit
 
-abbrev pub held : ℤ → ℤ
-held z = toZ w64 (ofZ w64 z)
+-- a role's amount with a branch more at each of its ends
+branch-fits : flowMost + 2 * tickLimit < 2 ^ 63
+branch-fits = lit< tt
 
-pub fits : (z : ℤ) → natAbs z < 2 ^ 63 → SFits w64 z
-fits (pos n) h = record { sfits = h }
-fits (negsuc n) h = record { sfits = le-of-lt h }
-
-pub held-is : (z : ℤ) → natAbs z < 2 ^ 63 → held z ≡ z
-held-is z h = toZ-ofZ w64 z (fits z h)
+-- a total with a role's amount more
+pub amount-fits : handedMost + flowMost < 2 ^ 63
+amount-fits = lit< tt
 
 -- ---- more at one node
 
@@ -42,15 +41,11 @@ at-one l m x n h = go (eqb m n) refl
     go true e = let same = eqb-true m n e in rw (← same) (getD-set-same l m _ (pos 0) h)
     go false e = getD-set-other l m n _ (pos 0) (λ q. eqb-false m n e (sym q)) ∙ sym (+ℤ-idr _)
 
-turned : (t : Bool) (x : ℤ) → cond t (negℤ x) (pos 0) ≡ negℤ (cond t x (pos 0))
-turned true x = refl
-turned false x = refl
-
 -- ---- a branch
 
 -- asked of a branch
 abbrev pub Fair : List ℤ → ℕ → ℕ → ℤ → Type 0
-Fair l f t x = (f < 7) × (t < 7) × Room 7 (7 * 2 ^ 53) l × (natAbs x ≤ 2 ^ 53)
+Fair l f t x = (f < roles) × (t < roles) × Room roles flowMost l × (natAbs x ≤ tickLimit)
 
 abs-at : (m n : ℕ) (x : ℤ) → natAbs (atNode m n x) ≤ natAbs x
 abs-at m n x = go (eqb m n)
@@ -60,7 +55,7 @@ abs-at m n x = go (eqb m n)
     go false = zero-le
 
 module _ (l : List ℤ) (f t : ℕ) (x : ℤ) (p : Fair l f t x) where
-  long : length l ≡ 7
+  long : length l ≡ roles
   long = p .2 .long
 
   x-is : held x ≡ x
@@ -85,7 +80,7 @@ module _ (l : List ℤ) (f t : ℕ) (x : ℤ) (p : Fair l f t x) where
   once-at : (n : ℕ) → getD once n (pos 0) ≡ getD l n (pos 0) +ℤ atNode f n x
   once-at n = rw once-is (at-one l f x n (rw long (p .0)))
 
-  small-once : natAbs (getD once t (pos 0)) ≤ 8 * 2 ^ 53
+  small-once : natAbs (getD once t (pos 0)) ≤ flowMost + tickLimit
   small-once =
       let a = p .2 .within t in
       let b = p .3 in
@@ -109,10 +104,10 @@ module _ (l : List ℤ) (f t : ℕ) (x : ℤ) (p : Fair l f t x) where
   twice-is : twice ≡ set once t (getD once t (pos 0) +ℤ negℤ x)
   twice-is = ap (λ (z : ℤ). set once t z) (ap (λ (z : ℤ). held (z -ℤ held x)) to-is ∙ ap (λ (z : ℤ). held (getD once t (pos 0) -ℤ z)) x-is ∙ held-is _ small-less)
 
-  once-long : length once ≡ 7
+  once-long : length once ≡ roles
   once-long = length-set l f _ ∙ long
 
-  pub branch-gives : More 7 l twice (ends f t x)
+  pub branch-gives : More roles l twice (ends f t x)
   branch-gives =
       record {
         long = length-set once t _ ∙ once-long;
@@ -124,7 +119,7 @@ module _ (l : List ℤ) (f t : ℕ) (x : ℤ) (p : Fair l f t x) where
 
 -- ---- all branches
 
-pub ends-small : (froms tos : List ℕ) (ticks : List ℤ) → Within (2 ^ 53) ticks → (k n : ℕ) → natAbs (endsGive froms tos ticks k n) ≤ k * 2 ^ 53
+pub ends-small : (froms tos : List ℕ) (ticks : List ℤ) → Within tickLimit ticks → (k n : ℕ) → natAbs (endsGive froms tos ticks k n) ≤ k * tickLimit
 unfolding endsGive
 ends-small froms tos ticks w zero n = zero-le
 ends-small froms tos ticks w (suc k) n =
@@ -133,7 +128,7 @@ ends-small froms tos ticks w (suc k) n =
     let b = w .within k in
     let e = abs-ends (eqb (getD froms k 0) n) (eqb (getD tos k 0) n) x in
     let s = abs-add (endsGive froms tos ticks k n) (ends (getD froms k 0) (getD tos k 0) x n) in
-    rw (suc-mul k (2 ^ 53)) (omega arith)
+    rw (suc-mul k tickLimit) (omega arith)
 
 pub room-more : {k a m : ℕ} {l₀ l : List ℤ} {f : ℕ → ℤ} → Room k a l₀ → More k l₀ l f → ((n : ℕ) → natAbs (f n) ≤ m) → Room k (a + m) l
 room-more {k} {a} {m} {l₀} {l} {f} w more small = record { long = more .long; within = λ n. go n (below-or-not n k) }
@@ -149,11 +144,11 @@ pub room-less : {k a m : ℕ} {l : List ℤ} → a ≤ m → Room k a l → Room
 room-less h w = record { long = w .long; within = λ n. let u = w .within n in omega arith }
 
 module _ (froms tos : List ℕ) (ticks : List ℤ) where
-  pub ends-none : (l : List ℤ) → length l ≡ 7 → More 7 l l (endsGive froms tos ticks 0)
+  pub ends-none : (l : List ℤ) → length l ≡ roles → More roles l l (endsGive froms tos ticks 0)
   unfolding endsGive
   ends-none l h = record { long = h; at = λ n k. sym (+ℤ-idr (getD l n (pos 0))) }
 
-  pub ends-more : {l₀ l l′ : List ℤ} (k : ℕ) (x : ℤ) → More 7 l₀ l (endsGive froms tos ticks k) → x ≡ getD ticks k (pos 0) → More 7 l l′ (ends (getD froms k 0) (getD tos k 0) x) → More 7 l₀ l′ (endsGive froms tos ticks (k + 1))
+  pub ends-more : {l₀ l l′ : List ℤ} (k : ℕ) (x : ℤ) → More roles l₀ l (endsGive froms tos ticks k) → x ≡ getD ticks k (pos 0) → More roles l l′ (ends (getD froms k 0) (getD tos k 0) x) → More roles l₀ l′ (endsGive froms tos ticks (k + 1))
   unfolding endsGive
   ends-more {l₀} k x p e q =
       record {
@@ -163,14 +158,14 @@ module _ (froms tos : List ℕ) (ticks : List ℤ) where
       }
 
   -- there is room for one more branch
-  pub fair-next : {l₀ l : List ℤ} (k : ℕ) (x : ℤ) → Wired 7 froms → Wired 7 tos → Room 7 0 l₀ → Within (2 ^ 53) ticks → k < 7 → x ≡ getD ticks k (pos 0) → More 7 l₀ l (endsGive froms tos ticks k) → Fair l (getD froms k 0) (getD tos k 0) x
+  pub fair-next : {l₀ l : List ℤ} (k : ℕ) (x : ℤ) → Wired roles froms → Wired roles tos → Room roles 0 l₀ → Within tickLimit ticks → k < branches → x ≡ getD ticks k (pos 0) → More roles l₀ l (endsGive froms tos ticks k) → Fair l (getD froms k 0) (getD tos k 0) x
   fair-next k x u v w s h e more =
       let b = s .within k in
       (u .wired k, v .wired k, room-less (omega arith) (room-more w more (ends-small froms tos ticks s k)), rw e b)
 
 -- ---- a role's amount to its node
 
-module _ (l : List ℤ) (n : ℕ) (x : ℤ) (p : (n < nodesMost) × Room nodesMost (930 * 2 ^ 53) l × (natAbs x ≤ 7 * 2 ^ 53)) where
+module _ (l : List ℤ) (n : ℕ) (x : ℤ) (p : (n < nodesMost) × Room nodesMost handedMost l × (natAbs x ≤ flowMost)) where
   amount-is : held x ≡ x
   amount-is = let b = p .2 in held-is x (omega arith)
 
@@ -215,7 +210,7 @@ module _ (nodes : List ℕ) (f : ℕ → ℤ) where
       }
 
   -- there is room for one more role
-  pub room-next : {l₀ l : List ℤ} (k : ℕ) (x : ℤ) → Wired nodesMost nodes → Room nodesMost (880 * 2 ^ 53) l₀ → ((r : ℕ) → natAbs (f r) ≤ 7 * 2 ^ 53) → k < 7 → x ≡ f k → More nodesMost l₀ l (spread nodes f k) → (getD nodes k 0 < nodesMost) × Room nodesMost (930 * 2 ^ 53) l × (natAbs x ≤ 7 * 2 ^ 53)
+  pub room-next : {l₀ l : List ℤ} (k : ℕ) (x : ℤ) → Wired nodesMost nodes → Room nodesMost workedMost l₀ → ((r : ℕ) → natAbs (f r) ≤ flowMost) → k < roles → x ≡ f k → More nodesMost l₀ l (spread nodes f k) → (getD nodes k 0 < nodesMost) × Room nodesMost handedMost l × (natAbs x ≤ flowMost)
   room-next k x u w s h e more =
       let b = s k in
-      (u .wired k, room-less (omega arith) (room-more w more (spread-small nodes f (7 * 2 ^ 53) s k)), rw e b)
+      (u .wired k, room-less (omega arith) (room-more w more (spread-small nodes f flowMost s k)), rw e b)

@@ -21,10 +21,11 @@ use Rattle.board.specs.declared.Card.{Card}
 use Rattle.board.specs.declared.Transistor.{Transistor}
 use Rattle.board.specs.declared.Board.{Board}
 use Rattle.board.specs.declared.Answer.the-variants.{Issue, Done, Node, Refused}
-use Rattle.board.specs.Verdict.{nodesMost, cardsMost, transistorsMost, Found, none, some, issueOf, offNode, loadVerdict, withdrawVerdict, lookVerdict, nodeVerdict}
+use Rattle.board.specs.Counts.{nodesMost, cardsMost, transistorsMost, issuesMost}
+use Rattle.board.specs.Verdict.{Found, none, some, issueOf, offNode, loadVerdict, withdrawVerdict, lookVerdict, nodeVerdict}
 use Rattle.board.specs.Desk.{anyOf}
 use Rattle.board.specs.Model.{first, isCard, isTransistor, cardPlace, transistorPlace, foundAt, emptyCard, refuse, freeCard, withCards, loadedOf, withdrawnOf, standsOn, highestAt, lookedOf, showedOf}
-use Rattle.board.specs.Parts.{nodeOf, placeOr}
+use Rattle.board.specs.inner.Parts.{nodeOf, placeOr}
 use Rattle.board.proofs.Verdicts.{on-node}
 
 -- ---- places and nodes as numbers
@@ -140,10 +141,10 @@ module _ (b : Board) (name bytes : List ℕ) where
         unfolding loadedOf loadVerdict
         load-no-room h = rw (l, e, j, le-leb _ _ h)
 
-        pub load-used-up : freeCard (b .cards) < cardsMost → 65535 < b .next → refuse b NumbersUsedUp ≡ loadedOf b name bytes
+        pub load-used-up : freeCard (b .cards) < cardsMost → issuesMost < b .next → refuse b NumbersUsedUp ≡ loadedOf b name bytes
         unfolding loadedOf loadVerdict
         load-used-up h k = rw (l, e, j, lt-leb _ _ h, lt-ltb _ _ k)
 
-        pub loads-it : (i : ℕ) (held : List ℕ) (ready : Ready) → i ≡ freeCard (b .cards) → i < cardsMost → b .next ≤ 65535 → held ≡ padded name → ready ≡ readyOf w → record { board = withCards b (set (b .cards) i (record { issue = b .next; name = held; ready = ready })) (b .next + 1); answer = Issue (b .next) } ≡ loadedOf b name bytes
+        pub loads-it : (i : ℕ) (held : List ℕ) (ready : Ready) → i ≡ freeCard (b .cards) → i < cardsMost → b .next ≤ issuesMost → held ≡ padded name → ready ≡ readyOf w → record { board = withCards b (set (b .cards) i (record { issue = b .next; name = held; ready = ready })) (b .next + 1); answer = Issue (b .next) } ≡ loadedOf b name bytes
         unfolding loadedOf loadVerdict
         loads-it i held ready p h k q r = rw (l, e, j, ← p, lt-leb _ _ h, le-ltb _ _ k, q, r) (rw p)

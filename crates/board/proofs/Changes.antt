@@ -2,7 +2,7 @@
 use mathlib.Core.Path.{_≡_, sym, ap, _∙_, subst}
 use mathlib.Core.Bool.{Bool, true, false}
 use mathlib.Core.List.{List, map}
-use Prim.Native.Nat.{ℕ, _+_, _*_, _^_, _≤_, _<_}
+use Prim.Native.Nat.{ℕ, _+_, _≤_, _<_}
 use native.Mathlib.Omega.{arith}
 use lib.Dec.{leb}
 use lib.ListN.{length, getD, set, length-map}
@@ -17,14 +17,17 @@ use Rattle.board.specs.declared.Board.{Board}
 use Rattle.board.specs.declared.Answer.the-variants.{Issue, Done}
 use Rattle.board.specs.declared.rules.Way.{Way}
 use Rattle.board.specs.declared.rules.Way.the-variants.{Go, Stop}
-use Rattle.board.specs.Verdict.{nodesMost, transistorsMost, none, some, Verdict, yes, issueOf, offNode, moveVerdict, liftVerdict, placeVerdict}
+use Rattle.board.specs.Counts.{roles, nodesMost, cardsMost, transistorsMost, issuesMost}
+use Rattle.board.specs.Verdict.{none, some, issueOf, offNode, moveVerdict, liftVerdict, placeVerdict}
+use Rattle.refusal.specs.Order.{Verdict, yes}
 use Rattle.branch.specs.Currents.{offVolts}
 use Rattle.branch.proofs.Levels.{Leveled}
 use Rattle.board.specs.Desk.{overloads, flow, anyOf, usedUp}
 use Rattle.board.specs.Model.{isTransistor, cardPlace, transistorPlace, noTransistor, emptyTransistor, noCard, workedAt, placeGives, placeOverloads, totalsOf, voltsOf, refuse, freeTransistor, placedOf, mayPlace, movedOf, liftedOf, Reached}
-use Rattle.board.specs.Parts.{nodeOf, seatOr, More, Room, backFlow}
-use Rattle.board.specs.Settle.{Workable, Settling}
-use Rattle.board.specs.Placing.{placing, wayOf}
+use Rattle.board.specs.inner.Parts.{nodeOf, seatOr, More, Room, backFlow}
+use Rattle.board.specs.inner.Settle.{Workable, Settling}
+use Rattle.board.specs.inner.Placing.{placing, wayOf}
+use Rattle.board.specs.inner.Sizes.{workedMost}
 use Rattle.board.proofs.Lists.{first-passes}
 use Rattle.board.proofs.Good.{good, at-card, at-transistor, AtTransistor, on-nodes}
 use Rattle.board.proofs.Orderly.{orderly-after}
@@ -51,7 +54,7 @@ module _ {b : Board} (k : Reached b) (z : ℤ) (i : ℕ) (there : transistorPlac
   stands : leaver .issue ≡ 0 → ⊥
   stands e = placed-there .given (sym (placed-there .issue-is) ∙ e)
 
-  pub lift-works : (table : List ℕ) → table ≡ entries → Workable table (getD (b .cards) s noCard) (leaver .nodes) (b .volts) × Room nodesMost (880 * 2 ^ 53) (b .totals)
+  pub lift-works : (table : List ℕ) → table ≡ entries → Workable table (getD (b .cards) s noCard) (leaver .nodes) (b .volts) × Room nodesMost workedMost (b .totals)
   lift-works table e = (workable-seated (b .cards) leaver stands (seated (good k) i stands) s at table (b .volts) e (volts-good (good k)), room-now (good k))
 
   pub lifts-it : {t : Transistor} → t ≡ emptyTransistor → {l : List ℤ} → More nodesMost (b .totals) l (backFlow (getD (b .cards) s noCard .ready .card) (leaver .nodes) (voltsOf b)) → record { board = record { cards = b .cards; transistors = set (b .transistors) i t; volts = b .volts; totals = l; next = b .next }; answer = Done } ≡ liftedOf b z
@@ -122,13 +125,13 @@ module _ {b : Board} (reached : Reached b) (card : ℤ) (nodes : List ℤ) (n : 
     passed : placeVerdict (cardPlace (issueOf card) (b .cards)) (workedAt (b .cards)) (λ (j : ℕ). false) nodes (leb transistorsMost (freeTransistor (b .transistors))) (usedUp (b .next)) ≡ yes i
     passed = then-lastly (cardPlace (issueOf card) (b .cards)) (workedAt (b .cards)) (λ (j : ℕ). false) nodes _ _ ∙ ap (λ (v : Verdict ℕ). lastly v (λ (j : ℕ). false)) (found .0)
 
-    pub free-below : free < 64
+    pub free-below : free < transistorsMost
     free-below = rw (found .1) (leb-false transistorsMost (freeTransistor (b .transistors)) (places (cardPlace (issueOf card) (b .cards)) passed .room))
 
-    pub number-below : b .next ≤ 65535
-    number-below = ltb-false 65535 (b .next) (places (cardPlace (issueOf card) (b .cards)) passed .number)
+    pub number-below : b .next ≤ issuesMost
+    number-below = ltb-false issuesMost (b .next) (places (cardPlace (issueOf card) (b .cards)) passed .number)
 
-    pub seat-below : i < 16
+    pub seat-below : i < cardsMost
     seat-below =
         let a = at-card (issueOf card) (b .cards) i (good reached .cards-long) (places (cardPlace (issueOf card) (b .cards)) passed .there) in
         subst (λ (k : ℕ). i < k) (good reached .cards-long) (a .below)
@@ -145,9 +148,9 @@ module _ {b : Board} (reached : Reached b) (card : ℤ) (nodes : List ℤ) (n : 
     abbrev newcomer : Transistor
     newcomer = record { issue = b .next; card = getD (b .cards) i noCard .issue; seat = i; nodes = on }
 
-    pub place-works : (table : List ℕ) → table ≡ entries → length nodes ≡ 7 → Workable table (getD (b .cards) i noCard) on (b .volts) × Room nodesMost (880 * 2 ^ 53) (b .totals)
+    pub place-works : (table : List ℕ) → table ≡ entries → length nodes ≡ roles → Workable table (getD (b .cards) i noCard) on (b .volts) × Room nodesMost workedMost (b .totals)
     place-works table e h = (
-      record { table-is = e; ready = good reached .ready i card-given; wired = λ k. rw on-is (on-nodes nodes (places (cardPlace (issueOf card) (b .cards)) passed .on) k); seven = ap length oe ∙ length-map nodes nodeOf ∙ h; volts-are = volts-good (good reached) },
+      record { table-is = e; ready = good reached .ready i card-given; wired = λ k. rw on-is (on-nodes nodes (places (cardPlace (issueOf card) (b .cards)) passed .on) k); long = ap length oe ∙ length-map nodes nodeOf ∙ h; volts-are = volts-good (good reached) },
       room-now (good reached),
     )
 

@@ -1,34 +1,34 @@
--- A transistor's currents and what they do to the totals: its roles' voltages, its seven branches, and the card at its seat.
-use mathlib.Core.Path.{_≡_, refl, sym, ap, _∙_}
+-- A transistor's currents and what they do to the totals: its roles' voltages, its branches, and the card at its seat.
+use mathlib.Core.Path.{_≡_, refl, ap, _∙_}
 use mathlib.Core.Bool.{Bool, true, false, cond}
 use mathlib.Core.List.{List, [], _∷_, map}
-use Prim.Native.Nat.{ℕ, zero, suc, _*_, _^_, _≤_, _<_, zero-le}
-use native.Mathlib.Omega.{arith}
+use Prim.Native.Nat.{ℕ, zero, suc, _*_, _≤_, _<_, zero-le}
 use lib.Dec.{ltb, lit<}
-use lib.ListN.{length, getD}
+use lib.ListN.{getD}
 use lib.IntN.{ℤ, pos, natAbs, negℤ, _+ℤ_}
 use borrow.Author.Tests.{eq-eqb, ne-eqb, lt-ltb, ltb-true}
 use Rattle.octave.specs.Table.{entries}
 use Rattle.card.specs.declared.WorkedCard.{WorkedCard}
 use Rattle.branch.specs.declared.Outcome.{Outcome}
-use Rattle.branch.specs.Outcome.{outcomeOf}
+use Rattle.branch.specs.Rows.{rowsFor}
+use Rattle.branch.specs.Outcome.{tickLimit, outcomeOf}
 use Rattle.branch.specs.Ready.{lowered, reach}
 use Rattle.branch.proofs.Laws.{ticks-long, ticks-small}
 use Rattle.board.specs.declared.Card.{Card}
 use Rattle.board.specs.declared.Transistor.{Transistor}
-use Rattle.board.specs.Verdict.{nodesMost, cardsMost}
+use Rattle.board.specs.Counts.{nodesMost, cardsMost}
 use Rattle.board.specs.Desk.{rolesAt, isOver, overloads, flow}
 use Rattle.board.specs.Model.{noCard, placeGives, placeOverloads}
-use Rattle.board.specs.Parts.{More, Within, fromRoles, toRoles, rolesGive, rolesOf, seatOr, standsAt, backFlow}
-use Rattle.board.specs.Settle.{Volts, Workable, Seated}
+use Rattle.board.specs.inner.Parts.{More, Within, rolesGive, rolesOf, seatOr, standsAt, backFlow}
+use Rattle.branch.specs.Ends.{fromRoles, toRoles}
+use Rattle.board.specs.inner.Settle.{Volts, Workable, Seated}
+use Rattle.board.specs.inner.Sizes.{flowMost}
+use Rattle.board.proofs.Integers.{clash, abs-neg}
 use Rattle.board.proofs.Lists.{getD-map}
-use Rattle.board.proofs.Totals.{abs-neg, small-flow}
-use Rattle.board.proofs.Roles.{seven, roles-are-rows, roles-turned}
+use Rattle.board.proofs.Totals.{small-flow}
+use Rattle.board.proofs.Roles.{roles-are-rows, roles-turned}
 
 -- ---- the voltages of the roles
-
-pub roles-are : (volts nodes : List ℕ) → length nodes ≡ 7 → getD volts (getD nodes 0 0) 0 ∷ getD volts (getD nodes 1 0) 0 ∷ getD volts (getD nodes 2 0) 0 ∷ getD volts (getD nodes 3 0) 0 ∷ getD volts (getD nodes 4 0) 0 ∷ getD volts (getD nodes 5 0) 0 ∷ getD volts (getD nodes 6 0) 0 ∷ [] ≡ rolesOf volts nodes
-roles-are volts nodes h = sym (ap (rolesOf volts) (seven 0 nodes h))
 
 module _ (volts : List ℕ) (v : Volts volts) where
   pub roles-lowered : (nodes : List ℕ) → ((k : ℕ) → getD nodes k 0 < nodesMost) → map lowered (rolesOf volts nodes) ≡ rolesAt (map lowered volts) nodes
@@ -40,9 +40,9 @@ module _ (volts : List ℕ) (v : Volts volts) where
   roles-near (n ∷ nodes) zero = v .near n
   roles-near (n ∷ nodes) (suc k) = roles-near nodes k
 
--- ---- what its seven branches do to the totals
+-- ---- what its branches do to the totals
 
-pub ticks-within : (c : WorkedCard) (v : List ℤ) → Within (2 ^ 53) (outcomeOf c v .ticks)
+pub ticks-within : (c : WorkedCard) (v : List ℤ) → Within tickLimit (outcomeOf c v .ticks)
 ticks-within c v = record { within = ticks-small c v }
 
 module _ (c : WorkedCard) (nodes : List ℕ) (volts : List ℤ) where
@@ -53,14 +53,14 @@ module _ (c : WorkedCard) (nodes : List ℕ) (volts : List ℤ) where
   pub gives-flow : {l l′ : List ℤ} → More nodesMost l l′ (rolesGive nodes fromRoles toRoles (outcomeOf c (rolesAt volts nodes) .ticks)) → More nodesMost l l′ (flow c nodes volts)
   unfolding flow
   gives-flow {l} m =
-      record { long = m .long; at = λ n h. m .at n h ∙ ap (λ (z : ℤ). getD l n (pos 0) +ℤ z) (roles-are-rows (c .exsub) nodes _ n (ticks-long c (rolesAt volts nodes))) }
+      record { long = m .long; at = λ n h. m .at n h ∙ ap (λ (z : ℤ). getD l n (pos 0) +ℤ z) (roles-are-rows (rowsFor (c .exsub)) nodes _ n (ticks-long c (rolesAt volts nodes))) }
 
   pub takes-flow : {l l′ : List ℤ} → More nodesMost l l′ (rolesGive nodes toRoles fromRoles (outcomeOf c (rolesAt volts nodes) .ticks)) → More nodesMost l l′ (backFlow c nodes volts)
   unfolding flow backFlow
   takes-flow {l} m =
-      record { long = m .long; at = λ n h. m .at n h ∙ ap (λ (z : ℤ). getD l n (pos 0) +ℤ z) (roles-turned (c .exsub) nodes _ n (ticks-long c (rolesAt volts nodes))) }
+      record { long = m .long; at = λ n h. m .at n h ∙ ap (λ (z : ℤ). getD l n (pos 0) +ℤ z) (roles-turned (rowsFor (c .exsub)) nodes _ n (ticks-long c (rolesAt volts nodes))) }
 
-  pub takes-small : (n : ℕ) → natAbs (backFlow c nodes volts n) ≤ 7 * 2 ^ 53
+  pub takes-small : (n : ℕ) → natAbs (backFlow c nodes volts n) ≤ flowMost
   unfolding backFlow
   takes-small n = rw (abs-neg (flow c nodes volts n)) (small-flow c nodes volts n)
 
@@ -71,7 +71,7 @@ module _ (cards : List Card) (t : Transistor) (stands : t .issue ≡ 0 → ⊥) 
   seat-is = at ∙ rw (lt-ltb _ _ (s .seat-there))
 
   pub workable-seated : (table volts : List ℕ) → table ≡ entries → Volts volts → Workable table (getD cards k noCard) (t .nodes) volts
-  workable-seated table volts i w = record { table-is = i; ready = rw seat-is (s .ready); wired = s .wired; seven = s .seven; volts-are = w }
+  workable-seated table volts i w = record { table-is = i; ready = rw seat-is (s .ready); wired = s .wired; long = s .long; volts-are = w }
 
   pub seated-gives : (volts : List ℤ) (n : ℕ) → flow (getD cards k noCard .ready .card) (t .nodes) volts n ≡ placeGives cards volts n t
   unfolding placeGives
@@ -87,7 +87,7 @@ module _ (cards : List Card) (t : Transistor) (stands : t .issue ≡ 0 → ⊥) 
 
 -- what names a node stands
 pub named-stands : (n : ℕ) (t : Transistor) → standsAt n t ≡ true → t .issue ≡ 0 → ⊥
-named-stands n t e z = let y : _≡_ {A = ℕ} 0 1 = let w : standsAt n t ≡ false = rw (eq-eqb _ _ z) in cc in omega arith
+named-stands n t e z = let w : standsAt n t ≡ false = rw (eq-eqb _ _ z) in clash (cc)
 
 pub seat-below : {k : ℕ} (t : Transistor) → k ≡ seatOr t → k < cardsMost
 seat-below t e = rw e (go (ltb (t .seat) cardsMost) refl)

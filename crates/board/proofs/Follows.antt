@@ -20,7 +20,9 @@ use Rattle.board.specs.declared.Card.{Card}
 use Rattle.board.specs.declared.Transistor.{Transistor}
 use Rattle.board.specs.declared.Board.{Board}
 use Rattle.board.specs.declared.Answered.{Answered}
-use Rattle.board.specs.Verdict.{nodesMost, cardsMost, transistorsMost, Found, none, some, Verdict, no, yes, unless, issueOf, placeVerdict, moveVerdict, liftVerdict, withdrawVerdict, nodeVerdict}
+use Rattle.board.specs.Counts.{roles, nodesMost, cardsMost, transistorsMost}
+use Rattle.board.specs.Verdict.{Found, none, some, issueOf, placeVerdict, moveVerdict, liftVerdict, withdrawVerdict, nodeVerdict}
+use Rattle.refusal.specs.Order.{Verdict, no, yes, refuseIf}
 use Rattle.branch.specs.Currents.{offVolts}
 use Rattle.board.specs.Desk as desk
 use Rattle.board.specs.Desk.{Held, Standing, Desk, Step, Call, load, place, move, lift, withdraw, lookUp, node, overloads, sumOver, anyOf, firstWith, heldAs, standsAs, without, larger, highest, flow, total, someOverloads, step, freshDesk, after}
@@ -41,7 +43,7 @@ abbrev mapVerdict : {A B : Type 0} → (A → B) → Verdict A → Verdict B
 mapVerdict g (no f) = no f
 mapVerdict g (yes a) = yes (g a)
 
-map-unless : {A B : Type 0} (g : A → B) (t : Bool) (f : Refusal) (v : Verdict A) → mapVerdict g (unless t f v) ≡ unless t f (mapVerdict g v)
+map-unless : {A B : Type 0} (g : A → B) (t : Bool) (f : Refusal) (v : Verdict A) → mapVerdict g (refuseIf t f v) ≡ refuseIf t f (mapVerdict g v)
 map-unless g true f v = refl
 map-unless g false f v = refl
 
@@ -171,7 +173,7 @@ module _ (b : Board) (d : Desk) (g : Good b) (o : Orderly d) (s : Stands b d) wh
             };
           }
 
-  follow-place : (card : ℤ) (nodes : List ℤ) (seven : length nodes ≡ 7) → Follow (placedOf b card nodes) (step d (place card nodes seven))
+  follow-place : (card : ℤ) (nodes : List ℤ) (seven : length nodes ≡ roles) → Follow (placedOf b card nodes) (step d (place card nodes seven))
   unfolding placedOf step
   follow-place card nodes seven = subst (λ (v : Verdict Held). Follow (placedOf b card nodes) (desk.placed d nodes v)) agree (go (board.mayPlace b card nodes) refl)
     where
@@ -259,7 +261,7 @@ module _ (b : Board) (d : Desk) (g : Good b) (o : Orderly d) (s : Stands b d) wh
       let a = at-card (issueOf n) (b .cards) i (g .cards-long) e in
       let used : anyOf (standsOn (issueOf n)) (b .transistors) ≡ anyOf (λ (t : Standing). eqb (t .card) (heldAt b i .issue)) (d .standing) =
       sym (any-on b d g o s (issueOf n)) ∙ ap (λ (k : ℕ). anyOf (λ (t : Standing). eqb (t .card) k) (d .standing)) (sym (a .issue-is)) in
-      rw (card-by b d g o s (issueOf n), e) (map-unless (heldAt b) (anyOf (standsOn (issueOf n)) (b .transistors)) _ _ ∙ ap (λ (t : Bool). unless t CardInUse (yes (heldAt b i))) used)
+      rw (card-by b d g o s (issueOf n), e) (map-unless (heldAt b) (anyOf (standsOn (issueOf n)) (b .transistors)) _ _ ∙ ap (λ (t : Bool). refuseIf t CardInUse (yes (heldAt b i))) used)
 
   follow-withdraw : (n : ℤ) → Follow (withdrawnOf b n) (step d (withdraw n))
   unfolding withdrawnOf step

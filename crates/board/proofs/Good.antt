@@ -1,9 +1,8 @@
 -- What holds of every board that calls from a fresh board leave: who sits where, and that each total is worked from what stands.
 use mathlib.Core.Path.{_≡_, refl, sym, ap, _∙_, subst}
-use mathlib.Core.Bool.{Bool, true, false, cond, not, _||_}
+use mathlib.Core.Bool.{Bool, true, false, cond, _||_}
 use mathlib.Core.List.{List, [], _∷_, map}
 use Prim.Native.Nat.{ℕ, zero, suc, _+_, _*_, _≤_, _<_}
-use native.Mathlib.Omega.{arith}
 use lib.Dec.{eqb, leb, lit<, lit≤}
 use lib.ListN.{length, getD, set, replicate, length-set, length-replicate, length-map}
 use lib.Seq.{getD-set-other}
@@ -16,10 +15,13 @@ use Rattle.branch.proofs.Levels.{kept}
 use Rattle.board.specs.declared.Card.{Card}
 use Rattle.board.specs.declared.Transistor.{Transistor}
 use Rattle.board.specs.declared.Board.{Board}
-use Rattle.board.specs.Verdict.{nodesMost, cardsMost, transistorsMost, none, some, Verdict, no, yes, issueOf, offNode, someOff, lookVerdict, nodeVerdict}
+use Rattle.board.specs.Counts.{roles, nodesMost, cardsMost, transistorsMost}
+use Rattle.board.specs.Verdict.{none, some, issueOf, offNode, someOff, lookVerdict, nodeVerdict}
+use Rattle.refusal.specs.Order.{Verdict, no, yes}
 use Rattle.branch.specs.Currents.{offVolts}
 use Rattle.board.specs.Desk.{Call, load, place, move, lift, withdraw, lookUp, node, overloads, flow, sumOver, anyOf}
 use Rattle.board.specs.Model.{first, foundAt, isCard, cardPlace, transistorPlace, emptyCard, noCard, emptyTransistor, noTransistor, workedAt, placeGives, placeOverloads, totalsOf, freshBoard, voltsOf, freeCard, freeTransistor, loaded, loadedOf, placed, placedOf, moved, movedOf, lifted, liftedOf, withdrawn, withdrawnOf, standsOn, looked, lookedOf, showed, showedOf, mayLoad, mayPlace, mayMove, mayLift, mayWithdraw, answered, boardAfter, Reached}
+use Rattle.board.proofs.Integers.{clash}
 use Rattle.board.proofs.Lists.{each-set, each-replicate, first-passes, found-is, none-of, sum-same, tabulate-same, tabulate-none, tabulate-long, stands}
 use Rattle.board.proofs.Verdicts.{loads, places, moves, withdraws, on-node}
 
@@ -29,7 +31,7 @@ pub record Sits (cards : List Card) (volts : List ℤ) (t : Transistor) : Type 0
   pub card-there : getD cards (t .seat) noCard .issue ≡ t .card
   pub card-given : t .card ≡ 0 → ⊥
   pub wired : (k : ℕ) → getD (t .nodes) k 0 < nodesMost
-  pub seven : length (t .nodes) ≡ 7
+  pub long : length (t .nodes) ≡ roles
   pub quiet : overloads (workedAt cards (t .seat)) (t .nodes) volts ≡ false
 
 pub record Good (b : Board) : Type 0 where
@@ -54,7 +56,7 @@ module _ (cards : List Card) (p : ℕ) (c : Card) (volts : List ℤ) where
         card-there = rw same (s .card-there);
         card-given = s .card-given;
         wired = s .wired;
-        seven = s .seven;
+        long = s .long;
         quiet = rw (worked-same (t .seat) h) (s .quiet);
       }
 
@@ -144,7 +146,7 @@ at : {A : Type 0} (key : A → ℕ) (d : A) (n : ℕ) (l : List A) (i most : ℕ
 at {A} key d n l i most long e = go (eqb n 0) refl e
   where
     go : (t : Bool) → eqb n 0 ≡ t → cond t none (foundAt most (first (λ (a : A). eqb (key a) n) l)) ≡ some i → At key d n l i
-    go true p q = let z : _≡_ {A = ℕ} 0 1 = cc in absurd (omega arith)
+    go true p q = clash (cc)
     go false p q =
         let f = found-is most (first (λ (a : A). eqb (key a) n) l) i q in
         let k : first (λ (a : A). eqb (key a) n) l < length l = rw long (f .1) in
@@ -169,7 +171,7 @@ on-nodes [] e k = lit< tt
 on-nodes (z ∷ nodes) e k = go (offNode z) refl e k (λ p. on-nodes nodes p)
   where
     go : (t : Bool) → offNode z ≡ t → t || someOff nodes ≡ false → (k : ℕ) → (someOff nodes ≡ false → (j : ℕ) → getD (map natAbs nodes) j 0 < nodesMost) → getD (map natAbs (z ∷ nodes)) k 0 < nodesMost
-    go true p q k next = let z : _≡_ {A = ℕ} 0 1 = cc in absurd (omega arith)
+    go true p q k next = clash (cc)
     go false p q zero next = on-node z p
     go false p q (suc k) next = next q k
 
@@ -187,7 +189,7 @@ not-on n t h e = eqb-false (t .card) n (rw (ne-eqb (t .issue) 0 h) at e)
 
 -- ---- the other calls
 
-good-placed : {b : Board} (card : ℤ) (nodes : List ℤ) → length nodes ≡ 7 → Good b → Good (placedOf b card nodes .board)
+good-placed : {b : Board} (card : ℤ) (nodes : List ℤ) → length nodes ≡ roles → Good b → Good (placedOf b card nodes .board)
 unfolding placedOf
 good-placed {b} card nodes seven g = go _ refl
   where
@@ -202,7 +204,7 @@ good-placed {b} card nodes seven g = go _ refl
           volts-long = g .volts-long;
           near = g .near;
           sits = λ j. each-set (λ (t : Transistor). (t .issue ≡ 0 → ⊥) → Sits (b .cards) (voltsOf b) t) (b .transistors) (freeTransistor (b .transistors)) j _ noTransistor
-              (λ h. record { seat-there = subst (λ (k : ℕ). i < k) (g .cards-long) (a .below); card-there = refl; card-given = λ z. a .given (sym (a .issue-is) ∙ z); wired = on-nodes nodes (p .on); seven = length-map nodes natAbs ∙ seven; quiet = p .quiet })
+              (λ h. record { seat-there = subst (λ (k : ℕ). i < k) (g .cards-long) (a .below); card-there = refl; card-given = λ z. a .given (sym (a .issue-is) ∙ z); wired = on-nodes nodes (p .on); long = length-map nodes natAbs ∙ seven; quiet = p .quiet })
               (g .sits j);
           ready = g .ready;
           balanced = refl;
@@ -230,7 +232,7 @@ good-moved {b} n v g = go _ refl
         still k j h at quiet s =
             let t = getD (b .transistors) j noTransistor in
             let each = none-of _ (b .transistors) noTransistor quiet j (stands (λ (u : Transistor). u .issue) noTransistor (b .transistors) j refl h) in
-            record { seat-there = s .seat-there; card-there = s .card-there; card-given = s .card-given; wired = s .wired; seven = s .seven; quiet = rw at (standing-quiet (b .cards) _ t h each) }
+            record { seat-there = s .seat-there; card-there = s .card-there; card-given = s .card-given; wired = s .wired; long = s .long; quiet = rw at (standing-quiet (b .cards) _ t h each) }
 
 good-lifted : {b : Board} (n : ℤ) → Good b → Good (liftedOf b n .board)
 unfolding liftedOf

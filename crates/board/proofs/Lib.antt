@@ -1,3 +1,4 @@
+pub mod Integers
 pub mod Perms
 pub mod Places
 pub mod Verdicts

@@ -11,6 +11,7 @@ use borrow.Author.Tests.{ltb-true}
 use Rattle.board.specs.Desk.{sumOver, anyOf}
 use Rattle.board.specs.Verdict.{none, some}
 use Rattle.board.specs.Model.{first, foundAt, tabulate}
+use Rattle.board.proofs.Integers.{clash}
 
 -- what holds of the element at i, and of one put in somewhere, holds of the element at i then
 pub each-set : {A : Type 0} (P : A → Type 0) (l : List A) (n i : ℕ) (v d : A) → P v → P (getD l i d) → P (getD (set l n v) i d)
@@ -39,7 +40,7 @@ found-is most i j e = go (ltb i most) refl e
   where
     go : (t : Bool) → ltb i most ≡ t → cond t (some i) none ≡ some j → (j ≡ i) × (i < most)
     go true p q = (cc, ltb-true i most p)
-    go false p q = let z : _≡_ {A = ℕ} 0 1 = cc in absurd (omega arith)
+    go false p q = clash (cc)
 
 pub none-of : {A : Type 0} (p : A → Bool) (l : List A) (d : A) → anyOf p l ≡ false → (i : ℕ) → i < length l → p (getD l i d) ≡ false
 unfolding anyOf
@@ -47,7 +48,7 @@ none-of p [] d e i h = absurd (omega arith)
 none-of p (a ∷ rest) d e i h = go (p a) refl e i h (λ k j q. none-of p rest d k j q)
   where
     go : (t : Bool) → p a ≡ t → t || anyOf p rest ≡ false → (i : ℕ) → i < suc (length rest) → (anyOf p rest ≡ false → (j : ℕ) → j < length rest → p (getD rest j d) ≡ false) → p (getD (a ∷ rest) i d) ≡ false
-    go true q e i h next = let z : _≡_ {A = ℕ} 0 1 = cc in absurd (omega arith)
+    go true q e i h next = clash (cc)
     go false q e zero h next = q
     go false q e (suc i) h next = next e i (omega arith)
 

@@ -1,7 +1,7 @@
 -- Totals half way: the first i places at the new voltages, the others at the old ones. And totals with another transistor at one place.
 use mathlib.Core.Path.{_≡_, refl, sym, ap, _∙_, subst}
 use mathlib.Core.List.{List, [], _∷_, map}
-use Prim.Native.Nat.{ℕ, zero, suc, _+_, _*_, _^_, _≤_, _<_, zero-le}
+use Prim.Native.Nat.{ℕ, zero, suc, _+_, _*_, _≤_, _<_, zero-le}
 use native.Mathlib.Nat.{suc-mul}
 use native.Mathlib.Numerals.{add-one}
 use native.Mathlib.Omega.{arith}
@@ -13,12 +13,14 @@ use Rattle.whole.specs.Biased.{below-or-not}
 use Rattle.branch.specs.Ready.{lowered}
 use Rattle.board.specs.declared.Card.{Card}
 use Rattle.board.specs.declared.Transistor.{Transistor}
-use Rattle.board.specs.Verdict.{nodesMost}
+use Rattle.board.specs.Counts.{nodesMost, transistorsMost}
 use Rattle.board.specs.Desk.{sumOver}
 use Rattle.board.specs.Model.{noTransistor, placeGives, totalsOf}
-use Rattle.board.specs.Parts.{More, Room}
+use Rattle.board.specs.inner.Parts.{More, Room}
+use Rattle.board.specs.inner.Sizes.{flowMost, totalMost}
+use Rattle.board.proofs.Integers.{abs-add}
 use Rattle.board.proofs.Lists.{tabulate-at, tabulate-long}
-use Rattle.board.proofs.Totals.{abs-add, small-sum, small-place}
+use Rattle.board.proofs.Totals.{small-sum, small-place}
 
 -- ---- sums half way
 
@@ -94,14 +96,14 @@ are-totals cards ts volts l h at =
     ext-getD (pos 0) l (totalsOf cards ts volts) (h ∙ sym (totals-count cards ts volts))
     (λ n q. let b = subst (λ (x : ℕ). n < x) h q in at n b ∙ sym (totals-at cards ts volts n b))
 
--- no total of 64 places is above 7 rows for each
-pub totals-room : (cards : List Card) (ts : List Transistor) (volts : List ℤ) → length ts ≡ 64 → Room nodesMost (448 * 2 ^ 53) (totalsOf cards ts volts)
-totals-room cards ts volts h = record { long = totals-count cards ts volts; within = λ n. go n (below-or-not n 32) }
+-- no total is above what each place can give
+pub totals-room : (cards : List Card) (ts : List Transistor) (volts : List ℤ) → length ts ≡ transistorsMost → Room nodesMost totalMost (totalsOf cards ts volts)
+totals-room cards ts volts h = record { long = totals-count cards ts volts; within = λ n. go n (below-or-not n nodesMost) }
   where
-    go : (n : ℕ) → (n < 32) ⊎ (32 ≤ n) → natAbs (getD (totalsOf cards ts volts) n (pos 0)) ≤ 448 * 2 ^ 53
+    go : (n : ℕ) → (n < nodesMost) ⊎ (nodesMost ≤ n) → natAbs (getD (totalsOf cards ts volts) n (pos 0)) ≤ totalMost
     go n (inl b) =
-        let s = small-sum (placeGives cards volts n) (7 * 2 ^ 53) (small-place cards volts n) ts in
-        rw (totals-at cards ts volts n b) (subst (λ (k : ℕ). natAbs (sumOver (placeGives cards volts n) ts) ≤ k * (7 * 2 ^ 53)) h s)
+        let s = small-sum (placeGives cards volts n) flowMost (small-place cards volts n) ts in
+        rw (totals-at cards ts volts n b) (subst (λ (k : ℕ). natAbs (sumOver (placeGives cards volts n) ts) ≤ k * flowMost) h s)
     go n (inr b) = rw (List·getD-eq-default (totalsOf cards ts volts) (pos 0) {n = n} (rw (totals-count cards ts volts) b)) zero-le
 
 module _ {cards : List Card} {ts : List Transistor} {was volts : List ℕ} where
@@ -113,16 +115,16 @@ module _ {cards : List Card} {ts : List Transistor} {was volts : List ℕ} where
         at = λ n h. ap (λ (l : List ℤ). getD l n (pos 0)) e ∙ totals-at cards ts (map lowered was) n h;
       }
 
-  pub mixed-end : {l : List ℤ} → length ts ≡ 64 → Mixed cards ts was volts 64 l → l ≡ totalsOf cards ts (map lowered volts)
-  mixed-end {l} h m = are-totals cards ts (map lowered volts) l (m .long) (λ n b. m .at n b ∙ mixed-all _ _ 64 ts h)
+  pub mixed-end : {l : List ℤ} → length ts ≡ transistorsMost → Mixed cards ts was volts transistorsMost l → l ≡ totalsOf cards ts (map lowered volts)
+  mixed-end {l} h m = are-totals cards ts (map lowered volts) l (m .long) (λ n b. m .at n b ∙ mixed-all _ _ transistorsMost ts h)
 
-  pub mixed-room : {l : List ℤ} (i : ℕ) → length ts ≡ 64 → Mixed cards ts was volts i l → Room nodesMost (448 * 2 ^ 53) l
-  mixed-room {l} i h m = record { long = m .long; within = λ n. go n (below-or-not n 32) }
+  pub mixed-room : {l : List ℤ} (i : ℕ) → length ts ≡ transistorsMost → Mixed cards ts was volts i l → Room nodesMost totalMost l
+  mixed-room {l} i h m = record { long = m .long; within = λ n. go n (below-or-not n nodesMost) }
     where
-      go : (n : ℕ) → (n < 32) ⊎ (32 ≤ n) → natAbs (getD l n (pos 0)) ≤ 448 * 2 ^ 53
+      go : (n : ℕ) → (n < nodesMost) ⊎ (nodesMost ≤ n) → natAbs (getD l n (pos 0)) ≤ totalMost
       go n (inl b) =
-          let s = mixed-small (placeGives cards (map lowered volts) n) (placeGives cards (map lowered was) n) (7 * 2 ^ 53) (small-place cards (map lowered volts) n) (small-place cards (map lowered was) n) i ts in
-          rw (m .at n b) (subst (λ (k : ℕ). natAbs (mixed (placeGives cards (map lowered volts) n) (placeGives cards (map lowered was) n) i ts) ≤ k * (7 * 2 ^ 53)) h s)
+          let s = mixed-small (placeGives cards (map lowered volts) n) (placeGives cards (map lowered was) n) flowMost (small-place cards (map lowered volts) n) (small-place cards (map lowered was) n) i ts in
+          rw (m .at n b) (subst (λ (k : ℕ). natAbs (mixed (placeGives cards (map lowered volts) n) (placeGives cards (map lowered was) n) i ts) ≤ k * flowMost) h s)
       go n (inr b) = rw (List·getD-eq-default l (pos 0) {n = n} (rw (m .long) b)) zero-le
 
   -- a place that gives what it gave

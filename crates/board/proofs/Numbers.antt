@@ -14,12 +14,15 @@ use Rattle.card.specs.declared.WorkedCard.{WorkedCard}
 use Rattle.board.specs.declared.Board.{Board}
 use Rattle.board.specs.declared.Answer.{Answer}
 use Rattle.board.specs.declared.Answer.the-variants.{Issue, Done, Node, Refused}
-use Rattle.board.specs.Verdict.{issuesMost, Found, none, some, Verdict, no, yes, issueOf, liftVerdict, nodeVerdict}
+use Rattle.board.specs.Counts.{roles, issuesMost}
+use Rattle.board.specs.Verdict.{Found, none, some, issueOf, liftVerdict, nodeVerdict}
+use Rattle.refusal.specs.Order.{Verdict, no, yes}
 use Rattle.board.specs.Desk as desk
 use Rattle.board.specs.Desk.{Held, Standing, Desk, Call, load, place, move, lift, withdraw, lookUp, node, firstWith, ifTrue, standsAs, without, keepIf, total, step, after}
 use Rattle.board.specs.Model as board
 use Rattle.board.specs.Model.{loadedOf, placedOf, movedOf, liftedOf, withdrawnOf, lookedOf, showedOf, answered, boardAfter}
 use Rattle.board.specs.Stands.{replyOf}
+use Rattle.board.proofs.Integers.{clash}
 use Rattle.board.proofs.Perms.{count, more}
 use Rattle.board.proofs.Verdicts.{loads, places}
 use Rattle.board.proofs.Good.{good-after, totals-long}
@@ -158,7 +161,7 @@ module _ (d : Desk) (o : Orderly d) where
   keeps-place nodes (yes h) k t u p q = go _ (eqb (d .next) k) refl q
     where
       go : (n : Standing) (b : Bool) → eqb (d .next) k ≡ b → ifTrue b n (standsAs k (d .standing)) ≡ some u → t ≡ u
-      go n true e r = let l : d .next ≤ k = le-of-eq (eqb-true (d .next) k e) in let m = nobody k l in let z : _≡_ {A = ℕ} 0 1 = cc in absurd (omega arith)
+      go n true e r = let l : d .next ≤ k = le-of-eq (eqb-true (d .next) k e) in let m = nobody k l in clash (cc)
       go n false e r = cc
 
   keeps-lift : (v : Verdict Standing) (k : ℕ) (t u : Standing) → standsAs k (d .standing) ≡ some t → standsAs k (desk.lifted d v .desk .standing) ≡ some u → t ≡ u
@@ -166,7 +169,7 @@ module _ (d : Desk) (o : Orderly d) where
   keeps-lift (yes x) k t u p q = go (eqb (x .issue) k) (sym (find-without (λ (w : Standing). w .issue) k (x .issue) (d .standing)) ∙ q)
     where
       go : (b : Bool) → cond b none (standsAs k (d .standing)) ≡ some u → t ≡ u
-      go true r = let z : _≡_ {A = ℕ} 0 1 = cc in absurd (omega arith)
+      go true r = clash (cc)
       go false r = cc
 
   keeps : (c : Call) (k : ℕ) (t u : Standing) → standsAs k (d .standing) ≡ some t → standsAs k (step d c .desk .standing) ≡ some u → t ≡ u
@@ -229,12 +232,12 @@ unfolding firstWith liftVerdict without
 take-back d o t later e h = rw (issue-kept (d .next) h, eq-eqb (t .issue) (d .next) e) (record { standing = rw (eq-eqb (t .issue) (t .issue) refl, e) (without-none (λ (u : Standing). u .issue) (d .next) (d .standing) (o .standing .below (d .next) (le-refl _))); volts = refl })
 
 -- on the desk: what was placed is found, and taken away again
-undo : (d : Desk) → Orderly d → (card : ℤ) (nodes : List ℤ) (seven : length nodes ≡ 7) (n : ℕ) → step d (place card nodes seven) .reply ≡ desk.issued n → Undone d (step (step d (place card nodes seven) .desk) (lift (pos n)) .desk)
+undo : (d : Desk) → Orderly d → (card : ℤ) (nodes : List ℤ) (seven : length nodes ≡ roles) (n : ℕ) → step d (place card nodes seven) .reply ≡ desk.issued n → Undone d (step (step d (place card nodes seven) .desk) (lift (pos n)) .desk)
 unfolding step
 undo d o card nodes seven n e = go (desk.mayPlace d card nodes) refl e
   where
     go : (v : Verdict Held) → desk.mayPlace d card nodes ≡ v → desk.placed d nodes v .reply ≡ desk.issued n → Undone d (desk.lifted (desk.placed d nodes v .desk) (desk.mayLift (desk.placed d nodes v .desk) (pos n)) .desk)
-    go (no f) p r = let z : _≡_ {A = ℕ} 0 1 = cc in absurd (omega arith)
+    go (no f) p r = clash (cc)
     go (yes h) p r =
         let same : d .next ≡ n = cc in
         rw (← same) (take-back d o _ _ refl (ltb-false issuesMost (d .next) (places (desk.heldAs (issueOf card) (d .cards)) p .number)))
@@ -243,12 +246,12 @@ total-same : {d e : Desk} → Undone d e → (i : ℕ) → total e i ≡ total d
 unfolding total
 total-same u i = rw (u .standing, u .volts)
 
-after-undone : (calls : List Call) (card : ℤ) (nodes : List ℤ) (seven : length nodes ≡ 7) (n : ℕ) → step (after calls) (place card nodes seven) .reply ≡ desk.issued n → Undone (after calls) (after (lift (pos n) ∷ place card nodes seven ∷ calls))
+after-undone : (calls : List Call) (card : ℤ) (nodes : List ℤ) (seven : length nodes ≡ roles) (n : ℕ) → step (after calls) (place card nodes seven) .reply ≡ desk.issued n → Undone (after calls) (after (lift (pos n) ∷ place card nodes seven ∷ calls))
 unfolding after
 after-undone calls card nodes seven n e = undo (after calls) (orderly-after calls) card nodes seven n e
 
 -- lifting the transistor that was just placed brings back every total
-pub lift-undoes-place : (calls : List Call) (card : ℤ) (nodes : List ℤ) (seven : length nodes ≡ 7) (n : ℕ) → answered (boardAfter calls) (place card nodes seven) .answer ≡ Issue n → boardAfter (lift (pos n) ∷ place card nodes seven ∷ calls) .totals ≡ boardAfter calls .totals
+pub lift-undoes-place : (calls : List Call) (card : ℤ) (nodes : List ℤ) (seven : length nodes ≡ roles) (n : ℕ) → answered (boardAfter calls) (place card nodes seven) .answer ≡ Issue n → boardAfter (lift (pos n) ∷ place card nodes seven ∷ calls) .totals ≡ boardAfter calls .totals
 lift-undoes-place calls card nodes seven n e =
     let later = lift (pos n) ∷ place card nodes seven ∷ calls in
     let a = totals-long (good-after later) in

@@ -12,7 +12,7 @@ use Rattle.board.specs.Desk.{sumOver, anyOf, firstWith, without, keepIf}
 use Rattle.board.specs.Verdict.{Found, none, some}
 use Rattle.board.specs.Model.{first, foundAt}
 use Rattle.board.specs.Stands.{occupied}
-use Rattle.board.specs.Perm.{Perm, empty, keep, swap, then}
+use Rattle.board.specs.Perm.{Perm, keep, swap, then}
 use Rattle.board.proofs.Perms.{count, more, perm-self}
 
 module _ {A B : Type 0} (key : A → ℕ) (f : A → B) where

@@ -6,6 +6,7 @@ use lib.ListN.{length}
 use lib.IntN.{ℤ}
 use Rattle.board.specs.declared.Board.{Board}
 use Rattle.board.specs.declared.Answered.{Answered}
+use Rattle.board.specs.Counts.{roles}
 use Rattle.board.specs.Desk.{Call, load, place, move, lift, withdraw, lookUp, node}
 use Rattle.board.specs.Model.{freshBoard, loadedOf, placedOf, movedOf, liftedOf, withdrawnOf, lookedOf, showedOf, answered, boardAfter, Reached}
 
@@ -26,7 +27,7 @@ module _ {b : Board} {r : Answered} (k : Reached b) where
   unfolding answered
   after-load name bytes e = (e, one-more (load name bytes) k e)
 
-  pub after-place : (card : ℤ) (nodes : List ℤ) → length nodes ≡ 7 → r ≡ placedOf b card nodes → Gives r (placedOf b card nodes)
+  pub after-place : (card : ℤ) (nodes : List ℤ) → length nodes ≡ roles → r ≡ placedOf b card nodes → Gives r (placedOf b card nodes)
   unfolding answered
   after-place card nodes seven e = (e, one-more (place card nodes seven) k e)
 

@@ -2,7 +2,7 @@
 use mathlib.Core.Path.{_≡_, refl, sym, ap, _∙_}
 use mathlib.Core.Bool.{Bool, true, false, cond, _||_}
 use mathlib.Core.List.{List, [], _∷_, map}
-use Prim.Native.Nat.{ℕ, zero, suc, _*_, _^_, _≤_, _<_}
+use Prim.Native.Nat.{ℕ, zero, suc, _*_, _≤_, _<_}
 use native.Mathlib.Omega.{arith}
 use lib.Dec.{eqb}
 use lib.ListN.{length, getD, set, length-set}
@@ -12,11 +12,13 @@ use Rattle.branch.specs.Ready.{lowered, reach}
 use Rattle.board.specs.declared.Card.{Card}
 use Rattle.board.specs.declared.Transistor.{Transistor}
 use Rattle.board.specs.declared.Board.{Board}
-use Rattle.board.specs.Verdict.{nodesMost}
+use Rattle.board.specs.Counts.{nodesMost, transistorsMost}
 use Rattle.board.specs.Desk.{rolesAt, overloads, flow, anyOf}
 use Rattle.board.specs.Model.{noTransistor, emptyTransistor, workedAt, placeGives, placeOverloads, totalsOf, voltsOf}
-use Rattle.board.specs.Parts.{More, Room, names, standsAt}
-use Rattle.board.specs.Settle.{Volts, Seated, Settling}
+use Rattle.board.specs.inner.Parts.{More, Room, names, standsAt}
+use Rattle.board.specs.inner.Settle.{Volts, Seated, Settling}
+use Rattle.board.specs.inner.Sizes.{totalMost, workedMost}
+use Rattle.board.proofs.Integers.{clash}
 use Rattle.board.proofs.Lists.{each-set}
 use Rattle.board.proofs.Good.{Good}
 use Rattle.board.proofs.Amounts.{room-less}
@@ -32,7 +34,7 @@ module _ {b : Board} (g : Good b) where
   pub seated : (i : ℕ) → (getD (b .transistors) i noTransistor .issue ≡ 0 → ⊥) → Seated (b .cards) (getD (b .transistors) i noTransistor)
   seated i h =
       let s = g .sits i h in
-      record { seat-there = s .seat-there; ready = g .ready (getD (b .transistors) i noTransistor .seat) (λ z. s .card-given (sym (s .card-there) ∙ z)); wired = s .wired; seven = s .seven }
+      record { seat-there = s .seat-there; ready = g .ready (getD (b .transistors) i noTransistor .seat) (λ z. s .card-given (sym (s .card-there) ∙ z)); wired = s .wired; long = s .long }
 
   quiet-now : (i : ℕ) → placeOverloads (b .cards) (voltsOf b) (getD (b .transistors) i noTransistor) ≡ false
   unfolding placeOverloads
@@ -43,12 +45,12 @@ module _ {b : Board} (g : Good b) where
       go false e = g .sits i (eqb-false _ _ e) .quiet
 
   -- there is room for what one transistor gives
-  pub room-now : Room nodesMost (880 * 2 ^ 53) (b .totals)
-  room-now = room-less {a = 448 * 2 ^ 53} (omega arith) (rw (g .balanced) (totals-room (b .cards) (b .transistors) (voltsOf b) (g .transistors-long)))
+  pub room-now : Room nodesMost workedMost (b .totals)
+  room-now = room-less {a = totalMost} (omega arith) (rw (g .balanced) (totals-room (b .cards) (b .transistors) (voltsOf b) (g .transistors-long)))
 
 -- ---- a transistor put on a place, or taken off
 
-module _ {b : Board} (g : Good b) (i : ℕ) (below : i < 64) where
+module _ {b : Board} (g : Good b) (i : ℕ) (below : i < transistorsMost) where
   there : i < length (b .transistors)
   there = rw (g .transistors-long) below
 
@@ -79,7 +81,7 @@ roles-same volts n v [] e = refl
 roles-same volts n v (m ∷ nodes) e = go (eqb m n) refl e (λ q. roles-same volts n v nodes q)
   where
     go : (t : Bool) → eqb m n ≡ t → t || names n nodes ≡ false → (names n nodes ≡ false → rolesAt (map lowered (set volts n v)) nodes ≡ rolesAt (map lowered volts) nodes) → rolesAt (map lowered (set volts n v)) (m ∷ nodes) ≡ rolesAt (map lowered volts) (m ∷ nodes)
-    go true p q next = let y : _≡_ {A = ℕ} 0 1 = cc in absurd (omega arith)
+    go true p q next = clash (cc)
     go false p q next = rw (map-other lowered volts n m v (eqb-false m n p), next q)
 
 module _ (cards : List Card) (volts : List ℕ) (n v : ℕ) (t : Transistor) (h : standsAt n t ≡ false) where

@@ -3,27 +3,29 @@ use mathlib.Core.Path.{_≡_, refl, sym, ap, _∙_, subst}
 use mathlib.Core.Bool.{Bool, true, false, cond}
 use mathlib.Core.List.{List, [], _∷_, map}
 use Prim.Native.Nat.{ℕ, zero, suc, _+_, _-_, _*_, _^_, _≤_, _<_, zero-le}
-use native.Mathlib.Nat.{suc-mul, le-refl, le-of-eq}
+use native.Mathlib.Nat.{suc-mul}
 use native.Mathlib.Omega.{arith}
-use lib.Dec.{eqb, ltb, eqb·zero-suc, eqb·suc-zero, eqb·suc-suc}
+use lib.Dec.{eqb, eqb·zero-suc, eqb·suc-zero, eqb·suc-suc}
 use lib.ListN.{length, getD}
-use lib.IntN.{ℤ, pos, negsuc, natAbs, negℤ, _+ℤ_, _-ℤ_, +ℤ-idl, +ℤ-idr, +ℤ-invr, +ℤ-assoc, +ℤ-comm}
+use lib.IntN.{ℤ, pos, natAbs, negℤ, _+ℤ_, _-ℤ_, +ℤ-idl, +ℤ-idr, +ℤ-invr}
 use borrow.Author.Tests.{eqb-false}
 use Rattle.card.specs.declared.WorkedCard.{WorkedCard}
 use Rattle.branch.specs.declared.Over.{Over}
 use Rattle.branch.specs.declared.Over.the-variants.{Within, Ticks, Injection}
 use Rattle.branch.specs.Rows.{Row, rowsFor}
 use Rattle.branch.specs.Ticks.{seatOf}
-use Rattle.branch.specs.Outcome.{outcomeOf}
+use Rattle.branch.specs.Outcome.{tickLimit, outcomeOf}
 use Rattle.branch.proofs.Laws.{ticks-small}
 use Rattle.board.specs.declared.Card.{Card}
 use Rattle.board.specs.declared.Transistor.{Transistor}
 use Rattle.board.specs.declared.Board.{Board}
-use Rattle.board.specs.Verdict.{nodesMost}
+use Rattle.board.specs.Counts.{nodesMost}
 use Rattle.board.specs.Desk.{Standing, Call, rolesAt, isOver, overloads, atNode, rowsGive, flow, sumOver, total, after}
 use Rattle.board.specs.Model.{noTransistor, workedAt, placeGives, tabulate, totalsOf, voltsOf, boardAfter, Reached}
 use Rattle.board.specs.Perm.{Perm}
 use Rattle.board.specs.Stands.{standingOf, standingIn}
+use Rattle.board.specs.inner.Sizes.{flowMost}
+use Rattle.board.proofs.Integers.{clash, abs-add, abs-ends, turned, swap-inner}
 use Rattle.board.proofs.Perms.{perm-sum}
 use Rattle.board.proofs.Places.{sum-occupied}
 use Rattle.board.proofs.Lists.{tabulate-same, tabulate-at}
@@ -40,8 +42,8 @@ totals-are-sums calls n h = totals-follow (boardAfter calls) (after calls) (good
 
 not-over : (o : Over) → isOver o ≡ false → o ≡ Within
 not-over Within e = refl
-not-over (Ticks k) e = let z : _≡_ {A = ℕ} 0 1 = cc in absurd (omega arith)
-not-over (Injection k) e = let z : _≡_ {A = ℕ} 0 1 = cc in absurd (omega arith)
+not-over (Ticks k) e = clash (cc)
+not-over (Injection k) e = clash (cc)
 
 pub none-overloads : {b : Board} → Reached b → (i : ℕ) → (getD (b .transistors) i noTransistor .issue ≡ 0 → ⊥) → outcomeOf (workedAt (b .cards) (getD (b .transistors) i noTransistor .seat)) (rolesAt (voltsOf b) (getD (b .transistors) i noTransistor .nodes)) .over ≡ Within
 unfolding overloads
@@ -52,9 +54,6 @@ none-overloads r i h = not-over _ (good r .sits i h .quiet)
 unfoldable pub sumAll : List ℤ → ℤ
 unfolding sumOver
 sumAll l = sumOver (λ (x : ℤ). x) l
-
-pub swap-inner : (a b c d : ℤ) → (a +ℤ b) +ℤ (c +ℤ d) ≡ (a +ℤ c) +ℤ (b +ℤ d)
-swap-inner a b c d = +ℤ-assoc a b (c +ℤ d) ∙ ap (λ (z : ℤ). a +ℤ z) (sym (+ℤ-assoc b c d) ∙ ap (λ (z : ℤ). z +ℤ d) (+ℤ-comm b c) ∙ +ℤ-assoc c b d) ∙ sym (+ℤ-assoc a c (b +ℤ d))
 
 -- a table of sums is summed part by part
 sum-both : (f g : ℕ → ℤ) (k : ℕ) → sumAll (tabulate (λ (n : ℕ). f n +ℤ g n) k) ≡ sumAll (tabulate f k) +ℤ sumAll (tabulate g k)
@@ -77,13 +76,9 @@ sum-node (suc m) (suc k) x h = rw (eqb·suc-zero m) (+ℤ-idl _ ∙ ap (sumAll) 
 -- a branch takes from one node what it gives to another
 sum-ends : (a b k : ℕ) (x : ℤ) → a < k → b < k → sumAll (tabulate (λ (n : ℕ). atNode a n x -ℤ atNode b n x) k) ≡ pos 0
 sum-ends a b k x h j =
-    ap sumAll (tabulate-same _ _ k (λ n p. ap (λ (z : ℤ). atNode a n x +ℤ z) (turned (eqb b n) x)))
+    ap sumAll (tabulate-same _ _ k (λ n p. ap (λ (z : ℤ). atNode a n x +ℤ z) (sym (turned (eqb b n) x))))
     ∙ sum-both (λ (n : ℕ). atNode a n x) (λ (n : ℕ). atNode b n (negℤ x)) k
     ∙ rw (sum-node a k x h, sum-node b k (negℤ x) j) (+ℤ-invr x)
-  where
-    turned : (t : Bool) (x : ℤ) → negℤ (cond t x (pos 0)) ≡ cond t (negℤ x) (pos 0)
-    turned true x = refl
-    turned false x = refl
 
 sum-rows : (rows : List Row) (nodes : List ℕ) (ticks : List ℤ) → ((k : ℕ) → getD nodes k 0 < nodesMost) → sumAll (tabulate (λ (n : ℕ). rowsGive rows nodes ticks n) nodesMost) ≡ pos 0
 unfolding rowsGive
@@ -150,28 +145,6 @@ same-standing-same-totals {b} {c} r s p e =
 
 -- ---- sizes: a row counts at most once at a node
 
-abs-sub : (t : Bool) (a b : ℕ) → natAbs (cond t (negsuc (suc b - suc a)) (pos (a - suc b))) ≤ a + suc b
-abs-sub true a b = omega arith
-abs-sub false a b = omega arith
-
-pub abs-add : (x y : ℤ) → natAbs (x +ℤ y) ≤ natAbs x + natAbs y
-abs-add (pos a) (pos b) = le-refl _
-abs-add (pos a) (negsuc b) = abs-sub (ltb a (suc b)) a b
-abs-add (negsuc a) (pos b) = omega (arith, abs-sub (ltb b (suc a)) b a)
-abs-add (negsuc a) (negsuc b) = omega arith
-
-pub abs-neg : (z : ℤ) → natAbs (negℤ z) ≡ natAbs z
-abs-neg (pos zero) = refl
-abs-neg (pos (suc n)) = refl
-abs-neg (negsuc n) = refl
-
--- what a branch gives to a node is at most its ticks in size, also where both its ends are there
-pub abs-ends : (t u : Bool) (x : ℤ) → natAbs (cond t x (pos 0) -ℤ cond u x (pos 0)) ≤ natAbs x
-abs-ends true true x = rw (+ℤ-invr x) zero-le
-abs-ends true false x = rw (+ℤ-idr x) (le-refl _)
-abs-ends false true x = rw (+ℤ-idl (negℤ x)) (le-of-eq (abs-neg x))
-abs-ends false false x = zero-le
-
 small-rows : (rows : List Row) (nodes : List ℕ) (ticks : List ℤ) (n most : ℕ) → ((k : ℕ) → natAbs (getD ticks k (pos 0)) ≤ most) → natAbs (rowsGive rows nodes ticks n) ≤ length rows * most
 unfolding rowsGive
 small-rows [] nodes ticks n most h = zero-le
@@ -185,15 +158,15 @@ small-rows (r ∷ rs) nodes (x ∷ xs) n most h =
     let u = h 0 in
     rw (suc-mul (length rs) most) (omega arith)
 
-pub small-flow : (c : WorkedCard) (nodes : List ℕ) (volts : List ℤ) (n : ℕ) → natAbs (flow c nodes volts n) ≤ 7 * 2 ^ 53
+pub small-flow : (c : WorkedCard) (nodes : List ℕ) (volts : List ℤ) (n : ℕ) → natAbs (flow c nodes volts n) ≤ flowMost
 unfolding flow
-small-flow c nodes volts n = small-rows (rowsFor (c .exsub)) nodes (outcomeOf c (rolesAt volts nodes) .ticks) n (2 ^ 53) (ticks-small c (rolesAt volts nodes))
+small-flow c nodes volts n = small-rows (rowsFor (c .exsub)) nodes (outcomeOf c (rolesAt volts nodes) .ticks) n tickLimit (ticks-small c (rolesAt volts nodes))
 
-pub small-place : (cards : List Card) (volts : List ℤ) (n : ℕ) (t : Transistor) → natAbs (placeGives cards volts n t) ≤ 7 * 2 ^ 53
+pub small-place : (cards : List Card) (volts : List ℤ) (n : ℕ) (t : Transistor) → natAbs (placeGives cards volts n t) ≤ flowMost
 unfolding placeGives
 small-place cards volts n t = go (eqb (t .issue) 0)
   where
-    go : (u : Bool) → natAbs (cond u (pos 0) (flow (workedAt cards (t .seat)) (t .nodes) volts n)) ≤ 7 * 2 ^ 53
+    go : (u : Bool) → natAbs (cond u (pos 0) (flow (workedAt cards (t .seat)) (t .nodes) volts n)) ≤ flowMost
     go true = zero-le
     go false = small-flow (workedAt cards (t .seat)) (t .nodes) volts n
 
@@ -209,6 +182,6 @@ pub totals-are-small : {b : Board} → Reached b → (n : ℕ) → n < nodesMost
 unfolding totalsOf
 totals-are-small {b} r n h =
     let g = good r in
-    let s = small-sum (placeGives (b .cards) (voltsOf b) n) (7 * 2 ^ 53) (small-place (b .cards) (voltsOf b) n) (b .transistors) in
-    let k = subst (λ (l : ℕ). natAbs (sumOver (placeGives (b .cards) (voltsOf b) n) (b .transistors)) ≤ l * (7 * 2 ^ 53)) (g .transistors-long) s in
+    let s = small-sum (placeGives (b .cards) (voltsOf b) n) flowMost (small-place (b .cards) (voltsOf b) n) (b .transistors) in
+    let k = subst (λ (l : ℕ). natAbs (sumOver (placeGives (b .cards) (voltsOf b) n) (b .transistors)) ≤ l * flowMost) (g .transistors-long) s in
     rw (g .balanced, tabulate-at (λ (m : ℕ). sumOver (placeGives (b .cards) (voltsOf b) m) (b .transistors)) nodesMost n (pos 0) h) (omega arith)

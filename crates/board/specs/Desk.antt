@@ -15,7 +15,9 @@ use Rattle.branch.specs.declared.Over.the-variants.{Within, Ticks, Injection}
 use Rattle.branch.specs.Rows.{Row, rowsFor}
 use Rattle.branch.specs.Ticks.{seatOf}
 use Rattle.branch.specs.Outcome.{outcomeOf}
-use Rattle.board.specs.Verdict.{nodesMost, cardsMost, transistorsMost, issuesMost, Found, none, some, Verdict, no, yes, issueOf, loadVerdict, placeVerdict, moveVerdict, liftVerdict, withdrawVerdict, lookVerdict, nodeVerdict}
+use Rattle.board.specs.Counts.{roles, nodesMost, cardsMost, transistorsMost, issuesMost}
+use Rattle.board.specs.Verdict.{Found, none, some, issueOf, loadVerdict, placeVerdict, moveVerdict, liftVerdict, withdrawVerdict, lookVerdict, nodeVerdict}
+use Rattle.refusal.specs.Order.{Verdict, no, yes}
 
 pub record Held : Type 0 where
   pub issue : ℕ
@@ -36,7 +38,7 @@ pub record Desk : Type 0 where
 
 pub data Call : Type 0 where
   load : List ℕ → List ℕ → Call
-  place : ℤ → (nodes : List ℤ) → length nodes ≡ 7 → Call
+  place : ℤ → (nodes : List ℤ) → length nodes ≡ roles → Call
   move : ℤ → ℤ → Call
   lift : ℤ → Call
   withdraw : ℤ → Call
@@ -55,7 +57,7 @@ pub record Step : Type 0 where
 
 -- ---- what a transistor does at given voltages
 
--- the voltages of its seven roles
+-- the voltages of its roles
 abbrev pub rolesAt : List ℤ → List ℕ → List ℤ
 rolesAt volts nodes = map (λ (n : ℕ). getD volts n (pos 0)) nodes
 

@@ -8,17 +8,17 @@ use lib.ListN.{getD, set, replicate}
 use lib.IntN.{ℤ, pos, natAbs}
 use Rattle.refusal.specs.declared.Refusal.{Refusal}
 use Rattle.name.specs.Name.{padded, same}
-use Rattle.float.specs.declared.Split.{Split}
 use Rattle.card.specs.declared.WorkedCard.{WorkedCard}
-use Rattle.octave.specs.declared.Octave.{Octave}
-use Rattle.branch.specs.declared.Ready.{Ready}
 use Rattle.branch.specs.Ready.{readyOf, lowered, raised}
+use Rattle.branch.specs.Empty.{noReady}
 use Rattle.board.specs.declared.Card.{Card}
 use Rattle.board.specs.declared.Transistor.{Transistor}
 use Rattle.board.specs.declared.Board.{Board}
 use Rattle.board.specs.declared.Answer.the-variants.{Issue, Done, Node, Refused}
 use Rattle.board.specs.declared.Answered.{Answered}
-use Rattle.board.specs.Verdict.{nodesMost, cardsMost, transistorsMost, Found, none, some, Verdict, no, yes, issueOf, loadVerdict, placeVerdict, moveVerdict, liftVerdict, withdrawVerdict, lookVerdict, nodeVerdict}
+use Rattle.board.specs.Counts.{roles, nodesMost, cardsMost, transistorsMost}
+use Rattle.board.specs.Verdict.{Found, none, some, issueOf, loadVerdict, placeVerdict, moveVerdict, liftVerdict, withdrawVerdict, lookVerdict, nodeVerdict}
+use Rattle.refusal.specs.Order.{Verdict, no, yes}
 use Rattle.board.specs.Desk.{Call, load, place, move, lift, withdraw, lookUp, node, overloads, flow, sumOver, anyOf, larger, usedUp}
 
 -- ---- places
@@ -47,19 +47,6 @@ abbrev pub transistorPlace : ℕ → List Transistor → Found ℕ
 transistorPlace n ts = cond (eqb n 0) none (foundAt transistorsMost (first (isTransistor n) ts))
 
 -- what a fresh board has at each place, and what is read past the last place
-abbrev pub noSplit : Split
-noSplit = record { a = 0; up = 0 }
-
-abbrev pub noWorked : WorkedCard
-noWorked =
-    record { sn = noSplit; bulk = noSplit; side = noSplit; nonideal = noSplit; ex = noSplit; sub = noSplit; sf = noSplit; rex = noSplit; rsub = noSplit; octave = 0; second = 0; exsub = false; direct = false }
-
-abbrev pub noOctave : Octave
-noOctave = record { w = 0; high = 0; low = 0; base = 0; add = 0 }
-
-abbrev pub noReady : Ready
-noReady = record { card = noWorked; plain = noOctave; second = noOctave; bulk = 0; side = 0; nonideal = 0; ex = 0; sub = 0; sf = 0 }
-
 abbrev pub emptyCard : Card
 emptyCard = record { issue = 0; name = replicate 16 0; ready = noReady }
 
@@ -67,7 +54,7 @@ abbrev pub noCard : Card
 noCard = record { issue = 0; name = []; ready = noReady }
 
 abbrev pub emptyTransistor : Transistor
-emptyTransistor = record { issue = 0; card = 0; seat = 0; nodes = replicate 7 0 }
+emptyTransistor = record { issue = 0; card = 0; seat = 0; nodes = replicate roles 0 }
 
 abbrev pub noTransistor : Transistor
 noTransistor = record { issue = 0; card = 0; seat = 0; nodes = [] }

@@ -11,12 +11,11 @@ mod rows; // rows.rt: which row overloads, and each row's ticks
 mod ends; // ends.rt: where the branches start and end
 mod empty; // empty.rt: a ready card of zeros
 
-pub use ends::from_roles;
-pub use ends::to_roles;
-pub use empty::no_ready;
-
 use card::Judged;
 use card::WorkedCard;
+pub use empty::no_ready;
+pub use ends::from_roles;
+pub use ends::to_roles;
 use octave::Octave;
 use octave::Table;
 use refusal::Refusal;

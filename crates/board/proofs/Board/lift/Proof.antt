@@ -6,9 +6,10 @@ use lib.ListN.{getD}
 use borrow.Author.Needs.{needs}
 use mir.Syntax.{w64}
 use mir.ValLaws.{toZ-ofZ}
-use Rattle.board.specs.Verdict.{transistorsMost, issueOf, some}
+use Rattle.board.specs.Counts.{transistorsMost}
+use Rattle.board.specs.Verdict.{issueOf, some}
 use Rattle.board.specs.Model.{noTransistor, transistorPlace}
-use Rattle.board.specs.Parts.{placeOr}
+use Rattle.board.specs.inner.Parts.{placeOr}
 use Rattle.board.proofs.Currents.{seat-below}
 use Rattle.board.proofs.Reaches.{after-lift}
 use Rattle.board.proofs.Answers.{no-transistor-there, is-there}
@@ -25,7 +26,7 @@ place-is c = c .transistor-at .ensures ∙ ap (λ (n : ℕ). placeOr transistors
 there : (c : tie.Else1) → transistorPlace (issueOf (c .before .before .before .before .args .transistor)) (c .before .before .before .before .args .t1 .transistors) ≡ some (c .before .transistor-at .result)
 there c =
     let e = place-is (c .before) in
-    is-there transistorsMost _ (subst (λ (k : ℕ). k < 64) e (c .if1 .left)) ∙ ap some (sym e)
+    is-there transistorsMost _ (subst (λ (k : ℕ). k < transistorsMost) e (c .if1 .left)) ∙ ap some (sym e)
 
 issue-of-requires : tie.Need-issue-of-requires
 issue-of-requires c κs = search needs
@@ -37,7 +38,7 @@ refused-requires : tie.Need-refused-requires
 refused-requires c κs = search needs
 
 returns : tie.Need-returns
-returns c = after-lift (c .before .before .before .before .before .pre) _ (c .refused .ensures ∙ lift-unknown _ (c .before .before .before .before .before .args .transistor) (no-transistor-there (issueOf (c .before .before .before .before .before .args .transistor)) (c .before .before .before .before .before .args .t1 .transistors) (subst (λ (k : ℕ). 64 ≤ k) (place-is (c .before .before)) (c .before .if1 .taken))))
+returns c = after-lift (c .before .before .before .before .before .pre) _ (c .refused .ensures ∙ lift-unknown _ (c .before .before .before .before .before .args .transistor) (no-transistor-there (issueOf (c .before .before .before .before .before .args .transistor)) (c .before .before .before .before .before .args .t1 .transistors) (subst (λ (k : ℕ). transistorsMost ≤ k) (place-is (c .before .before)) (c .before .if1 .taken))))
 
 mul-t : tie.Need-mul-t
 mul-t c = search needs

@@ -9,6 +9,7 @@ use Rattle.card.specs.declared.Judged.the-variants.{Card}
 use Rattle.card.specs.Judge.{judgeOf}
 use Rattle.card.specs.Record.{rightLength}
 use Rattle.card.proofs.Sure.{judged-is-worked}
+use Rattle.board.specs.Counts.{cardsMost}
 use Rattle.board.proofs.Reaches.{after-load}
 use Rattle.board.proofs.Answers.{load-malformed, load-bad-name, load-judged, load-no-room, load-used-up, loads-it}
 use Rattle.board.proofs.Board.load.Statement.{statement}
@@ -60,13 +61,13 @@ refused-requires-4 : tie.Need-refused-requires-4
 refused-requires-4 c κs = search needs
 
 returns-3 : tie.Need-returns-3
-returns-3 c = after-load (c .before .before .before .before .before .before .before .before .before .before .before .before .before .before .pre) _ _ (c .refused4 .ensures ∙ load-no-room _ _ _ (long (c .before .before .before .before .before .before .before .before .before .before)) (is-name (c .before .before .before .before .before .before .before .before)) _ (is-card (c .before .before .before .before .before)) (subst (λ (k : ℕ). 16 ≤ k) ((c .before .before .find-card .ensures)) (c .before .if3 .taken)))
+returns-3 c = after-load (c .before .before .before .before .before .before .before .before .before .before .before .before .before .before .pre) _ _ (c .refused4 .ensures ∙ load-no-room _ _ _ (long (c .before .before .before .before .before .before .before .before .before .before)) (is-name (c .before .before .before .before .before .before .before .before)) _ (is-card (c .before .before .before .before .before)) (subst (λ (k : ℕ). cardsMost ≤ k) ((c .before .before .find-card .ensures)) (c .before .if3 .taken)))
 
 refused-requires-5 : tie.Need-refused-requires-5
 refused-requires-5 c κs = search needs
 
 returns-4 : tie.Need-returns-4
-returns-4 c = after-load (c .before .before .before .before .before .before .before .before .before .before .before .before .before .before .before .pre) _ _ (c .refused5 .ensures ∙ load-used-up _ _ _ (long (c .before .before .before .before .before .before .before .before .before .before .before)) (is-name (c .before .before .before .before .before .before .before .before .before)) _ (is-card (c .before .before .before .before .before .before)) (subst (λ (k : ℕ). k < 16) ((c .before .before .before .find-card .ensures)) (c .before .before .if3 .left)) (c .before .if4 .taken))
+returns-4 c = after-load (c .before .before .before .before .before .before .before .before .before .before .before .before .before .before .before .pre) _ _ (c .refused5 .ensures ∙ load-used-up _ _ _ (long (c .before .before .before .before .before .before .before .before .before .before .before)) (is-name (c .before .before .before .before .before .before .before .before .before)) _ (is-card (c .before .before .before .before .before .before)) (subst (λ (k : ℕ). k < cardsMost) ((c .before .before .before .find-card .ensures)) (c .before .before .if3 .left)) (c .before .if4 .taken))
 
 pad-requires : tie.Need-pad-requires
 pad-requires c κs = search needs

@@ -5,7 +5,8 @@ use borrow.Author.Needs.{needs}
 use mir.Syntax.{w64}
 use mir.ValLaws.{toZ-ofZ}
 use Rattle.branch.proofs.Levels.{Leveled, leveled, level-off}
-use Rattle.board.specs.Parts.{nodeOf}
+use Rattle.board.specs.Counts.{nodesMost}
+use Rattle.board.specs.inner.Parts.{nodeOf}
 use Rattle.board.proofs.Reaches.{after-move}
 use Rattle.board.proofs.Changes.{move-off-node, move-too-far, settling-move, move-over, moves-it}
 use Rattle.board.proofs.Board.move_to.Statement.{statement}
@@ -27,7 +28,7 @@ refused-requires : tie.Need-refused-requires
 refused-requires c κs = search needs
 
 returns : tie.Need-returns
-returns c = after-move (c .before .before .before .pre) _ _ (c .refused .ensures ∙ move-off-node _ (c .before .before .before .args .node) (c .before .before .before .args .microvolts) (subst (λ (k : ℕ). 32 ≤ k) (number (c .before .before)) (c .before .if1 .taken)))
+returns c = after-move (c .before .before .before .pre) _ _ (c .refused .ensures ∙ move-off-node _ (c .before .before .before .args .node) (c .before .before .before .args .microvolts) (subst (λ (k : ℕ). nodesMost ≤ k) (number (c .before .before)) (c .before .if1 .taken)))
 
 raise-requires : tie.Need-raise-requires
 raise-requires c κs = search needs
@@ -44,7 +45,7 @@ refused-requires-2 c κs = search needs
 returns-2 : tie.Need-returns-2
 returns-2 c =
     let s = (c .before .before .before .before .before .before) in
-    after-move (s .pre) _ _ (c .refused2 .ensures ∙ move-too-far _ (s .args .node) (s .args .microvolts) (subst (λ (k : ℕ). k < 32) (number (c .before .before .before .before .before)) (c .before .before .before .before .if1 .left)) (level-off (toZ-ofZ w64 (s .args .microvolts) (s .fits .microvolts)) (c .before .before .before .raise .ensures) (c .before .enum-told .given .1)))
+    after-move (s .pre) _ _ (c .refused2 .ensures ∙ move-too-far _ (s .args .node) (s .args .microvolts) (subst (λ (k : ℕ). k < nodesMost) (number (c .before .before .before .before .before)) (c .before .before .before .before .if1 .left)) (level-off (toZ-ofZ w64 (s .args .microvolts) (s .fits .microvolts)) (c .before .before .before .raise .ensures) (c .before .enum-told .given .1)))
 
 mul-volts : tie.Need-mul-volts
 mul-volts c = search needs

@@ -5,6 +5,7 @@ use lib.ListN.{length}
 use borrow.Author.Needs.{needs}
 use mir.Syntax.{w64}
 use mir.ValLaws.{toZ-ofZ}
+use Rattle.board.specs.Counts.{roles}
 use Rattle.board.specs.Verdict.{issueOf}
 use Rattle.board.proofs.Reaches.{after-place}
 use Rattle.board.proofs.Changes.{place-stops, free-below, number-below, seat-below, place-works, place-over, places-it}
@@ -14,7 +15,7 @@ use Rattle.board.proofs.Board.place.Tie as tie
 number : (c : tie.After-issue-of) → c .issue-of .result ≡ issueOf (c .before .args .card)
 number c = c .issue-of .ensures ∙ ap issueOf (toZ-ofZ w64 (c .before .args .card) (c .before .fits .card))
 
-seven : (c : tie.Start) → length (c .args .nodes) ≡ 7
+seven : (c : tie.Start) → length (c .args .nodes) ≡ roles
 seven c = search needs
 
 issue-of-requires : tie.Need-issue-of-requires

@@ -4,7 +4,8 @@ use Prim.Native.Nat.{ℕ, _≤_}
 use borrow.Author.Needs.{needs}
 use mir.Syntax.{w64}
 use mir.ValLaws.{toZ-ofZ}
-use Rattle.board.specs.Parts.{nodeOf}
+use Rattle.board.specs.Counts.{nodesMost}
+use Rattle.board.specs.inner.Parts.{nodeOf}
 use Rattle.board.proofs.Reaches.{after-node}
 use Rattle.board.proofs.Answers.{show-off, shows-it}
 use Rattle.board.proofs.Board.read_node.Statement.{statement}
@@ -23,7 +24,7 @@ refused-requires : tie.Need-refused-requires
 refused-requires c κs = search needs
 
 returns : tie.Need-returns
-returns c = after-node (c .before .before .before .pre) (c .before .before .before .args .node) (c .refused .ensures ∙ show-off (c .before .before .before .args .self) (c .before .before .before .args .node) (subst (λ (k : ℕ). 32 ≤ k) (number (c .before .before)) (c .before .if1 .taken)))
+returns c = after-node (c .before .before .before .pre) (c .before .before .before .args .node) (c .refused .ensures ∙ show-off (c .before .before .before .args .self) (c .before .before .before .args .node) (subst (λ (k : ℕ). nodesMost ≤ k) (number (c .before .before)) (c .before .if1 .taken)))
 
 mul-v : tie.Need-mul-v
 mul-v c = search needs

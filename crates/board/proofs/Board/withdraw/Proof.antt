@@ -7,10 +7,11 @@ use mir.Syntax.{w64}
 use mir.ValLaws.{toZ-ofZ}
 use Rattle.board.specs.declared.Card.{Card}
 use Rattle.board.specs.declared.Answer.the-variants.{Done}
-use Rattle.board.specs.Verdict.{cardsMost, issueOf, some}
+use Rattle.board.specs.Counts.{cardsMost}
+use Rattle.board.specs.Verdict.{issueOf, some}
 use Rattle.board.specs.Desk.{anyOf}
 use Rattle.board.specs.Model.{cardPlace, standsOn, withCards}
-use Rattle.board.specs.Parts.{placeOr}
+use Rattle.board.specs.inner.Parts.{placeOr}
 use Rattle.board.proofs.Reaches.{after-withdraw}
 use Rattle.board.proofs.Answers.{no-card-there, is-there, withdraw-unknown, withdraw-in-use, withdraws-it}
 use Rattle.board.proofs.Board.withdraw.Statement.{statement}
@@ -25,7 +26,7 @@ place-is c = c .card-at .ensures ∙ ap (λ (n : ℕ). placeOr cardsMost (cardPl
 there : (c : tie.Else1) → cardPlace (issueOf (c .before .before .before .before .args .card)) (c .before .before .before .before .args .self .cards) ≡ some (c .before .card-at .result)
 there c =
     let e = place-is (c .before) in
-    is-there cardsMost _ (subst (λ (k : ℕ). k < 16) e (c .if1 .left)) ∙ ap some (sym e)
+    is-there cardsMost _ (subst (λ (k : ℕ). k < cardsMost) e (c .if1 .left)) ∙ ap some (sym e)
 
 on-it : (c : tie.After-any-on) → c .any-on .result ≡ anyOf (standsOn (issueOf (c .before .before .before .before .before .before .args .card))) (c .before .before .before .before .before .before .args .self .transistors)
 on-it c = c .any-on .ensures ∙ ap (λ (n : ℕ). anyOf (standsOn n) (c .before .before .before .before .before .before .args .self .transistors)) (number (c .before .before .before .before .before))
@@ -40,7 +41,7 @@ refused-requires : tie.Need-refused-requires
 refused-requires c κs = search needs
 
 returns : tie.Need-returns
-returns c = after-withdraw (c .before .before .before .before .before .pre) _ (c .refused .ensures ∙ withdraw-unknown _ (c .before .before .before .before .before .args .card) (no-card-there (issueOf (c .before .before .before .before .before .args .card)) (c .before .before .before .before .before .args .self .cards) (subst (λ (k : ℕ). 16 ≤ k) (place-is (c .before .before)) (c .before .if1 .taken))))
+returns c = after-withdraw (c .before .before .before .before .before .pre) _ (c .refused .ensures ∙ withdraw-unknown _ (c .before .before .before .before .before .args .card) (no-card-there (issueOf (c .before .before .before .before .before .args .card)) (c .before .before .before .before .before .args .self .cards) (subst (λ (k : ℕ). cardsMost ≤ k) (place-is (c .before .before)) (c .before .if1 .taken))))
 
 any-on-requires : tie.Need-any-on-requires
 any-on-requires c κs = search needs

@@ -4,18 +4,19 @@ use Prim.Native.Nat.{_≤_, _-_}
 use native.Mathlib.Omega.{arith}
 use lib.ListN.{length}
 use borrow.Author.Needs.{needs}
+use Rattle.board.specs.Counts.{transistorsMost}
 use Rattle.board.specs.Model.{standsOn, noTransistor}
 use Rattle.board.proofs.Walks.{Passed, at-start, goes-on, any-here, any-nowhere}
 use Rattle.board.proofs.finds.any_on.Statement.{statement}
 use Rattle.board.proofs.finds.any_on.Tie as tie
 
 abbrev Inv-loop : tie.InvT-loop
-Inv-loop n ts i₀ i = (i ≤ 64) × Passed (standsOn n) ts i
+Inv-loop n ts i₀ i = (i ≤ transistorsMost) × Passed (standsOn n) ts i
 
 abbrev μ-loop : tie.MeasureT-loop
-μ-loop n ts i₀ i = 64 - i
+μ-loop n ts i₀ i = transistorsMost - i
 
-long : (c : tie.Start Inv-loop μ-loop) → length (c .args .t1) ≡ 64
+long : (c : tie.Start Inv-loop μ-loop) → length (c .args .t1) ≡ transistorsMost
 long c = search needs
 
 loop-holds : tie.Need-loop-holds Inv-loop μ-loop
@@ -49,7 +50,7 @@ loop-again c =
 returns-2 : tie.Need-returns-2 Inv-loop μ-loop
 returns-2 c =
     let h = long (c .before .before) in
-    let e : c .before .loop .i ≡ 64 = omega arith in any-nowhere (omega arith) (c .before .loop .inv .1)
+    let e : c .before .loop .i ≡ transistorsMost = omega arith in any-nowhere (omega arith) (c .before .loop .inv .1)
 
 pub any-on-spec : {M : Type 1} → statement M
 any-on-spec =

@@ -5,18 +5,19 @@ use native.Mathlib.Omega.{arith}
 use lib.ListN.{length}
 use borrow.Author.Needs.{needs}
 use borrow.Author.Tests.{eq-eqb, ne-eqb}
+use Rattle.board.specs.Counts.{cardsMost}
 use Rattle.board.specs.Model.{isCard, noCard}
 use Rattle.board.proofs.Walks.{Passed, at-start, goes-on, first-here, first-nowhere}
 use Rattle.board.proofs.finds.find_card.Statement.{statement}
 use Rattle.board.proofs.finds.find_card.Tie as tie
 
 abbrev Inv-loop : tie.InvT-loop
-Inv-loop n cards i₀ i = (i ≤ 16) × Passed (isCard n) cards i
+Inv-loop n cards i₀ i = (i ≤ cardsMost) × Passed (isCard n) cards i
 
 abbrev μ-loop : tie.MeasureT-loop
-μ-loop n cards i₀ i = 16 - i
+μ-loop n cards i₀ i = cardsMost - i
 
-long : (c : tie.Start Inv-loop μ-loop) → length (c .args .t1) ≡ 16
+long : (c : tie.Start Inv-loop μ-loop) → length (c .args .t1) ≡ cardsMost
 long c = search needs
 
 loop-holds : tie.Need-loop-holds Inv-loop μ-loop
@@ -47,7 +48,7 @@ loop-again c =
 returns-2 : tie.Need-returns-2 Inv-loop μ-loop
 returns-2 c =
     let h = long (c .before .before) in
-    let e : c .before .loop .i ≡ 16 = omega arith in rw (← e) (first-nowhere (omega arith) (c .before .loop .inv .1))
+    let e : c .before .loop .i ≡ cardsMost = omega arith in rw (← e) (first-nowhere (omega arith) (c .before .loop .inv .1))
 
 pub find-card-spec : {M : Type 1} → statement M
 find-card-spec =

@@ -5,18 +5,19 @@ use native.Mathlib.Omega.{arith}
 use lib.ListN.{length}
 use borrow.Author.Needs.{needs}
 use borrow.Author.Tests.{eq-eqb, ne-eqb}
+use Rattle.board.specs.Counts.{transistorsMost}
 use Rattle.board.specs.Model.{isTransistor, noTransistor}
 use Rattle.board.proofs.Walks.{Passed, at-start, goes-on, first-here, first-nowhere}
 use Rattle.board.proofs.finds.find_transistor.Statement.{statement}
 use Rattle.board.proofs.finds.find_transistor.Tie as tie
 
 abbrev Inv-loop : tie.InvT-loop
-Inv-loop n ts i₀ i = (i ≤ 64) × Passed (isTransistor n) ts i
+Inv-loop n ts i₀ i = (i ≤ transistorsMost) × Passed (isTransistor n) ts i
 
 abbrev μ-loop : tie.MeasureT-loop
-μ-loop n ts i₀ i = 64 - i
+μ-loop n ts i₀ i = transistorsMost - i
 
-long : (c : tie.Start Inv-loop μ-loop) → length (c .args .t1) ≡ 64
+long : (c : tie.Start Inv-loop μ-loop) → length (c .args .t1) ≡ transistorsMost
 long c = search needs
 
 loop-holds : tie.Need-loop-holds Inv-loop μ-loop
@@ -47,7 +48,7 @@ loop-again c =
 returns-2 : tie.Need-returns-2 Inv-loop μ-loop
 returns-2 c =
     let h = long (c .before .before) in
-    let e : c .before .loop .i ≡ 64 = omega arith in rw (← e) (first-nowhere (omega arith) (c .before .loop .inv .1))
+    let e : c .before .loop .i ≡ transistorsMost = omega arith in rw (← e) (first-nowhere (omega arith) (c .before .loop .inv .1))
 
 pub find-transistor-spec : {M : Type 1} → statement M
 find-transistor-spec =

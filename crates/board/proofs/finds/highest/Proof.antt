@@ -5,22 +5,23 @@ use native.Mathlib.Omega.{arith}
 use lib.ListN.{length}
 use borrow.Author.Needs.{needs}
 use lib.ListN.{drop}
+use Rattle.board.specs.Counts.{cardsMost}
 use Rattle.board.specs.Model.{highestAt}
 use Rattle.board.proofs.Walks.{highest-more, highest-none}
 use Rattle.board.proofs.finds.highest.Statement.{statement}
 use Rattle.board.proofs.finds.highest.Tie as tie
 
 abbrev Inv-loop : tie.InvT-loop
-Inv-loop name cards best₀ i₀ best i = (i ≤ 16) × (best ≡ highestAt name (drop i cards))
+Inv-loop name cards best₀ i₀ best i = (i ≤ cardsMost) × (best ≡ highestAt name (drop i cards))
 
 abbrev μ-loop : tie.MeasureT-loop
 μ-loop name cards best₀ i₀ best i = i
 
-long : (c : tie.Start Inv-loop μ-loop) → length (c .args .t1) ≡ 16
+long : (c : tie.Start Inv-loop μ-loop) → length (c .args .t1) ≡ cardsMost
 long c = search needs
 
 loop-holds : tie.Need-loop-holds Inv-loop μ-loop
-loop-holds c = (search needs, let h = long c in highest-none (c .args .name .now) (c .args .t1) 16 (omega arith))
+loop-holds c = (search needs, let h = long c in highest-none (c .args .name .now) (c .args .t1) cardsMost (omega arith))
 
 sub-i : tie.Need-sub-i Inv-loop μ-loop
 sub-i c = omega arith

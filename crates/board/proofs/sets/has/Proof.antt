@@ -6,17 +6,18 @@ use lib.ListN.{length}
 use borrow.Author.Needs.{needs}
 use lib.Dec.{eqb}
 use borrow.Author.Tests.{eq-eqb, ne-eqb}
+use Rattle.board.specs.Counts.{roles}
 use Rattle.board.proofs.Walks.{Passed, at-start, goes-on, any-here, any-nowhere}
 use Rattle.board.proofs.sets.has.Statement.{statement}
 use Rattle.board.proofs.sets.has.Tie as tie
 
 abbrev Inv-loop : tie.InvT-loop
-Inv-loop n nodes k₀ k = (k ≤ 7) × Passed (λ (m : ℕ). eqb m n) nodes k
+Inv-loop n nodes k₀ k = (k ≤ roles) × Passed (λ (m : ℕ). eqb m n) nodes k
 
 abbrev μ-loop : tie.MeasureT-loop
-μ-loop n nodes k₀ k = 7 - k
+μ-loop n nodes k₀ k = roles - k
 
-long : (c : tie.Start Inv-loop μ-loop) → length (c .args .t1) ≡ 7
+long : (c : tie.Start Inv-loop μ-loop) → length (c .args .t1) ≡ roles
 long c = search needs
 
 loop-holds : tie.Need-loop-holds Inv-loop μ-loop
@@ -38,7 +39,7 @@ loop-again : tie.Need-loop-again Inv-loop μ-loop
 loop-again c = let h = long (c .before .before .before) in (omega arith, goes-on 0 (omega arith) (ne-eqb _ _ (c .if1 .left)) ((c .before .before .loop .inv .1)))
 
 returns-2 : tie.Need-returns-2 Inv-loop μ-loop
-returns-2 c = let h = long (c .before .before) in let e : (c .before .loop .k) ≡ 7 = omega arith in any-nowhere (omega arith) ((c .before .loop .inv .1))
+returns-2 c = let h = long (c .before .before) in let e : (c .before .loop .k) ≡ roles = omega arith in any-nowhere (omega arith) ((c .before .loop .inv .1))
 
 pub has-spec : {M : Type 1} → statement M
 has-spec =

@@ -5,16 +5,18 @@ use native.Mathlib.Omega.{arith}
 use lib.ListN.{getD}
 use lib.IntN.{pos}
 use borrow.Author.Needs.{needs}
-use Rattle.board.specs.Parts.{More, endsGive}
-use Rattle.board.proofs.Amounts.{held, held-is, ends-none, ends-more, fair-next}
+use Rattle.board.specs.Counts.{roles, branches}
+use Rattle.board.specs.inner.Parts.{More, endsGive}
+use Rattle.board.proofs.Integers.{held, held-is}
+use Rattle.board.proofs.Amounts.{ends-none, ends-more, fair-next}
 use Rattle.board.proofs.sums.branches.Statement.{statement}
 use Rattle.board.proofs.sums.branches.Tie as tie
 
 abbrev Inv-loop : tie.InvT-loop
-Inv-loop a₀ from to ticks k₀ a k = (k ≤ 7) × More 7 a₀ a (endsGive from to ticks k)
+Inv-loop a₀ from to ticks k₀ a k = (k ≤ branches) × More roles a₀ a (endsGive from to ticks k)
 
 abbrev μ-loop : tie.MeasureT-loop
-μ-loop a₀ from to ticks k₀ a k = 7 - k
+μ-loop a₀ from to ticks k₀ a k = branches - k
 
 x-is : (c : tie.After-x Inv-loop μ-loop) → held (getD (c .before .before .before .before .before .args .ticks .now) (c .before .before .before .before .loop .k) (pos 0)) ≡ getD (c .before .before .before .before .before .args .ticks .now) (c .before .before .before .before .loop .k) (pos 0)
 x-is c = let b = c .before .before .before .before .before .pre .3 .within (c .before .before .before .before .loop .k) in held-is _ (omega arith)
@@ -47,7 +49,7 @@ loop-again : tie.Need-loop-again Inv-loop μ-loop
 loop-again c = (omega arith, ends-more _ _ _ _ _ ((c .before .before .before .before .before .before .loop .inv .1)) (x-is (c .before .before)) (c .branch .ensures))
 
 returns : tie.Need-returns Inv-loop μ-loop
-returns c = let e : (c .before .loop .k) ≡ 7 = omega arith in rw e at ((c .before .loop .inv .1))
+returns c = let e : (c .before .loop .k) ≡ branches = omega arith in rw e at ((c .before .loop .inv .1))
 
 pub branches-spec : {M : Type 1} → statement M
 branches-spec =

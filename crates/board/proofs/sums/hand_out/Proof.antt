@@ -5,17 +5,18 @@ use native.Mathlib.Omega.{arith}
 use lib.ListN.{getD}
 use lib.IntN.{pos}
 use borrow.Author.Needs.{needs}
-use Rattle.board.specs.Verdict.{nodesMost}
-use Rattle.board.specs.Parts.{More, spread}
-use Rattle.board.proofs.Amounts.{held, held-is, spread-none, spread-more, room-next}
+use Rattle.board.specs.Counts.{roles, nodesMost}
+use Rattle.board.specs.inner.Parts.{More, spread}
+use Rattle.board.proofs.Integers.{held, held-is}
+use Rattle.board.proofs.Amounts.{spread-none, spread-more, room-next}
 use Rattle.board.proofs.sums.hand_out.Statement.{statement}
 use Rattle.board.proofs.sums.hand_out.Tie as tie
 
 abbrev Inv-loop : tie.InvT-loop
-Inv-loop l₀ nodes a k₀ l k = (k ≤ 7) × More nodesMost l₀ l (spread nodes (λ (r : ℕ). getD a r (pos 0)) k)
+Inv-loop l₀ nodes a k₀ l k = (k ≤ roles) × More nodesMost l₀ l (spread nodes (λ (r : ℕ). getD a r (pos 0)) k)
 
 abbrev μ-loop : tie.MeasureT-loop
-μ-loop l₀ nodes a k₀ l k = 7 - k
+μ-loop l₀ nodes a k₀ l k = roles - k
 
 x-is : (c : tie.After-x Inv-loop μ-loop) → held (getD (c .before .before .before .before .args .a .now) (c .before .before .before .loop .k) (pos 0)) ≡ getD (c .before .before .before .before .args .a .now) (c .before .before .before .loop .k) (pos 0)
 x-is c = let b = (c .before .before .before .before .pre .2 .within) (c .before .before .before .loop .k) in held-is _ (omega arith)
@@ -45,7 +46,7 @@ loop-again : tie.Need-loop-again Inv-loop μ-loop
 loop-again c = (omega arith, spread-more _ (λ (r : ℕ). getD (c .before .before .before .before .before .before .args .a .now) r (pos 0)) _ _ (c .before .before .before .before .before .loop .inv .1) (x-is (c .before .before)) (c .add .ensures))
 
 returns : tie.Need-returns Inv-loop μ-loop
-returns c = let e : (c .before .loop .k) ≡ 7 = omega arith in rw e at (c .before .loop .inv .1)
+returns c = let e : (c .before .loop .k) ≡ roles = omega arith in rw e at (c .before .loop .inv .1)
 
 pub hand-out-spec : {M : Type 1} → statement M
 hand-out-spec =

@@ -1,9 +1,9 @@
--- `put_in` gives the seven currents, and tells whether they are within their limits.
+-- `put_in` gives the currents, and tells whether they are within their limits.
 use mathlib.Core.Path.{sym, subst, _∙_}
-use Prim.Native.Nat.{_^_}
 use borrow.Author.Needs.{needs}
 use Rattle.branch.specs.declared.Outcome.{Outcome}
-use Rattle.board.specs.Parts.{Within}
+use Rattle.branch.specs.Outcome.{tickLimit}
+use Rattle.board.specs.inner.Parts.{Within}
 use Rattle.board.proofs.Currents.{ticks-within, over-told, gives-flow}
 use Rattle.board.proofs.worker.put_in.Statement.{statement}
 use Rattle.board.proofs.worker.put_in.Tie as tie
@@ -12,7 +12,7 @@ work-requires : tie.Need-work-requires
 work-requires c κs = search needs
 
 put-requires : tie.Need-put-requires
-put-requires c κs = (record { wired = (c .before .before .before .before .pre .0 .wired) }, (c .before .before .before .before .pre .1), subst (λ (o : Outcome). Within (2 ^ 53) (o .ticks)) (sym (c .before .before .before .work .ensures)) (ticks-within _ _))
+put-requires c κs = (record { wired = (c .before .before .before .before .pre .0 .wired) }, (c .before .before .before .before .pre .1), subst (λ (o : Outcome). Within tickLimit (o .ticks)) (sym (c .before .before .before .work .ensures)) (ticks-within _ _))
 
 is-over-requires : tie.Need-is-over-requires
 is-over-requires c κs = search needs

@@ -8,9 +8,10 @@ use native.Mathlib.Omega.{arith}
 use lib.ListN.{length, getD}
 use borrow.Author.Needs.{needs}
 use Rattle.branch.specs.Ready.{lowered}
+use Rattle.board.specs.Counts.{transistorsMost}
 use Rattle.board.specs.Model.{noTransistor, placeOverloads}
-use Rattle.board.specs.Parts.{standsAt}
-use Rattle.board.specs.Settle.{Seated}
+use Rattle.board.specs.inner.Parts.{standsAt}
+use Rattle.board.specs.inner.Settle.{Seated}
 use Rattle.board.proofs.Walks.{Heard, heard-none, heard-more, heard-quiet, heard-all}
 use Rattle.board.proofs.Amounts.{room-more, room-less}
 use Rattle.board.proofs.Currents.{takes-small, named-stands, seat-below, workable-seated, seated-gives, seated-takes, seated-overloads}
@@ -19,12 +20,12 @@ use Rattle.board.proofs.worker.settle.Statement.{statement}
 use Rattle.board.proofs.worker.settle.Tie as tie
 
 abbrev Inv-loop : tie.InvT-loop
-Inv-loop l₀ was volts n cards ts table over₀ i₀ l over i = (i ≤ 64) × Mixed cards ts was volts i l × Heard (placeOverloads cards (map lowered volts)) ts i over
+Inv-loop l₀ was volts n cards ts table over₀ i₀ l over i = (i ≤ transistorsMost) × Mixed cards ts was volts i l × Heard (placeOverloads cards (map lowered volts)) ts i over
 
 abbrev μ-loop : tie.MeasureT-loop
-μ-loop l₀ was volts n cards ts table over₀ i₀ l over i = 64 - i
+μ-loop l₀ was volts n cards ts table over₀ i₀ l over i = transistorsMost - i
 
-long : (c : tie.Start Inv-loop μ-loop) → length (c .args .t3) ≡ 64
+long : (c : tie.Start Inv-loop μ-loop) → length (c .args .t3) ≡ transistorsMost
 long c = search needs
 
 -- a place that is worked names the node, and so stands, and sits on its card
@@ -103,7 +104,7 @@ loop-again c =
 returns : tie.Need-returns Inv-loop μ-loop
 returns c =
     let h = long (c .before .before .before) in
-    let e : (c .before .loop .i) ≡ 64 = omega arith in
+    let e : (c .before .loop .i) ≡ transistorsMost = omega arith in
     (heard-all (omega arith) (c .before .loop .inv .2), mixed-end h (rw e at (c .before .loop .inv .1)))
 
 pub settle-spec : {M : Type 1} → statement M

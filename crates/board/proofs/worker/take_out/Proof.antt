@@ -1,9 +1,9 @@
--- `take_out` gives the seven currents the other way.
+-- `take_out` gives the currents the other way.
 use mathlib.Core.Path.{sym, subst}
-use Prim.Native.Nat.{_^_}
 use borrow.Author.Needs.{needs}
 use Rattle.branch.specs.declared.Outcome.{Outcome}
-use Rattle.board.specs.Parts.{Within}
+use Rattle.branch.specs.Outcome.{tickLimit}
+use Rattle.board.specs.inner.Parts.{Within}
 use Rattle.board.proofs.Currents.{ticks-within, takes-flow}
 use Rattle.board.proofs.worker.take_out.Statement.{statement}
 use Rattle.board.proofs.worker.take_out.Tie as tie
@@ -12,7 +12,7 @@ work-requires : tie.Need-work-requires
 work-requires c κs = search needs
 
 take-requires : tie.Need-take-requires
-take-requires c κs = (record { wired = (c .before .before .before .before .pre .0 .wired) }, (c .before .before .before .before .pre .1), subst (λ (o : Outcome). Within (2 ^ 53) (o .ticks)) (sym (c .before .before .before .work .ensures)) (ticks-within _ _))
+take-requires c κs = (record { wired = (c .before .before .before .before .pre .0 .wired) }, (c .before .before .before .before .pre .1), subst (λ (o : Outcome). Within tickLimit (o .ticks)) (sym (c .before .before .before .work .ensures)) (ticks-within _ _))
 
 returns : tie.Need-returns
 returns c = takes-flow _ _ _ (rw (c .before .before .before .before .work .ensures) at (c .take .ensures))

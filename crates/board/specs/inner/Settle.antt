@@ -9,9 +9,9 @@ use Rattle.octave.specs.Table.{entries}
 use Rattle.branch.specs.Ready.{lowered, reach, IsReady}
 use Rattle.board.specs.declared.Card.{Card}
 use Rattle.board.specs.declared.Transistor.{Transistor}
-use Rattle.board.specs.Verdict.{nodesMost, cardsMost}
+use Rattle.board.specs.Counts.{roles, nodesMost, cardsMost}
 use Rattle.board.specs.Model.{noCard, noTransistor, placeGives, placeOverloads, totalsOf}
-use Rattle.board.specs.Parts.{standsAt}
+use Rattle.board.specs.inner.Parts.{standsAt}
 
 -- raised voltages of all nodes
 pub record Volts (volts : List ℕ) : Type 0 where
@@ -23,7 +23,7 @@ pub record Workable (table : List ℕ) (c : Card) (nodes volts : List ℕ) : Typ
   pub table-is : table ≡ entries
   pub ready : IsReady (c .ready)
   pub wired : (k : ℕ) → getD nodes k 0 < nodesMost
-  pub seven : length nodes ≡ 7
+  pub long : length nodes ≡ roles
   pub volts-are : Volts volts
 
 -- a transistor on a card and on nodes that are there
@@ -31,7 +31,7 @@ pub record Seated (cards : List Card) (t : Transistor) : Type 0 where
   pub seat-there : t .seat < cardsMost
   pub ready : IsReady (getD cards (t .seat) noCard .ready)
   pub wired : (k : ℕ) → getD (t .nodes) k 0 < nodesMost
-  pub seven : length (t .nodes) ≡ 7
+  pub long : length (t .nodes) ≡ roles
 
 -- From the old voltages to the new ones: a transistor that does not name the node n gives what it gave, and does not overload.
 pub record Settling (cards : List Card) (ts : List Transistor) (was volts : List ℕ) (n : ℕ) (totals : List ℤ) : Type 0 where
