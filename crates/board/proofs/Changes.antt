@@ -24,19 +24,19 @@ use Rattle.branch.specs.Currents.{offVolts}
 use Rattle.branch.proofs.Levels.{Leveled}
 use Rattle.board.specs.Desk.{overloads, flow, anyOf, usedUp}
 use Rattle.board.specs.Model.{isTransistor, cardPlace, transistorPlace, noTransistor, emptyTransistor, noCard, workedAt, placeGives, placeOverloads, totalsOf, voltsOf, refuse, freeTransistor, placedOf, mayPlace, movedOf, liftedOf, Reached}
-use Rattle.board.specs.inner.Parts.{nodeOf, seatOr, More, Room, backFlow}
+use Rattle.board.specs.inner.Parts.{nodeOf, placeOfCard, More, Room, backFlow}
 use Rattle.board.specs.inner.Settle.{Workable, Settling}
 use Rattle.board.specs.inner.Placing.{placing, wayOf}
 use Rattle.board.specs.inner.Sizes.{workedMost}
 use Rattle.board.proofs.Lists.{first-passes}
-use Rattle.board.proofs.Good.{good, at-card, at-transistor, AtTransistor, on-nodes}
+use Rattle.board.proofs.Invariant.{invariant, at-card, at-transistor, AtTransistor, on-nodes}
 use Rattle.board.proofs.Orderly.{orderly-after}
 use Rattle.board.proofs.Follows.{stands-after}
 use Rattle.board.proofs.Verdicts.{places}
 use Rattle.board.proofs.Answers.{off-board, on-board}
-use Rattle.board.proofs.Ways.{way, stopped, went, lastly, on-same, then-lastly}
-use Rattle.board.proofs.Currents.{workable-seated, seated-takes}
-use Rattle.board.proofs.Settles.{volts-good, seated, room-now, totals-put, totals-taken, settling-moved}
+use Rattle.board.proofs.PlacingTests.{way, stopped, went, lastly, on-same, then-lastly}
+use Rattle.board.proofs.Currents.{workable-card, card-takes}
+use Rattle.board.proofs.WorkerCalls.{volts-invariant, has-card, room-now, totals-put, totals-taken, settling-moved}
 
 -- ---- lifting
 
@@ -44,23 +44,23 @@ pub lift-unknown : (b : Board) (z : ℤ) → transistorPlace (issueOf z) (b .tra
 unfolding liftedOf liftVerdict
 lift-unknown b z e = rw e
 
-module _ {b : Board} (k : Reached b) (z : ℤ) (i : ℕ) (there : transistorPlace (issueOf z) (b .transistors) ≡ some i) (s : ℕ) (at : s ≡ seatOr (getD (b .transistors) i noTransistor)) where
+module _ {b : Board} (k : Reached b) (z : ℤ) (i : ℕ) (there : transistorPlace (issueOf z) (b .transistors) ≡ some i) (s : ℕ) (at : s ≡ placeOfCard (getD (b .transistors) i noTransistor)) where
   abbrev leaver : Transistor
   leaver = getD (b .transistors) i noTransistor
 
   placed-there : AtTransistor (issueOf z) (b .transistors) i
-  placed-there = at-transistor (issueOf z) (b .transistors) i (good k .transistors-long) there
+  placed-there = at-transistor (issueOf z) (b .transistors) i (invariant k .transistors-long) there
 
   stands : leaver .issue ≡ 0 → ⊥
   stands e = placed-there .given (sym (placed-there .issue-is) ∙ e)
 
   pub lift-works : (table : List ℕ) → table ≡ entries → Workable table (getD (b .cards) s noCard) (leaver .nodes) (b .volts) × Room nodesMost workedMost (b .totals)
-  lift-works table e = (workable-seated (b .cards) leaver stands (seated (good k) i stands) s at table (b .volts) e (volts-good (good k)), room-now (good k))
+  lift-works table e = (workable-card (b .cards) leaver stands (has-card (invariant k) i stands) s at table (b .volts) e (volts-invariant (invariant k)), room-now (invariant k))
 
   pub lifts-it : {t : Transistor} → t ≡ emptyTransistor → {l : List ℤ} → More nodesMost (b .totals) l (backFlow (getD (b .cards) s noCard .ready .card) (leaver .nodes) (voltsOf b)) → record { board = record { cards = b .cards; transistors = set (b .transistors) i t; volts = b .volts; totals = l; next = b .next }; answer = Done } ≡ liftedOf b z
   unfolding liftedOf liftVerdict
   lifts-it empty more =
-      let totals = totals-taken (good k) i (rw (good k .transistors-long) at (placed-there .below)) _ (seated-takes (b .cards) leaver stands (seated (good k) i stands) s at (voltsOf b)) more in
+      let totals = totals-taken (invariant k) i (rw (invariant k .transistors-long) at (placed-there .below)) _ (card-takes (b .cards) leaver stands (has-card (invariant k) i stands) s at (voltsOf b)) more in
       rw (there, totals, empty)
 
 -- ---- moving a voltage
@@ -81,7 +81,7 @@ module _ {b : Board} (reached : Reached b) (z v : ℤ) (n x : ℕ) (ne : n ≡ n
   same-volts = ap (λ (m : ℕ). set (b .volts) m x) (ne ∙ on .1) ∙ ap (λ (y : ℕ). set (b .volts) (natAbs z) y) (level .from)
 
   pub settling-move : Settling (b .cards) (b .transistors) (b .volts) (set (b .volts) n x) n (b .totals)
-  settling-move = settling-moved (good reached) n x (level .near)
+  settling-move = settling-moved (invariant reached) n x (level .near)
 
   module _ (over : Bool) (oe : over ≡ anyOf (placeOverloads (b .cards) (map lowered (set (b .volts) n x))) (b .transistors)) where
     over-is : over ≡ anyOf (placeOverloads (b .cards) (map lowered (set (b .volts) (natAbs z) (raised v)))) (b .transistors)
@@ -131,14 +131,14 @@ module _ {b : Board} (reached : Reached b) (card : ℤ) (nodes : List ℤ) (n : 
     pub number-below : b .next ≤ issuesMost
     number-below = ltb-false issuesMost (b .next) (places (cardPlace (issueOf card) (b .cards)) passed .number)
 
-    pub seat-below : i < cardsMost
-    seat-below =
-        let a = at-card (issueOf card) (b .cards) i (good reached .cards-long) (places (cardPlace (issueOf card) (b .cards)) passed .there) in
-        subst (λ (k : ℕ). i < k) (good reached .cards-long) (a .below)
+    pub place-below : i < cardsMost
+    place-below =
+        let a = at-card (issueOf card) (b .cards) i (invariant reached .cards-long) (places (cardPlace (issueOf card) (b .cards)) passed .there) in
+        subst (λ (k : ℕ). i < k) (invariant reached .cards-long) (a .below)
 
     card-given : getD (b .cards) i noCard .issue ≡ 0 → ⊥
     card-given z =
-        let a = at-card (issueOf card) (b .cards) i (good reached .cards-long) (places (cardPlace (issueOf card) (b .cards)) passed .there) in
+        let a = at-card (issueOf card) (b .cards) i (invariant reached .cards-long) (places (cardPlace (issueOf card) (b .cards)) passed .there) in
         a .given (sym (a .issue-is) ∙ z)
 
     on-is : on ≡ map natAbs nodes
@@ -146,12 +146,12 @@ module _ {b : Board} (reached : Reached b) (card : ℤ) (nodes : List ℤ) (n : 
 
     -- the new transistor
     abbrev newcomer : Transistor
-    newcomer = record { issue = b .next; card = getD (b .cards) i noCard .issue; seat = i; nodes = on }
+    newcomer = record { issue = b .next; card = getD (b .cards) i noCard .issue; «card_place» = i; nodes = on }
 
     pub place-works : (table : List ℕ) → table ≡ entries → length nodes ≡ roles → Workable table (getD (b .cards) i noCard) on (b .volts) × Room nodesMost workedMost (b .totals)
     place-works table e h = (
-      record { table-is = e; ready = good reached .ready i card-given; wired = λ k. rw on-is (on-nodes nodes (places (cardPlace (issueOf card) (b .cards)) passed .on) k); long = ap length oe ∙ length-map nodes nodeOf ∙ h; volts-are = volts-good (good reached) },
-      room-now (good reached),
+      record { table-is = e; ready = invariant reached .ready i card-given; wired = λ k. rw on-is (on-nodes nodes (places (cardPlace (issueOf card) (b .cards)) passed .on) k); long = ap length oe ∙ length-map nodes nodeOf ∙ h; volts-are = volts-invariant (invariant reached) },
+      room-now (invariant reached),
     )
 
     module _ (over : Bool) (v : over ≡ overloads (workedAt (b .cards) i) on (voltsOf b)) where
@@ -163,7 +163,7 @@ module _ {b : Board} (reached : Reached b) (card : ℤ) (nodes : List ℤ) (n : 
       place-over o = rw (may-is, found .0, sym over-new ∙ o)
 
       free-empty : getD (b .transistors) free noTransistor .issue ≡ 0
-      free-empty = rw (found .1) (eqb-true _ 0 (first-passes (isTransistor 0) noTransistor (b .transistors) (rw (good reached .transistors-long, ← (found .1)) free-below)))
+      free-empty = rw (found .1) (eqb-true _ 0 (first-passes (isTransistor 0) noTransistor (b .transistors) (rw (invariant reached .transistors-long, ← (found .1)) free-below)))
 
       gives-new : (n : ℕ) → flow (workedAt (b .cards) i) on (voltsOf b) n ≡ placeGives (b .cards) (voltsOf b) n newcomer
       unfolding placeGives
@@ -172,5 +172,5 @@ module _ {b : Board} (reached : Reached b) (card : ℤ) (nodes : List ℤ) (n : 
       pub places-it : over ≡ false → {l : List ℤ} → More nodesMost (b .totals) l (flow (workedAt (b .cards) i) on (voltsOf b)) → record { board = record { cards = b .cards; transistors = set (b .transistors) free newcomer; volts = b .volts; totals = l; next = b .next + 1 }; answer = Issue (b .next) } ≡ placedOf b card nodes
       unfolding placedOf
       places-it o more =
-          let totals = totals-put (good reached) free free-below newcomer _ free-empty gives-new more in
+          let totals = totals-put (invariant reached) free free-below newcomer _ free-empty gives-new more in
           rw (may-is, found .0, sym over-new ∙ o, totals, on-is, found .1)

@@ -1,4 +1,4 @@
--- A transistor's currents and what they do to the totals: its roles' voltages, its branches, and the card at its seat.
+-- A transistor's currents and what they do to the totals: its roles' voltages, its branches, and its card.
 use mathlib.Core.Path.{_≡_, refl, ap, _∙_}
 use mathlib.Core.Bool.{Bool, true, false, cond}
 use mathlib.Core.List.{List, [], _∷_, map}
@@ -19,9 +19,9 @@ use Rattle.board.specs.declared.Transistor.{Transistor}
 use Rattle.board.specs.Counts.{nodesMost, cardsMost}
 use Rattle.board.specs.Desk.{rolesAt, isOver, overloads, flow}
 use Rattle.board.specs.Model.{noCard, placeGives, placeOverloads}
-use Rattle.board.specs.inner.Parts.{More, Within, rolesGive, rolesOf, seatOr, standsAt, backFlow}
+use Rattle.board.specs.inner.Parts.{More, Within, rolesGive, rolesOf, placeOfCard, standsAt, backFlow}
 use Rattle.branch.specs.Ends.{fromRoles, toRoles}
-use Rattle.board.specs.inner.Settle.{Volts, Workable, Seated}
+use Rattle.board.specs.inner.Settle.{Volts, Workable, HasCard}
 use Rattle.board.specs.inner.Sizes.{flowMost}
 use Rattle.board.proofs.Integers.{clash, abs-neg}
 use Rattle.board.proofs.Lists.{getD-map}
@@ -64,34 +64,34 @@ module _ (c : WorkedCard) (nodes : List ℕ) (volts : List ℤ) where
   unfolding backFlow
   takes-small n = rw (abs-neg (flow c nodes volts n)) (small-flow c nodes volts n)
 
--- ---- with the card at its seat
+-- ---- with its card
 
-module _ (cards : List Card) (t : Transistor) (stands : t .issue ≡ 0 → ⊥) (s : Seated cards t) (k : ℕ) (at : k ≡ seatOr t) where
-  seat-is : k ≡ t .seat
-  seat-is = at ∙ rw (lt-ltb _ _ (s .seat-there))
+module _ (cards : List Card) (t : Transistor) (stands : t .issue ≡ 0 → ⊥) (s : HasCard cards t) (k : ℕ) (at : k ≡ placeOfCard t) where
+  place-same : k ≡ t .«card_place»
+  place-same = at ∙ rw (lt-ltb _ _ (s .place-there))
 
-  pub workable-seated : (table volts : List ℕ) → table ≡ entries → Volts volts → Workable table (getD cards k noCard) (t .nodes) volts
-  workable-seated table volts i w = record { table-is = i; ready = rw seat-is (s .ready); wired = s .wired; long = s .long; volts-are = w }
+  pub workable-card : (table volts : List ℕ) → table ≡ entries → Volts volts → Workable table (getD cards k noCard) (t .nodes) volts
+  workable-card table volts i w = record { table-is = i; ready = rw place-same (s .ready); wired = s .wired; long = s .long; volts-are = w }
 
-  pub seated-gives : (volts : List ℤ) (n : ℕ) → flow (getD cards k noCard .ready .card) (t .nodes) volts n ≡ placeGives cards volts n t
+  pub card-gives : (volts : List ℤ) (n : ℕ) → flow (getD cards k noCard .ready .card) (t .nodes) volts n ≡ placeGives cards volts n t
   unfolding placeGives
-  seated-gives volts n = rw (ne-eqb _ _ stands, seat-is)
+  card-gives volts n = rw (ne-eqb _ _ stands, place-same)
 
-  pub seated-takes : (volts : List ℤ) (n : ℕ) → backFlow (getD cards k noCard .ready .card) (t .nodes) volts n ≡ negℤ (placeGives cards volts n t)
+  pub card-takes : (volts : List ℤ) (n : ℕ) → backFlow (getD cards k noCard .ready .card) (t .nodes) volts n ≡ negℤ (placeGives cards volts n t)
   unfolding backFlow
-  seated-takes volts n = ap negℤ (seated-gives volts n)
+  card-takes volts n = ap negℤ (card-gives volts n)
 
-  pub seated-overloads : (volts : List ℤ) {b : Bool} → b ≡ overloads (getD cards k noCard .ready .card) (t .nodes) volts → b ≡ placeOverloads cards volts t
+  pub card-overloads : (volts : List ℤ) {b : Bool} → b ≡ overloads (getD cards k noCard .ready .card) (t .nodes) volts → b ≡ placeOverloads cards volts t
   unfolding placeOverloads
-  seated-overloads volts e = e ∙ rw (ne-eqb _ _ stands, seat-is)
+  card-overloads volts e = e ∙ rw (ne-eqb _ _ stands, place-same)
 
 -- what names a node stands
 pub named-stands : (n : ℕ) (t : Transistor) → standsAt n t ≡ true → t .issue ≡ 0 → ⊥
 named-stands n t e z = let w : standsAt n t ≡ false = rw (eq-eqb _ _ z) in clash (cc)
 
-pub seat-below : {k : ℕ} (t : Transistor) → k ≡ seatOr t → k < cardsMost
-seat-below t e = rw e (go (ltb (t .seat) cardsMost) refl)
+pub place-below : {k : ℕ} (t : Transistor) → k ≡ placeOfCard t → k < cardsMost
+place-below t e = rw e (go (ltb (t .«card_place») cardsMost) refl)
   where
-    go : (u : Bool) → ltb (t .seat) cardsMost ≡ u → cond u (t .seat) 0 < cardsMost
+    go : (u : Bool) → ltb (t .«card_place») cardsMost ≡ u → cond u (t .«card_place») 0 < cardsMost
     go true h = ltb-true _ _ h
     go false h = lit< tt

@@ -34,7 +34,7 @@ use Rattle.board.proofs.Perms.{perm-join, perm-length, perm-sum, perm-a
 use Rattle.board.proofs.Places.{sum-occupied, any-occupied, full, join, seen, mapFound, find, find-none, count-occupied, leave}
 use Rattle.board.proofs.Lists.{tabulate-at, getD-map}
 use Rattle.board.proofs.Verdicts.{loads, places, moves, lifts, withdraws, shown}
-use Rattle.board.proofs.Good.{Good, good-after, at-card, AtCard, at-transistor, AtTransistor, unused-away, worked-same, free-card}
+use Rattle.board.proofs.Invariant.{Invariant, invariant-after, at-card, AtCard, at-transistor, AtTransistor, unused-away, worked-same, free-card}
 use Rattle.board.proofs.Orderly.{Orderly, orderly-after}
 
 -- ---- verdicts on what was found by place, and on the same found by itself
@@ -85,7 +85,7 @@ highest-held name (c ∷ cards) = go (eqb (c .issue) 0) refl (highest-held name 
     go true e h = rw (eqb-true (c .issue) 0 e) (h ∙ sym (nothing (same (c .name) name) (highestAt name cards)))
     go false e h = ap (larger (cond (same (c .name) name) (c .issue) 0)) h
 
-module _ (b : Board) (d : Desk) (g : Good b) (o : Orderly d) (s : Stands b d) where
+module _ (b : Board) (d : Desk) (g : Invariant b) (o : Orderly d) (s : Stands b d) where
   cards-full : leb cardsMost (freeCard (b .cards)) ≡ leb cardsMost (length (d .cards))
   cards-full =
       let e = full (λ (c : Card). c .issue) heldOf (b .cards) in
@@ -139,12 +139,12 @@ pub record Follow (a : Answered) (t : Step) : Type 0 where
   pub reply : replyOf (a .answer) ≡ t .reply
   pub board : Stands (a .board) (t .desk)
 
-module _ (b : Board) (d : Desk) (g : Good b) (o : Orderly d) (s : Stands b d) where
-  -- other cards at a place on which nobody sits leave the transistors as they are
-  same-standing : (p : ℕ) (c : Card) → ((i : ℕ) → (getD (b .transistors) i noTransistor .issue ≡ 0 → ⊥) → getD (b .transistors) i noTransistor .seat ≡ p → ⊥) → standingIn (set (b .cards) p c) (b .transistors) ≡ standingIn (b .cards) (b .transistors)
+module _ (b : Board) (d : Desk) (g : Invariant b) (o : Orderly d) (s : Stands b d) where
+  -- other cards at a place on which nobody stands leave the transistors as they are
+  same-standing : (p : ℕ) (c : Card) → ((i : ℕ) → (getD (b .transistors) i noTransistor .issue ≡ 0 → ⊥) → getD (b .transistors) i noTransistor .«card_place» ≡ p → ⊥) → standingIn (set (b .cards) p c) (b .transistors) ≡ standingIn (b .cards) (b .transistors)
   same-standing p c away =
       seen (λ (t : Transistor). t .issue) (standingOf (set (b .cards) p c)) (standingOf (b .cards)) noTransistor (b .transistors)
-      (λ i h k. let t = getD (b .transistors) i noTransistor in ap (λ (w : WorkedCard). record { issue = t .issue; card = t .card; worked = w; nodes = t .nodes }) (worked-same (b .cards) p c (voltsOf b) (t .seat) (away i k)))
+      (λ i h k. let t = getD (b .transistors) i noTransistor in ap (λ (w : WorkedCard). record { issue = t .issue; card = t .card; worked = w; nodes = t .nodes }) (worked-same (b .cards) p c (voltsOf b) (t .«card_place») (away i k)))
 
   given : b .next ≡ 0 → ⊥
   given e = let h = o .begun in let k = s .next in omega arith
@@ -180,7 +180,7 @@ module _ (b : Board) (d : Desk) (g : Good b) (o : Orderly d) (s : Stands b d) wh
       agree : mapVerdict (heldAt b) (board.mayPlace b card nodes) ≡ desk.mayPlace d card nodes
       agree = rw (card-by b d g o s (issueOf card), map-place (heldAt b), transistors-full b d g o s, s .next, s .volts)
 
-      new : (i : ℕ) → standingOf (b .cards) (record { issue = b .next; card = heldAt b i .issue; seat = i; nodes = map natAbs nodes }) ≡ record { issue = d .next; card = heldAt b i .issue; worked = heldAt b i .worked; nodes = map natAbs nodes }
+      new : (i : ℕ) → standingOf (b .cards) (record { issue = b .next; card = heldAt b i .issue; «card_place» = i; nodes = map natAbs nodes }) ≡ record { issue = d .next; card = heldAt b i .issue; worked = heldAt b i .worked; nodes = map natAbs nodes }
       new i = rw (s .next)
 
       go : (v : Verdict ℕ) → board.mayPlace b card nodes ≡ v → Follow (board.placed b nodes v) (desk.placed d nodes (mapVerdict (heldAt b) v))
@@ -310,7 +310,7 @@ pub stands-fresh : Stands freshBoard freshDesk
 unfolding freshBoard freshDesk occupied
 stands-fresh = record { cards = empty; standing = empty; volts = refl; next = refl }
 
-follow : (b : Board) (d : Desk) → Good b → Orderly d → Stands b d → (c : Call) → Follow (answered b c) (step d c)
+follow : (b : Board) (d : Desk) → Invariant b → Orderly d → Stands b d → (c : Call) → Follow (answered b c) (step d c)
 unfolding answered
 follow b d g o s (load name bytes) = follow-load b d g o s name bytes
 follow b d g o s (place card nodes seven) = follow-place b d g o s card nodes seven
@@ -323,8 +323,8 @@ follow b d g o s (node n) = follow-node b d g o s n
 pub stands-after : (calls : List Call) → Stands (boardAfter calls) (after calls)
 unfolding boardAfter after
 stands-after [] = stands-fresh
-stands-after (c ∷ cs) = follow (boardAfter cs) (after cs) (good-after cs) (orderly-after cs) (stands-after cs) c .board
+stands-after (c ∷ cs) = follow (boardAfter cs) (after cs) (invariant-after cs) (orderly-after cs) (stands-after cs) c .board
 
 -- whatever calls were made, the next one is answered, and changes the board, as the desk has it
 pub follows : (calls : List Call) (c : Call) → Follow (answered (boardAfter calls) c) (step (after calls) c)
-follows calls c = follow (boardAfter calls) (after calls) (good-after calls) (orderly-after calls) (stands-after calls) c
+follows calls c = follow (boardAfter calls) (after calls) (invariant-after calls) (orderly-after calls) (stands-after calls) c

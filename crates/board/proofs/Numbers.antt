@@ -25,7 +25,7 @@ use Rattle.board.specs.Stands.{replyOf}
 use Rattle.board.proofs.Integers.{clash}
 use Rattle.board.proofs.Perms.{count, more}
 use Rattle.board.proofs.Verdicts.{loads, places}
-use Rattle.board.proofs.Good.{good-after, totals-long}
+use Rattle.board.proofs.Invariant.{invariant-after, totals-long}
 use Rattle.board.proofs.Orderly.{Orderly, orderly-after}
 use Rattle.board.proofs.Follows.{stands-after, follows}
 use Rattle.board.proofs.Totals.{totals-are-sums}
@@ -254,8 +254,8 @@ after-undone calls card nodes seven n e = undo (after calls) (orderly-after call
 pub lift-undoes-place : (calls : List Call) (card : ℤ) (nodes : List ℤ) (seven : length nodes ≡ roles) (n : ℕ) → answered (boardAfter calls) (place card nodes seven) .answer ≡ Issue n → boardAfter (lift (pos n) ∷ place card nodes seven ∷ calls) .totals ≡ boardAfter calls .totals
 lift-undoes-place calls card nodes seven n e =
     let later = lift (pos n) ∷ place card nodes seven ∷ calls in
-    let a = totals-long (good-after later) in
-    let b = totals-long (good-after calls) in
+    let a = totals-long (invariant-after later) in
+    let b = totals-long (invariant-after calls) in
     ext-getD (pos 0) (boardAfter later .totals) (boardAfter calls .totals) (a ∙ sym b) (λ i h. totals-are-sums later i (subst (λ (k : ℕ). i < k) a h) ∙ back i ∙ sym (totals-are-sums calls i (subst (λ (k : ℕ). i < k) a h)))
   where
     told : step (after calls) (place card nodes seven) .reply ≡ desk.issued n

@@ -29,14 +29,14 @@ use Rattle.board.proofs.Integers.{clash, abs-add, abs-ends, turned, swa
 use Rattle.board.proofs.Perms.{perm-sum}
 use Rattle.board.proofs.Places.{sum-occupied}
 use Rattle.board.proofs.Lists.{tabulate-same, tabulate-at}
-use Rattle.board.proofs.Good.{good, good-after}
+use Rattle.board.proofs.Invariant.{invariant, invariant-after}
 use Rattle.board.proofs.Orderly.{orderly-after}
 use Rattle.board.proofs.Follows.{stands-after, totals-follow}
 
 -- ---- each total is the sum over the transistors standing
 
 pub totals-are-sums : (calls : List Call) (n : ℕ) → n < nodesMost → getD (boardAfter calls .totals) n (pos 0) ≡ total (after calls) n
-totals-are-sums calls n h = totals-follow (boardAfter calls) (after calls) (good-after calls) (orderly-after calls) (stands-after calls) n h
+totals-are-sums calls n h = totals-follow (boardAfter calls) (after calls) (invariant-after calls) (orderly-after calls) (stands-after calls) n h
 
 -- ---- and counts for something: whatever stands has its currents
 
@@ -45,9 +45,9 @@ not-over Within e = refl
 not-over (Ticks k) e = clash (cc)
 not-over (Injection k) e = clash (cc)
 
-pub none-overloads : {b : Board} → Reached b → (i : ℕ) → (getD (b .transistors) i noTransistor .issue ≡ 0 → ⊥) → outcomeOf (workedAt (b .cards) (getD (b .transistors) i noTransistor .seat)) (rolesAt (voltsOf b) (getD (b .transistors) i noTransistor .nodes)) .over ≡ Within
+pub none-overloads : {b : Board} → Reached b → (i : ℕ) → (getD (b .transistors) i noTransistor .issue ≡ 0 → ⊥) → outcomeOf (workedAt (b .cards) (getD (b .transistors) i noTransistor .«card_place»)) (rolesAt (voltsOf b) (getD (b .transistors) i noTransistor .nodes)) .over ≡ Within
 unfolding overloads
-none-overloads r i h = not-over _ (good r .sits i h .quiet)
+none-overloads r i h = not-over _ (invariant r .transistor i h .quiet)
 
 -- ---- all of them add to zero
 
@@ -96,9 +96,9 @@ sum-place : (cards : List Card) (volts : List ℤ) (t : Transistor) → ((t .iss
 unfolding placeGives
 sum-place cards volts t h = go (eqb (t .issue) 0) refl
   where
-    go : (u : Bool) → eqb (t .issue) 0 ≡ u → sumAll (tabulate (λ (n : ℕ). cond u (pos 0) (flow (workedAt cards (t .seat)) (t .nodes) volts n)) nodesMost) ≡ pos 0
+    go : (u : Bool) → eqb (t .issue) 0 ≡ u → sumAll (tabulate (λ (n : ℕ). cond u (pos 0) (flow (workedAt cards (t .«card_place»)) (t .nodes) volts n)) nodesMost) ≡ pos 0
     go true e = sum-zeros (λ (n : ℕ). pos 0) nodesMost (λ n. refl)
-    go false e = sum-flow (workedAt cards (t .seat)) (t .nodes) volts (h (eqb-false (t .issue) 0 e))
+    go false e = sum-flow (workedAt cards (t .«card_place»)) (t .nodes) volts (h (eqb-false (t .issue) 0 e))
 
 sum-places : (cards : List Card) (volts : List ℤ) (ts : List Transistor) → ((i : ℕ) → (getD ts i noTransistor .issue ≡ 0 → ⊥) → (k : ℕ) → getD (getD ts i noTransistor .nodes) k 0 < nodesMost) → sumAll (tabulate (λ (n : ℕ). sumOver (placeGives cards volts n) ts) nodesMost) ≡ pos 0
 unfolding sumOver
@@ -109,7 +109,7 @@ sum-places cards volts (t ∷ ts) h =
 
 pub totals-add-to-zero : {b : Board} → Reached b → sumAll (b .totals) ≡ pos 0
 unfolding totalsOf
-totals-add-to-zero {b} r = rw (good r .balanced) (sum-places (b .cards) (voltsOf b) (b .transistors) (λ i h. good r .sits i h .wired))
+totals-add-to-zero {b} r = rw (invariant r .balanced) (sum-places (b .cards) (voltsOf b) (b .transistors) (λ i h. invariant r .transistor i h .wired))
 
 -- ---- the same transistors on the same cards and nodes, at the same voltages
 
@@ -139,9 +139,9 @@ sum-fitted b n =
 pub same-standing-same-totals : {b c : Board} → Reached b → Reached c → Perm (fittedIn b) (fittedIn c) → voltsOf b ≡ voltsOf c → b .totals ≡ c .totals
 unfolding totalsOf
 same-standing-same-totals {b} {c} r s p e =
-    good r .balanced
+    invariant r .balanced
     ∙ tabulate-same _ _ nodesMost (λ n h. sum-fitted b n ∙ perm-sum (λ (f : Fitted). flow (f .worked) (f .nodes) (voltsOf b) n) p ∙ ap (λ (v : List ℤ). sumOver (λ (f : Fitted). flow (f .worked) (f .nodes) v n) (fittedIn c)) e ∙ sym (sum-fitted c n))
-    ∙ sym (good s .balanced)
+    ∙ sym (invariant s .balanced)
 
 -- ---- sizes: a row counts at most once at a node
 
@@ -166,9 +166,9 @@ pub small-place : (cards : List Card) (volts : List ℤ) (n : ℕ) (t : Transist
 unfolding placeGives
 small-place cards volts n t = go (eqb (t .issue) 0)
   where
-    go : (u : Bool) → natAbs (cond u (pos 0) (flow (workedAt cards (t .seat)) (t .nodes) volts n)) ≤ flowMost
+    go : (u : Bool) → natAbs (cond u (pos 0) (flow (workedAt cards (t .«card_place»)) (t .nodes) volts n)) ≤ flowMost
     go true = zero-le
-    go false = small-flow (workedAt cards (t .seat)) (t .nodes) volts n
+    go false = small-flow (workedAt cards (t .«card_place»)) (t .nodes) volts n
 
 pub small-sum : {A : Type 0} (f : A → ℤ) (most : ℕ) → ((a : A) → natAbs (f a) ≤ most) → (l : List A) → natAbs (sumOver f l) ≤ length l * most
 unfolding sumOver
@@ -181,7 +181,7 @@ small-sum f most h (a ∷ rest) =
 pub totals-are-small : {b : Board} → Reached b → (n : ℕ) → n < nodesMost → natAbs (getD (b .totals) n (pos 0)) < 2 ^ 62
 unfolding totalsOf
 totals-are-small {b} r n h =
-    let g = good r in
+    let g = invariant r in
     let s = small-sum (placeGives (b .cards) (voltsOf b) n) flowMost (small-place (b .cards) (voltsOf b) n) (b .transistors) in
     let k = subst (λ (l : ℕ). natAbs (sumOver (placeGives (b .cards) (voltsOf b) n) (b .transistors)) ≤ l * flowMost) (g .transistors-long) s in
     rw (g .balanced, tabulate-at (λ (m : ℕ). sumOver (placeGives (b .cards) (voltsOf b) m) (b .transistors)) nodesMost n (pos 0) h) (omega arith)

@@ -54,10 +54,10 @@ abbrev pub noCard : Card
 noCard = record { issue = 0; name = []; ready = noReady }
 
 abbrev pub emptyTransistor : Transistor
-emptyTransistor = record { issue = 0; card = 0; seat = 0; nodes = replicate roles 0 }
+emptyTransistor = record { issue = 0; card = 0; «card_place» = 0; nodes = replicate roles 0 }
 
 abbrev pub noTransistor : Transistor
-noTransistor = record { issue = 0; card = 0; seat = 0; nodes = [] }
+noTransistor = record { issue = 0; card = 0; «card_place» = 0; nodes = [] }
 
 -- ---- totals anew
 
@@ -67,10 +67,10 @@ workedAt cards i = getD cards i noCard .ready .card
 
 -- what a place adds to node n: nothing where it is empty
 unfoldable pub placeGives : List Card → List ℤ → ℕ → Transistor → ℤ
-placeGives cards volts n t = cond (eqb (t .issue) 0) (pos 0) (flow (workedAt cards (t .seat)) (t .nodes) volts n)
+placeGives cards volts n t = cond (eqb (t .issue) 0) (pos 0) (flow (workedAt cards (t .«card_place»)) (t .nodes) volts n)
 
 unfoldable pub placeOverloads : List Card → List ℤ → Transistor → Bool
-placeOverloads cards volts t = cond (eqb (t .issue) 0) false (overloads (workedAt cards (t .seat)) (t .nodes) volts)
+placeOverloads cards volts t = cond (eqb (t .issue) 0) false (overloads (workedAt cards (t .«card_place»)) (t .nodes) volts)
 
 -- f 0, f 1, .., f (n - 1)
 unfoldable pub tabulate : {A : Type 0} → (ℕ → A) → ℕ → List A
@@ -118,7 +118,7 @@ loadedOf b name bytes = loaded b name (mayLoad b name bytes)
 
 abbrev pub withTransistor : Board → ℕ → List ℤ → List Transistor
 withTransistor b i nodes =
-    set (b .transistors) (freeTransistor (b .transistors)) (record { issue = b .next; card = getD (b .cards) i noCard .issue; seat = i; nodes = map natAbs nodes })
+    set (b .transistors) (freeTransistor (b .transistors)) (record { issue = b .next; card = getD (b .cards) i noCard .issue; «card_place» = i; nodes = map natAbs nodes })
 
 abbrev pub placed : Board → List ℤ → Verdict ℕ → Answered
 placed b nodes (no f) = refuse b f

@@ -51,14 +51,17 @@ abbrev pub judgedCard : Judged → Verdict WorkedCard
 judgedCard (judged.Refused f) = no f
 judgedCard (judged.Card c) = yes c
 
--- Loading: 1, 2, 6 to 10, 11, 17
-unfoldable pub loadVerdict : List ℕ → List ℕ → Bool → Bool → Verdict WorkedCard
-loadVerdict name bytes noRoom usedUp =
+-- Loading: 1, 2, 6 to 10, 11, 17, from what the record is judged to be
+abbrev pub loadOrder : List ℕ → List ℕ → Judged → Bool → Bool → Verdict WorkedCard
+loadOrder name bytes j noRoom usedUp =
     refuseIf (not (rightLength bytes)) Malformed
     (refuseIf (not (asked name)) BadName
-    (andThen (judgedCard (judgeOf bytes))
+    (andThen (judgedCard j)
     (λ (c : WorkedCard). refuseIf noRoom NoRoom
     (refuseIf usedUp NumbersUsedUp (yes c)))))
+
+unfoldable pub loadVerdict : List ℕ → List ℕ → Bool → Bool → Verdict WorkedCard
+loadVerdict name bytes noRoom usedUp = loadOrder name bytes (judgeOf bytes) noRoom usedUp
 
 -- Placing: 12, 13, 14, 11, 17, 15
 unfoldable pub placeVerdict : {A : Type 0} → Found A → (A → WorkedCard) → (A → Bool) → List ℤ → Bool → Bool → Verdict A

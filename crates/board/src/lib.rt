@@ -29,7 +29,7 @@ pub struct Card {
 pub struct Transistor {
     pub issue: u32,
     pub card: u32,
-    pub seat: u32,
+    pub card_place: u32,
     pub nodes: [u8; ROLES],
 }
 
@@ -78,7 +78,7 @@ fn no_transistor() -> Transistor
     Transistor {
         issue: 0,
         card: 0,
-        seat: 0,
+        card_place: 0,
         nodes: [0u8; ROLES],
     }
 }
@@ -173,14 +173,14 @@ impl Board {
         let way = rules::may_place(cards, ts, issue, n, on);
         match way {
             Way::Stop(f) => refused(self, f),
-            Way::Go(seat, free) => {
+            Way::Go(at, free) => {
                 let following = issue + 1;
-                let c = cards[seat];
-                let place = seat as u32;
+                let c = cards[at];
+                let place = at as u32;
                 let t = Transistor {
                     issue,
                     card: c.issue,
-                    seat: place,
+                    card_place: place,
                     nodes: on,
                 };
                 let table = octave::table();
@@ -244,7 +244,7 @@ impl Board {
             return refused(self, Refusal::Unknown);
         }
         let t = ts[i];
-        let s = worker::seat_of(t);
+        let s = worker::card_place_of(t);
         let c = self.cards[s];
         let table = octave::table();
         let volts = self.volts;

@@ -9,7 +9,7 @@ ghost use Rattle.branch.specs.Ready.{lowered};
 ghost use Rattle.branch.specs.Outcome.{outcomeOf};
 ghost use Rattle.board.specs.Desk.{rolesAt, isOver, overloads, flow, anyOf};
 ghost use Rattle.board.specs.Model.{placeOverloads, totalsOf};
-ghost use Rattle.board.specs.inner.Parts.{More, Room, Wired, rolesOf, seatOr, backFlow};
+ghost use Rattle.board.specs.inner.Parts.{More, Room, Wired, rolesOf, placeOfCard, backFlow};
 ghost use Rattle.board.specs.inner.Sizes.{workedMost};
 ghost use Rattle.board.specs.inner.Settle.{Workable, Settling};
 use crate::Board;
@@ -100,11 +100,11 @@ pub(crate) fn take_out(
 }
 
 // The place of the card on which a transistor stands.
-pub(crate) fn seat_of(t: Transistor) -> usize
-    ensures { λ r. ⌜ r ≡ seatOr t ⌝ }
+pub(crate) fn card_place_of(t: Transistor) -> usize
+    ensures { λ r. ⌜ r ≡ placeOfCard t ⌝ }
 {
-    let seat = t.seat as usize;
-    if seat < Board::CARDS { seat } else { 0 }
+    let place = t.card_place as usize;
+    if place < Board::CARDS { place } else { 0 }
 }
 
 fn either(a: bool, b: bool) -> bool
@@ -131,7 +131,7 @@ pub(crate) fn settle(
     for i in 0..Board::TRANSISTORS {
         let t = ts[i];
         if sets::is_at(t, n) {
-            let s = seat_of(t);
+            let s = card_place_of(t);
             let c = cards[s];
             let nodes = t.nodes;
             take_out(l, &table, c, &nodes, was);

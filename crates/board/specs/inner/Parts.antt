@@ -78,8 +78,8 @@ abbrev pub rolesOf : List ℕ → List ℕ → List ℕ
 rolesOf volts nodes = map (λ (n : ℕ). getD volts n 0) nodes
 
 -- the place of its card; the first for one that is none
-abbrev pub seatOr : Transistor → ℕ
-seatOr t = cond (ltb (t .seat) cardsMost) (t .seat) 0
+abbrev pub placeOfCard : Transistor → ℕ
+placeOfCard t = cond (ltb (t .«card_place») cardsMost) (t .«card_place») 0
 
 -- what a transistor adds to node n, taken away again
 unfoldable pub backFlow : WorkedCard → List ℕ → List ℤ → ℕ → ℤ

@@ -27,9 +27,9 @@ pub record Workable (table : List ℕ) (c : Card) (nodes volts : List ℕ) : Typ
   pub volts-are : Volts volts
 
 -- a transistor on a card and on nodes that are there
-pub record Seated (cards : List Card) (t : Transistor) : Type 0 where
-  pub seat-there : t .seat < cardsMost
-  pub ready : IsReady (getD cards (t .seat) noCard .ready)
+pub record HasCard (cards : List Card) (t : Transistor) : Type 0 where
+  pub place-there : t .«card_place» < cardsMost
+  pub ready : IsReady (getD cards (t .«card_place») noCard .ready)
   pub wired : (k : ℕ) → getD (t .nodes) k 0 < nodesMost
   pub long : length (t .nodes) ≡ roles
 
@@ -37,7 +37,7 @@ pub record Seated (cards : List Card) (t : Transistor) : Type 0 where
 pub record Settling (cards : List Card) (ts : List Transistor) (was volts : List ℕ) (n : ℕ) (totals : List ℤ) : Type 0 where
   pub was-are : Volts was
   pub volts-are : Volts volts
-  pub seated : (i : ℕ) → standsAt n (getD ts i noTransistor) ≡ true → Seated cards (getD ts i noTransistor)
+  pub has-card : (i : ℕ) → standsAt n (getD ts i noTransistor) ≡ true → HasCard cards (getD ts i noTransistor)
   pub same : (i : ℕ) → standsAt n (getD ts i noTransistor) ≡ false → (m : ℕ) → placeGives cards (map lowered was) m (getD ts i noTransistor) ≡ placeGives cards (map lowered volts) m (getD ts i noTransistor)
   pub quiet : (i : ℕ) → standsAt n (getD ts i noTransistor) ≡ false → placeOverloads cards (map lowered volts) (getD ts i noTransistor) ≡ false
   pub balanced : totals ≡ totalsOf cards ts (map lowered was)

@@ -10,7 +10,7 @@ use Rattle.board.specs.Counts.{transistorsMost}
 use Rattle.board.specs.Verdict.{issueOf, some}
 use Rattle.board.specs.Model.{noTransistor, transistorPlace}
 use Rattle.board.specs.inner.Parts.{placeOr}
-use Rattle.board.proofs.Currents.{seat-below}
+use Rattle.board.proofs.Currents.{place-below}
 use Rattle.board.proofs.Reaches.{after-lift}
 use Rattle.board.proofs.Answers.{no-transistor-there, is-there}
 use Rattle.board.proofs.Changes.{lift-unknown, lift-works, lifts-it}
@@ -46,20 +46,20 @@ mul-t c = search needs
 array-copy-out-t : tie.Need-array-copy-out-t
 array-copy-out-t c = search needs
 
-seat-of-requires : tie.Need-seat-of-requires
-seat-of-requires c κs = search needs
+card-place-of-requires : tie.Need-card-place-of-requires
+card-place-of-requires c κs = search needs
 
 mul-c : tie.Need-mul-c
-mul-c c = let h = seat-below (getD (c .before .before .before .before .before .before .args .t1 .transistors) (c .before .before .before .transistor-at .result) noTransistor) (c .seat-of .ensures) in omega arith
+mul-c c = let h = place-below (getD (c .before .before .before .before .before .before .args .t1 .transistors) (c .before .before .before .transistor-at .result) noTransistor) (c .card-place-of .ensures) in omega arith
 
 element-copy-out-c : tie.Need-element-copy-out-c
-element-copy-out-c c = seat-below (getD (c .before .before .before .before .before .before .args .t1 .transistors) (c .before .before .before .transistor-at .result) noTransistor) (c .seat-of .ensures)
+element-copy-out-c c = place-below (getD (c .before .before .before .before .before .before .args .t1 .transistors) (c .before .before .before .transistor-at .result) noTransistor) (c .card-place-of .ensures)
 
 table-requires : tie.Need-table-requires
 table-requires c κs = search needs
 
 take-out-requires : tie.Need-take-out-requires
-take-out-requires c κs = lift-works (c .before .before .before .before .before .before .before .before .before .before .before .before .before .before .before .pre) (c .before .before .before .before .before .before .before .before .before .before .before .before .before .before .before .args .transistor) _ (there (c .before .before .before .before .before .before .before .before .before .before .before)) _ (c .before .before .before .before .before .before .before .before .before .seat-of .ensures) _ (c .before .before .before .before .before .before .before .table .ensures)
+take-out-requires c κs = lift-works (c .before .before .before .before .before .before .before .before .before .before .before .before .before .before .before .pre) (c .before .before .before .before .before .before .before .before .before .before .before .before .before .before .before .args .transistor) _ (there (c .before .before .before .before .before .before .before .before .before .before .before)) _ (c .before .before .before .before .before .before .before .before .before .card-place-of .ensures) _ (c .before .before .before .before .before .before .before .table .ensures)
 
 no-transistor-requires : tie.Need-no-transistor-requires
 no-transistor-requires c κs = search needs
@@ -71,7 +71,7 @@ element-set-from-none : tie.Need-element-set-from-none
 element-set-from-none c = search needs
 
 returns-2 : tie.Need-returns-2
-returns-2 c = after-lift (c .before .before .before .before .before .before .before .before .before .before .before .before .before .before .before .before .before .pre) _ (lifts-it (c .before .before .before .before .before .before .before .before .before .before .before .before .before .before .before .before .before .pre) (c .before .before .before .before .before .before .before .before .before .before .before .before .before .before .before .before .before .args .transistor) _ (there (c .before .before .before .before .before .before .before .before .before .before .before .before .before)) _ (c .before .before .before .before .before .before .before .before .before .before .before .seat-of .ensures) (c .no-transistor .ensures) (c .before .take-out .ensures))
+returns-2 c = after-lift (c .before .before .before .before .before .before .before .before .before .before .before .before .before .before .before .before .before .pre) _ (lifts-it (c .before .before .before .before .before .before .before .before .before .before .before .before .before .before .before .before .before .pre) (c .before .before .before .before .before .before .before .before .before .before .before .before .before .before .before .before .before .args .transistor) _ (there (c .before .before .before .before .before .before .before .before .before .before .before .before .before)) _ (c .before .before .before .before .before .before .before .before .before .before .before .card-place-of .ensures) (c .no-transistor .ensures) (c .before .take-out .ensures))
 
 pub lift-spec : {M : Type 1} → statement M
 lift-spec =
@@ -83,7 +83,7 @@ lift-spec =
     returns
     mul-t
     array-copy-out-t
-    seat-of-requires
+    card-place-of-requires
     mul-c
     element-copy-out-c
     table-requires

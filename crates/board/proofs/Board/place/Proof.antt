@@ -8,7 +8,7 @@ use mir.ValLaws.{toZ-ofZ}
 use Rattle.board.specs.Counts.{roles}
 use Rattle.board.specs.Verdict.{issueOf}
 use Rattle.board.proofs.Reaches.{after-place}
-use Rattle.board.proofs.Changes.{place-stops, free-below, number-below, seat-below, place-works, place-over, places-it}
+use Rattle.board.proofs.Changes.{place-stops, free-below, number-below, place-below, place-works, place-over, places-it}
 use Rattle.board.proofs.Board.place.Statement.{statement}
 use Rattle.board.proofs.Board.place.Tie as tie
 
@@ -40,13 +40,13 @@ add-following : tie.Need-add-following
 add-following c = let h = number-below (c .before .before .before .before .before .before .before .before .pre) (c .before .before .before .before .before .before .before .before .args .card) (c .before .before .before .before .before .before .before .before .args .nodes) _ _ (number (c .before .before .before .before .before .before .before)) ((c .before .before .before .before .before .before .nodes-of .ensures)) ((c .before .before .before .may-place .ensures)) _ _ ((c .before .way2 .given .1)) in omega arith
 
 mul-c : tie.Need-mul-c
-mul-c c = let h = seat-below (c .before .before .before .before .before .before .before .before .pre) (c .before .before .before .before .before .before .before .before .args .card) (c .before .before .before .before .before .before .before .before .args .nodes) _ _ (number (c .before .before .before .before .before .before .before)) ((c .before .before .before .before .before .before .nodes-of .ensures)) ((c .before .before .before .may-place .ensures)) _ _ ((c .before .way2 .given .1)) in omega arith
+mul-c c = let h = place-below (c .before .before .before .before .before .before .before .before .pre) (c .before .before .before .before .before .before .before .before .args .card) (c .before .before .before .before .before .before .before .before .args .nodes) _ _ (number (c .before .before .before .before .before .before .before)) ((c .before .before .before .before .before .before .nodes-of .ensures)) ((c .before .before .before .may-place .ensures)) _ _ ((c .before .way2 .given .1)) in omega arith
 
 array-copy-out-c : tie.Need-array-copy-out-c
-array-copy-out-c c = seat-below (c .before .before .before .before .before .before .before .before .pre) (c .before .before .before .before .before .before .before .before .args .card) (c .before .before .before .before .before .before .before .before .args .nodes) _ _ (number (c .before .before .before .before .before .before .before)) ((c .before .before .before .before .before .before .nodes-of .ensures)) ((c .before .before .before .may-place .ensures)) _ _ ((c .before .way2 .given .1))
+array-copy-out-c c = place-below (c .before .before .before .before .before .before .before .before .pre) (c .before .before .before .before .before .before .before .before .args .card) (c .before .before .before .before .before .before .before .before .args .nodes) _ _ (number (c .before .before .before .before .before .before .before)) ((c .before .before .before .before .before .before .nodes-of .ensures)) ((c .before .before .before .may-place .ensures)) _ _ ((c .before .way2 .given .1))
 
 cast-place : tie.Need-cast-place
-cast-place c = let h = seat-below (c .before .before .before .before .before .before .before .before .before .pre) (c .before .before .before .before .before .before .before .before .before .args .card) (c .before .before .before .before .before .before .before .before .before .args .nodes) _ _ (number (c .before .before .before .before .before .before .before .before)) ((c .before .before .before .before .before .before .before .nodes-of .ensures)) ((c .before .before .before .before .may-place .ensures)) _ _ ((c .before .before .way2 .given .1)) in search needs
+cast-place c = let h = place-below (c .before .before .before .before .before .before .before .before .before .pre) (c .before .before .before .before .before .before .before .before .before .args .card) (c .before .before .before .before .before .before .before .before .before .args .nodes) _ _ (number (c .before .before .before .before .before .before .before .before)) ((c .before .before .before .before .before .before .before .nodes-of .ensures)) ((c .before .before .before .before .may-place .ensures)) _ _ ((c .before .before .way2 .given .1)) in search needs
 
 table-requires : tie.Need-table-requires
 table-requires c κs = search needs

@@ -6,7 +6,7 @@ use lib.ListN.{length}
 use borrow.Author.Needs.{needs}
 use Rattle.board.specs.Counts.{transistorsMost}
 use Rattle.board.specs.Model.{standsOn, noTransistor}
-use Rattle.board.proofs.Walks.{Passed, at-start, goes-on, any-here, any-nowhere}
+use Rattle.board.proofs.Scans.{Passed, at-start, goes-on, any-here, any-nowhere}
 use Rattle.board.proofs.finds.any_on.Statement.{statement}
 use Rattle.board.proofs.finds.any_on.Tie as tie
 

@@ -6,7 +6,7 @@ use borrow.Author.Needs.{needs}
 use borrow.Author.Tests.{eq-eqb, ne-eqb}
 use Rattle.board.specs.Counts.{cardsMost}
 use Rattle.board.specs.Model.{isCard}
-use Rattle.board.proofs.Walks.{first-most, place-is}
+use Rattle.board.proofs.Scans.{first-most, place-is}
 use Rattle.board.proofs.finds.card_at.Statement.{statement}
 use Rattle.board.proofs.finds.card_at.Tie as tie
 

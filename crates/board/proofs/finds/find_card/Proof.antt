@@ -7,7 +7,7 @@ use borrow.Author.Needs.{needs}
 use borrow.Author.Tests.{eq-eqb, ne-eqb}
 use Rattle.board.specs.Counts.{cardsMost}
 use Rattle.board.specs.Model.{isCard, noCard}
-use Rattle.board.proofs.Walks.{Passed, at-start, goes-on, first-here, first-nowhere}
+use Rattle.board.proofs.Scans.{Passed, at-start, goes-on, first-here, first-nowhere}
 use Rattle.board.proofs.finds.find_card.Statement.{statement}
 use Rattle.board.proofs.finds.find_card.Tie as tie
 

@@ -7,7 +7,7 @@ use borrow.Author.Needs.{needs}
 use lib.ListN.{drop}
 use Rattle.board.specs.Counts.{cardsMost}
 use Rattle.board.specs.Model.{highestAt}
-use Rattle.board.proofs.Walks.{highest-more, highest-none}
+use Rattle.board.proofs.Scans.{highest-more, highest-none}
 use Rattle.board.proofs.finds.highest.Statement.{statement}
 use Rattle.board.proofs.finds.highest.Tie as tie
 

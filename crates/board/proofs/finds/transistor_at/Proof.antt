@@ -6,7 +6,7 @@ use borrow.Author.Needs.{needs}
 use borrow.Author.Tests.{eq-eqb, ne-eqb}
 use Rattle.board.specs.Counts.{transistorsMost}
 use Rattle.board.specs.Model.{isTransistor}
-use Rattle.board.proofs.Walks.{first-most, place-is}
+use Rattle.board.proofs.Scans.{first-most, place-is}
 use Rattle.board.proofs.finds.transistor_at.Statement.{statement}
 use Rattle.board.proofs.finds.transistor_at.Tie as tie
 

@@ -1,7 +1,7 @@
 -- `issue_of` gives the issue number that a caller's number is.
 use borrow.Author.Needs.{needs}
 use Rattle.whole.proofs.Halves.{is-up, is-down}
-use Rattle.board.proofs.Opened.{issue-is, issue-above, issue-below}
+use Rattle.board.proofs.CallerNumbers.{issue-is, issue-above, issue-below}
 use Rattle.board.proofs.given.issue_of.Statement.{statement}
 use Rattle.board.proofs.given.issue_of.Tie as tie
 

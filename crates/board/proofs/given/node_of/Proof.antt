@@ -1,7 +1,7 @@
 -- `node_of` gives the node that a caller's number is.
 use borrow.Author.Needs.{needs}
 use Rattle.whole.proofs.Halves.{is-up, is-down}
-use Rattle.board.proofs.Opened.{node-is, node-above, node-below}
+use Rattle.board.proofs.CallerNumbers.{node-is, node-above, node-below}
 use Rattle.board.proofs.given.node_of.Statement.{statement}
 use Rattle.board.proofs.given.node_of.Tie as tie
 

@@ -8,7 +8,7 @@ use borrow.Author.Needs.{needs}
 use Rattle.board.specs.Counts.{roles}
 use Rattle.board.specs.inner.Parts.{nodeOf}
 use Rattle.board.proofs.Integers.{held}
-use Rattle.board.proofs.Walks.{Filled, filled-none, filled-more, filled-all}
+use Rattle.board.proofs.Scans.{Filled, filled-none, filled-more, filled-all}
 use Rattle.board.proofs.given.nodes_of.Statement.{statement}
 use Rattle.board.proofs.given.nodes_of.Tie as tie
 

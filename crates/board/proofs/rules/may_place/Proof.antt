@@ -10,7 +10,7 @@ use Rattle.board.specs.Desk.{anyOf}
 use Rattle.board.specs.Model.{cardPlace, workedAt}
 use Rattle.board.specs.inner.Placing.{apartOn}
 use Rattle.board.proofs.Answers.{no-card-there, is-there}
-use Rattle.board.proofs.Ways.{stop-unknown, stop-off, stop-split, stop-full, stop-used-up, goes}
+use Rattle.board.proofs.PlacingTests.{stop-unknown, stop-off, stop-split, stop-full, stop-used-up, goes}
 use Rattle.board.proofs.rules.may_place.Statement.{statement}
 use Rattle.board.proofs.rules.may_place.Tie as tie
 

@@ -5,7 +5,7 @@ use native.Mathlib.Omega.{arith}
 use lib.ListN.{getD}
 use borrow.Author.Needs.{needs}
 use Rattle.board.specs.Counts.{roles}
-use Rattle.board.proofs.Walks.{Filled, filled-none, filled-more, filled-all}
+use Rattle.board.proofs.Scans.{Filled, filled-none, filled-more, filled-all}
 use Rattle.board.proofs.worker.role_volts.Statement.{statement}
 use Rattle.board.proofs.worker.role_volts.Tie as tie
 

@@ -16,33 +16,33 @@ use Rattle.board.specs.Counts.{nodesMost, transistorsMost}
 use Rattle.board.specs.Desk.{rolesAt, overloads, flow, anyOf}
 use Rattle.board.specs.Model.{noTransistor, emptyTransistor, workedAt, placeGives, placeOverloads, totalsOf, voltsOf}
 use Rattle.board.specs.inner.Parts.{More, Room, names, standsAt}
-use Rattle.board.specs.inner.Settle.{Volts, Seated, Settling}
+use Rattle.board.specs.inner.Settle.{Volts, HasCard, Settling}
 use Rattle.board.specs.inner.Sizes.{totalMost, workedMost}
 use Rattle.board.proofs.Integers.{clash}
 use Rattle.board.proofs.Lists.{each-set}
-use Rattle.board.proofs.Good.{Good}
+use Rattle.board.proofs.Invariant.{Invariant}
 use Rattle.board.proofs.Amounts.{room-less}
 use Rattle.board.proofs.Currents.{named-stands}
-use Rattle.board.proofs.Mixes.{totals-room, totals-changed}
+use Rattle.board.proofs.Midway.{totals-room, totals-changed}
 
--- ---- a board that is good
+-- ---- on a board that calls leave
 
-module _ {b : Board} (g : Good b) where
-  pub volts-good : Volts (b .volts)
-  volts-good = record { long = g .volts-long; near = g .near }
+module _ {b : Board} (g : Invariant b) where
+  pub volts-invariant : Volts (b .volts)
+  volts-invariant = record { long = g .volts-long; near = g .near }
 
-  pub seated : (i : ℕ) → (getD (b .transistors) i noTransistor .issue ≡ 0 → ⊥) → Seated (b .cards) (getD (b .transistors) i noTransistor)
-  seated i h =
-      let s = g .sits i h in
-      record { seat-there = s .seat-there; ready = g .ready (getD (b .transistors) i noTransistor .seat) (λ z. s .card-given (sym (s .card-there) ∙ z)); wired = s .wired; long = s .long }
+  pub has-card : (i : ℕ) → (getD (b .transistors) i noTransistor .issue ≡ 0 → ⊥) → HasCard (b .cards) (getD (b .transistors) i noTransistor)
+  has-card i h =
+      let s = g .transistor i h in
+      record { place-there = s .place-there; ready = g .ready (getD (b .transistors) i noTransistor .«card_place») (λ z. s .card-given (sym (s .card-there) ∙ z)); wired = s .wired; long = s .long }
 
   quiet-now : (i : ℕ) → placeOverloads (b .cards) (voltsOf b) (getD (b .transistors) i noTransistor) ≡ false
   unfolding placeOverloads
   quiet-now i = go (eqb (getD (b .transistors) i noTransistor .issue) 0) refl
     where
-      go : (t : Bool) → eqb (getD (b .transistors) i noTransistor .issue) 0 ≡ t → cond t false (overloads (workedAt (b .cards) (getD (b .transistors) i noTransistor .seat)) (getD (b .transistors) i noTransistor .nodes) (voltsOf b)) ≡ false
+      go : (t : Bool) → eqb (getD (b .transistors) i noTransistor .issue) 0 ≡ t → cond t false (overloads (workedAt (b .cards) (getD (b .transistors) i noTransistor .«card_place»)) (getD (b .transistors) i noTransistor .nodes) (voltsOf b)) ≡ false
       go true e = refl
-      go false e = g .sits i (eqb-false _ _ e) .quiet
+      go false e = g .transistor i (eqb-false _ _ e) .quiet
 
   -- there is room for what one transistor gives
   pub room-now : Room nodesMost workedMost (b .totals)
@@ -50,7 +50,7 @@ module _ {b : Board} (g : Good b) where
 
 -- ---- a transistor put on a place, or taken off
 
-module _ {b : Board} (g : Good b) (i : ℕ) (below : i < transistorsMost) where
+module _ {b : Board} (g : Invariant b) (i : ℕ) (below : i < transistorsMost) where
   there : i < length (b .transistors)
   there = rw (g .transistors-long) below
 
@@ -92,7 +92,7 @@ module _ (cards : List Card) (volts : List ℕ) (n v : ℕ) (t : Transistor) (h 
   unfolding placeGives flow
   gives-as-before m = go (eqb (t .issue) 0) refl
     where
-      go : (u : Bool) → eqb (t .issue) 0 ≡ u → cond u (pos 0) (flow (workedAt cards (t .seat)) (t .nodes) (map lowered volts) m) ≡ cond u (pos 0) (flow (workedAt cards (t .seat)) (t .nodes) (map lowered (set volts n v)) m)
+      go : (u : Bool) → eqb (t .issue) 0 ≡ u → cond u (pos 0) (flow (workedAt cards (t .«card_place»)) (t .nodes) (map lowered volts) m) ≡ cond u (pos 0) (flow (workedAt cards (t .«card_place»)) (t .nodes) (map lowered (set volts n v)) m)
       go true e = refl
       go false e = rw (roles-same volts n v (t .nodes) (not-named (eqb-false _ _ e)))
 
@@ -100,17 +100,17 @@ module _ (cards : List Card) (volts : List ℕ) (n v : ℕ) (t : Transistor) (h 
   unfolding placeOverloads overloads
   overloads-as-before = go (eqb (t .issue) 0) refl
     where
-      go : (u : Bool) → eqb (t .issue) 0 ≡ u → cond u false (overloads (workedAt cards (t .seat)) (t .nodes) (map lowered (set volts n v))) ≡ cond u false (overloads (workedAt cards (t .seat)) (t .nodes) (map lowered volts))
+      go : (u : Bool) → eqb (t .issue) 0 ≡ u → cond u false (overloads (workedAt cards (t .«card_place»)) (t .nodes) (map lowered (set volts n v))) ≡ cond u false (overloads (workedAt cards (t .«card_place»)) (t .nodes) (map lowered volts))
       go true e = refl
       go false e = rw (roles-same volts n v (t .nodes) (not-named (eqb-false _ _ e)))
 
-module _ {b : Board} (g : Good b) (n v : ℕ) (near : v ≤ 2 * reach) where
+module _ {b : Board} (g : Invariant b) (n v : ℕ) (near : v ≤ 2 * reach) where
   pub settling-moved : Settling (b .cards) (b .transistors) (b .volts) (set (b .volts) n v) n (b .totals)
   settling-moved =
       record {
-        was-are = volts-good g;
+        was-are = volts-invariant g;
         volts-are = record { long = length-set (b .volts) n v ∙ g .volts-long; near = λ k. each-set (λ (x : ℕ). x ≤ 2 * reach) (b .volts) n k v 0 near (g .near k) };
-        seated = λ j e. seated g j (named-stands n (getD (b .transistors) j noTransistor) e);
+        has-card = λ j e. has-card g j (named-stands n (getD (b .transistors) j noTransistor) e);
         same = λ j e m. gives-as-before (b .cards) (b .volts) n v (getD (b .transistors) j noTransistor) e m;
         quiet = λ j e. overloads-as-before (b .cards) (b .volts) n v (getD (b .transistors) j noTransistor) e ∙ quiet-now g j;
         balanced = g .balanced;

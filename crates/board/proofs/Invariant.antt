@@ -1,4 +1,4 @@
--- What holds of every board that calls from a fresh board leave: who sits where, and that each total is worked from what stands.
+-- What holds of every board that calls from a fresh board leave: who stands where, and that each total is worked from what stands.
 use mathlib.Core.Path.{_≡_, refl, sym, ap, _∙_, subst}
 use mathlib.Core.Bool.{Bool, true, false, cond, _||_}
 use mathlib.Core.List.{List, [], _∷_, map}
@@ -26,20 +26,20 @@ use Rattle.board.proofs.Lists.{each-set, each-replicate, first-passes, 
 use Rattle.board.proofs.Verdicts.{loads, places, moves, withdraws, on-node}
 
 -- a transistor that stands: on a card that is there, on nodes of the board, and within its limits
-pub record Sits (cards : List Card) (volts : List ℤ) (t : Transistor) : Type 0 where
-  pub seat-there : t .seat < cardsMost
-  pub card-there : getD cards (t .seat) noCard .issue ≡ t .card
+pub record TransistorInvariant (cards : List Card) (volts : List ℤ) (t : Transistor) : Type 0 where
+  pub place-there : t .«card_place» < cardsMost
+  pub card-there : getD cards (t .«card_place») noCard .issue ≡ t .card
   pub card-given : t .card ≡ 0 → ⊥
   pub wired : (k : ℕ) → getD (t .nodes) k 0 < nodesMost
   pub long : length (t .nodes) ≡ roles
-  pub quiet : overloads (workedAt cards (t .seat)) (t .nodes) volts ≡ false
+  pub quiet : overloads (workedAt cards (t .«card_place»)) (t .nodes) volts ≡ false
 
-pub record Good (b : Board) : Type 0 where
+pub record Invariant (b : Board) : Type 0 where
   pub cards-long : length (b .cards) ≡ cardsMost
   pub transistors-long : length (b .transistors) ≡ transistorsMost
   pub volts-long : length (b .volts) ≡ nodesMost
   pub near : (k : ℕ) → getD (b .volts) k 0 ≤ 2 * reach
-  pub sits : (i : ℕ) → (getD (b .transistors) i noTransistor .issue ≡ 0 → ⊥) → Sits (b .cards) (voltsOf b) (getD (b .transistors) i noTransistor)
+  pub transistor : (i : ℕ) → (getD (b .transistors) i noTransistor .issue ≡ 0 → ⊥) → TransistorInvariant (b .cards) (voltsOf b) (getD (b .transistors) i noTransistor)
   pub ready : (i : ℕ) → (getD (b .cards) i noCard .issue ≡ 0 → ⊥) → IsReady (getD (b .cards) i noCard .ready)
   pub balanced : b .totals ≡ totalsOf (b .cards) (b .transistors) (voltsOf b)
 
@@ -49,26 +49,26 @@ module _ (cards : List Card) (p : ℕ) (c : Card) (volts : List ℤ) where
   pub worked-same : (i : ℕ) → (i ≡ p → ⊥) → workedAt (set cards p c) i ≡ workedAt cards i
   worked-same i h = ap (λ (x : Card). x .ready .card) (getD-set-other cards p i c noCard h)
 
-  pub sits-on : (t : Transistor) → (t .seat ≡ p → ⊥) → Sits cards volts t → Sits (set cards p c) volts t
-  sits-on t h s =
-      let same = getD-set-other cards p (t .seat) c noCard h in record {
-        seat-there = s .seat-there;
+  pub transistor-keeps : (t : Transistor) → (t .«card_place» ≡ p → ⊥) → TransistorInvariant cards volts t → TransistorInvariant (set cards p c) volts t
+  transistor-keeps t h s =
+      let same = getD-set-other cards p (t .«card_place») c noCard h in record {
+        place-there = s .place-there;
         card-there = rw same (s .card-there);
         card-given = s .card-given;
         wired = s .wired;
         long = s .long;
-        quiet = rw (worked-same (t .seat) h) (s .quiet);
+        quiet = rw (worked-same (t .«card_place») h) (s .quiet);
       }
 
-  gives-same : (n : ℕ) (t : Transistor) → ((t .issue ≡ 0 → ⊥) → t .seat ≡ p → ⊥) → placeGives cards volts n t ≡ placeGives (set cards p c) volts n t
+  gives-same : (n : ℕ) (t : Transistor) → ((t .issue ≡ 0 → ⊥) → t .«card_place» ≡ p → ⊥) → placeGives cards volts n t ≡ placeGives (set cards p c) volts n t
   unfolding placeGives
   gives-same n t h = go (eqb (t .issue) 0) refl
     where
-      go : (u : Bool) → eqb (t .issue) 0 ≡ u → cond u (pos 0) (flow (workedAt cards (t .seat)) (t .nodes) volts n) ≡ cond u (pos 0) (flow (workedAt (set cards p c) (t .seat)) (t .nodes) volts n)
+      go : (u : Bool) → eqb (t .issue) 0 ≡ u → cond u (pos 0) (flow (workedAt cards (t .«card_place»)) (t .nodes) volts n) ≡ cond u (pos 0) (flow (workedAt (set cards p c) (t .«card_place»)) (t .nodes) volts n)
       go true e = refl
-      go false e = rw (worked-same (t .seat) (h (eqb-false (t .issue) 0 e)))
+      go false e = rw (worked-same (t .«card_place») (h (eqb-false (t .issue) 0 e)))
 
-  pub totals-keep : (ts : List Transistor) → ((i : ℕ) → (getD ts i noTransistor .issue ≡ 0 → ⊥) → getD ts i noTransistor .seat ≡ p → ⊥) → totalsOf cards ts volts ≡ totalsOf (set cards p c) ts volts
+  pub totals-keep : (ts : List Transistor) → ((i : ℕ) → (getD ts i noTransistor .issue ≡ 0 → ⊥) → getD ts i noTransistor .«card_place» ≡ p → ⊥) → totalsOf cards ts volts ≡ totalsOf (set cards p c) ts volts
   unfolding totalsOf
   totals-keep ts h = tabulate-same _ _ nodesMost (λ n k. sum-same (placeGives cards volts n) (placeGives (set cards p c) volts n) noTransistor ts (λ i q. gives-same n (getD ts i noTransistor) (h i)))
 
@@ -84,40 +84,40 @@ totals-fresh : (cards : List Card) (volts : List ℤ) → replicate nodesMost (p
 unfolding totalsOf
 totals-fresh cards volts = tabulate-none _ (pos 0) nodesMost (λ n k. totals-none cards volts n transistorsMost)
 
-good-fresh : Good freshBoard
+invariant-fresh : Invariant freshBoard
 unfolding freshBoard
-good-fresh =
+invariant-fresh =
     record {
       cards-long = length-replicate cardsMost emptyCard;
       transistors-long = length-replicate transistorsMost emptyTransistor;
       volts-long = length-replicate nodesMost (raised (pos 0));
       near = λ k. each-replicate (λ (x : ℕ). x ≤ 2 * reach) nodesMost k (raised (pos 0)) 0 (lit≤ tt) (lit≤ tt);
-      sits = λ i h. absurd (h (each-replicate (λ (t : Transistor). t .issue ≡ 0) transistorsMost i emptyTransistor noTransistor refl refl));
+      transistor = λ i h. absurd (h (each-replicate (λ (t : Transistor). t .issue ≡ 0) transistorsMost i emptyTransistor noTransistor refl refl));
       ready = λ i h. absurd (h (each-replicate (λ (c : Card). c .issue ≡ 0) cardsMost i emptyCard noCard refl refl));
       balanced = totals-fresh (replicate cardsMost emptyCard) (map lowered (replicate nodesMost (raised (pos 0))));
     }
 
--- nobody sits at the place p of the cards
+-- nobody stands on the place p of the cards
 abbrev pub Away : Board → ℕ → Type 0
-Away b p = (i : ℕ) → (getD (b .transistors) i noTransistor .issue ≡ 0 → ⊥) → getD (b .transistors) i noTransistor .seat ≡ p → ⊥
+Away b p = (i : ℕ) → (getD (b .transistors) i noTransistor .issue ≡ 0 → ⊥) → getD (b .transistors) i noTransistor .«card_place» ≡ p → ⊥
 
 -- the free place that a new card takes
 pub record FreeCard (b : Board) : Type 0 where
   pub below : freeCard (b .cards) < length (b .cards)
   pub away : Away b (freeCard (b .cards))
 
-pub free-card : (b : Board) → Good b → leb cardsMost (freeCard (b .cards)) ≡ false → FreeCard b
+pub free-card : (b : Board) → Invariant b → leb cardsMost (freeCard (b .cards)) ≡ false → FreeCard b
 free-card b g e =
     let p = freeCard (b .cards) in
     let below : p < length (b .cards) = rw (g .cards-long) (leb-false cardsMost p e) in
     let empty : getD (b .cards) p noCard .issue ≡ 0 = eqb-true _ 0 (first-passes (isCard 0) noCard (b .cards) below) in
-    record { below = below; away = λ i h q. g .sits i h .card-given (sym (g .sits i h .card-there) ∙ ap (λ (j : ℕ). getD (b .cards) j noCard .issue) q ∙ empty) }
+    record { below = below; away = λ i h q. g .transistor i h .card-given (sym (g .transistor i h .card-there) ∙ ap (λ (j : ℕ). getD (b .cards) j noCard .issue) q ∙ empty) }
 
-good-loaded : {b : Board} (name bytes : List ℕ) → Good b → Good (loadedOf b name bytes .board)
+invariant-loaded : {b : Board} (name bytes : List ℕ) → Invariant b → Invariant (loadedOf b name bytes .board)
 unfolding loadedOf
-good-loaded {b} name bytes g = go (mayLoad b name bytes) refl
+invariant-loaded {b} name bytes g = go (mayLoad b name bytes) refl
   where
-    go : (v : Verdict WorkedCard) → mayLoad b name bytes ≡ v → Good (loaded b name v .board)
+    go : (v : Verdict WorkedCard) → mayLoad b name bytes ≡ v → Invariant (loaded b name v .board)
     go (no f) e = g
     go (yes c) e =
         let l = loads name e in
@@ -128,7 +128,7 @@ good-loaded {b} name bytes g = go (mayLoad b name bytes) refl
           transistors-long = g .transistors-long;
           volts-long = g .volts-long;
           near = g .near;
-          sits = λ i h. sits-on (b .cards) p _ (voltsOf b) (getD (b .transistors) i noTransistor) (away i h) (g .sits i h);
+          transistor = λ i h. transistor-keeps (b .cards) p _ (voltsOf b) (getD (b .transistors) i noTransistor) (away i h) (g .transistor i h);
           ready = λ i. each-set (λ (x : Card). (x .issue ≡ 0 → ⊥) → IsReady (x .ready)) (b .cards) p i _ noCard (λ h. made-ready bytes c (l .judged)) (g .ready i);
           balanced = g .balanced ∙ totals-keep (b .cards) p _ (voltsOf b) (b .transistors) away;
         }
@@ -180,7 +180,7 @@ raised-near v e = kept v e .near
 
 -- ---- tests of a place that is not empty
 
-standing-quiet : (cards : List Card) (volts : List ℤ) (t : Transistor) → (t .issue ≡ 0 → ⊥) → placeOverloads cards volts t ≡ false → overloads (workedAt cards (t .seat)) (t .nodes) volts ≡ false
+standing-quiet : (cards : List Card) (volts : List ℤ) (t : Transistor) → (t .issue ≡ 0 → ⊥) → placeOverloads cards volts t ≡ false → overloads (workedAt cards (t .«card_place»)) (t .nodes) volts ≡ false
 unfolding placeOverloads
 standing-quiet cards volts t h e = rw (ne-eqb (t .issue) 0 h) at e
 
@@ -189,11 +189,11 @@ not-on n t h e = eqb-false (t .card) n (rw (ne-eqb (t .issue) 0 h) at e)
 
 -- ---- the other calls
 
-good-placed : {b : Board} (card : ℤ) (nodes : List ℤ) → length nodes ≡ roles → Good b → Good (placedOf b card nodes .board)
+invariant-placed : {b : Board} (card : ℤ) (nodes : List ℤ) → length nodes ≡ roles → Invariant b → Invariant (placedOf b card nodes .board)
 unfolding placedOf
-good-placed {b} card nodes seven g = go _ refl
+invariant-placed {b} card nodes seven g = go _ refl
   where
-    go : (v : Verdict ℕ) → mayPlace b card nodes ≡ v → Good (placed b nodes v .board)
+    go : (v : Verdict ℕ) → mayPlace b card nodes ≡ v → Invariant (placed b nodes v .board)
     go (no f) e = g
     go (yes i) e =
         let p = places (cardPlace (issueOf card) (b .cards)) e in
@@ -203,18 +203,18 @@ good-placed {b} card nodes seven g = go _ refl
           transistors-long = length-set (b .transistors) (freeTransistor (b .transistors)) _ ∙ g .transistors-long;
           volts-long = g .volts-long;
           near = g .near;
-          sits = λ j. each-set (λ (t : Transistor). (t .issue ≡ 0 → ⊥) → Sits (b .cards) (voltsOf b) t) (b .transistors) (freeTransistor (b .transistors)) j _ noTransistor
-              (λ h. record { seat-there = subst (λ (k : ℕ). i < k) (g .cards-long) (a .below); card-there = refl; card-given = λ z. a .given (sym (a .issue-is) ∙ z); wired = on-nodes nodes (p .on); long = length-map nodes natAbs ∙ seven; quiet = p .quiet })
-              (g .sits j);
+          transistor = λ j. each-set (λ (t : Transistor). (t .issue ≡ 0 → ⊥) → TransistorInvariant (b .cards) (voltsOf b) t) (b .transistors) (freeTransistor (b .transistors)) j _ noTransistor
+              (λ h. record { place-there = subst (λ (k : ℕ). i < k) (g .cards-long) (a .below); card-there = refl; card-given = λ z. a .given (sym (a .issue-is) ∙ z); wired = on-nodes nodes (p .on); long = length-map nodes natAbs ∙ seven; quiet = p .quiet })
+              (g .transistor j);
           ready = g .ready;
           balanced = refl;
         }
 
-good-moved : {b : Board} (n v : ℤ) → Good b → Good (movedOf b n v .board)
+invariant-moved : {b : Board} (n v : ℤ) → Invariant b → Invariant (movedOf b n v .board)
 unfolding movedOf
-good-moved {b} n v g = go _ refl
+invariant-moved {b} n v g = go _ refl
   where
-    go : (w : Verdict ℕ) → mayMove b n v ≡ w → Good (moved b v w .board)
+    go : (w : Verdict ℕ) → mayMove b n v ≡ w → Invariant (moved b v w .board)
     go (no f) e = g
     go (yes k) e =
         let m = moves e in
@@ -223,22 +223,22 @@ good-moved {b} n v g = go _ refl
           transistors-long = g .transistors-long;
           volts-long = length-set (b .volts) k (raised v) ∙ g .volts-long;
           near = λ j. each-set (λ (x : ℕ). x ≤ 2 * reach) (b .volts) k j (raised v) 0 (raised-near v (m .near)) (g .near j);
-          sits = λ j h. still k j h (m .at) (m .quiet) (g .sits j h);
+          transistor = λ j h. still k j h (m .at) (m .quiet) (g .transistor j h);
           ready = g .ready;
           balanced = refl;
         }
       where
-        still : (k j : ℕ) → (getD (b .transistors) j noTransistor .issue ≡ 0 → ⊥) → k ≡ natAbs n → anyOf (placeOverloads (b .cards) (map lowered (set (b .volts) (natAbs n) (raised v)))) (b .transistors) ≡ false → Sits (b .cards) (voltsOf b) (getD (b .transistors) j noTransistor) → Sits (b .cards) (map lowered (set (b .volts) k (raised v))) (getD (b .transistors) j noTransistor)
+        still : (k j : ℕ) → (getD (b .transistors) j noTransistor .issue ≡ 0 → ⊥) → k ≡ natAbs n → anyOf (placeOverloads (b .cards) (map lowered (set (b .volts) (natAbs n) (raised v)))) (b .transistors) ≡ false → TransistorInvariant (b .cards) (voltsOf b) (getD (b .transistors) j noTransistor) → TransistorInvariant (b .cards) (map lowered (set (b .volts) k (raised v))) (getD (b .transistors) j noTransistor)
         still k j h at quiet s =
             let t = getD (b .transistors) j noTransistor in
             let each = none-of _ (b .transistors) noTransistor quiet j (stands (λ (u : Transistor). u .issue) noTransistor (b .transistors) j refl h) in
-            record { seat-there = s .seat-there; card-there = s .card-there; card-given = s .card-given; wired = s .wired; long = s .long; quiet = rw at (standing-quiet (b .cards) _ t h each) }
+            record { place-there = s .place-there; card-there = s .card-there; card-given = s .card-given; wired = s .wired; long = s .long; quiet = rw at (standing-quiet (b .cards) _ t h each) }
 
-good-lifted : {b : Board} (n : ℤ) → Good b → Good (liftedOf b n .board)
+invariant-lifted : {b : Board} (n : ℤ) → Invariant b → Invariant (liftedOf b n .board)
 unfolding liftedOf
-good-lifted {b} n g = go _ refl
+invariant-lifted {b} n g = go _ refl
   where
-    go : (w : Verdict ℕ) → mayLift b n ≡ w → Good (lifted b w .board)
+    go : (w : Verdict ℕ) → mayLift b n ≡ w → Invariant (lifted b w .board)
     go (no f) e = g
     go (yes i) e =
         record {
@@ -246,22 +246,22 @@ good-lifted {b} n g = go _ refl
           transistors-long = length-set (b .transistors) i emptyTransistor ∙ g .transistors-long;
           volts-long = g .volts-long;
           near = g .near;
-          sits = λ j. each-set (λ (t : Transistor). (t .issue ≡ 0 → ⊥) → Sits (b .cards) (voltsOf b) t) (b .transistors) i j emptyTransistor noTransistor (λ h. absurd (h refl)) (g .sits j);
+          transistor = λ j. each-set (λ (t : Transistor). (t .issue ≡ 0 → ⊥) → TransistorInvariant (b .cards) (voltsOf b) t) (b .transistors) i j emptyTransistor noTransistor (λ h. absurd (h refl)) (g .transistor j);
           ready = g .ready;
           balanced = refl;
         }
 
--- nobody sits on a card on which no transistor stands
-pub unused-away : (b : Board) → Good b → (n p : ℕ) → AtCard n (b .cards) p → anyOf (standsOn n) (b .transistors) ≡ false → Away b p
+-- nobody stands on a card on which no transistor stands
+pub unused-away : (b : Board) → Invariant b → (n p : ℕ) → AtCard n (b .cards) p → anyOf (standsOn n) (b .transistors) ≡ false → Away b p
 unused-away b g n p a unused i h q =
     not-on n (getD (b .transistors) i noTransistor) h (none-of _ (b .transistors) noTransistor unused i (stands (λ (u : Transistor). u .issue) noTransistor (b .transistors) i refl h))
-    (sym (g .sits i h .card-there) ∙ ap (λ (j : ℕ). getD (b .cards) j noCard .issue) q ∙ a .issue-is)
+    (sym (g .transistor i h .card-there) ∙ ap (λ (j : ℕ). getD (b .cards) j noCard .issue) q ∙ a .issue-is)
 
-good-withdrawn : {b : Board} (n : ℤ) → Good b → Good (withdrawnOf b n .board)
+invariant-withdrawn : {b : Board} (n : ℤ) → Invariant b → Invariant (withdrawnOf b n .board)
 unfolding withdrawnOf
-good-withdrawn {b} n g = go _ refl
+invariant-withdrawn {b} n g = go _ refl
   where
-    go : (w : Verdict ℕ) → mayWithdraw b n ≡ w → Good (withdrawn b w .board)
+    go : (w : Verdict ℕ) → mayWithdraw b n ≡ w → Invariant (withdrawn b w .board)
     go (no f) e = g
     go (yes p) e =
         let w = withdraws (cardPlace (issueOf n) (b .cards)) e in
@@ -272,45 +272,45 @@ good-withdrawn {b} n g = go _ refl
           transistors-long = g .transistors-long;
           volts-long = g .volts-long;
           near = g .near;
-          sits = λ i h. sits-on (b .cards) p emptyCard (voltsOf b) (getD (b .transistors) i noTransistor) (away i h) (g .sits i h);
+          transistor = λ i h. transistor-keeps (b .cards) p emptyCard (voltsOf b) (getD (b .transistors) i noTransistor) (away i h) (g .transistor i h);
           ready = λ i. each-set (λ (x : Card). (x .issue ≡ 0 → ⊥) → IsReady (x .ready)) (b .cards) p i emptyCard noCard (λ h. absurd (h refl)) (g .ready i);
           balanced = g .balanced ∙ totals-keep (b .cards) p emptyCard (voltsOf b) (b .transistors) away;
         }
 
-good-looked : {b : Board} (name : List ℕ) → Good b → Good (lookedOf b name .board)
+invariant-looked : {b : Board} (name : List ℕ) → Invariant b → Invariant (lookedOf b name .board)
 unfolding lookedOf
-good-looked {b} name g = go (lookVerdict name _)
+invariant-looked {b} name g = go (lookVerdict name _)
   where
-    go : (w : Verdict ℕ) → Good (looked b w .board)
+    go : (w : Verdict ℕ) → Invariant (looked b w .board)
     go (no f) = g
     go (yes n) = g
 
-good-showed : {b : Board} (n : ℤ) → Good b → Good (showedOf b n .board)
+invariant-showed : {b : Board} (n : ℤ) → Invariant b → Invariant (showedOf b n .board)
 unfolding showedOf
-good-showed {b} n g = go (nodeVerdict n)
+invariant-showed {b} n g = go (nodeVerdict n)
   where
-    go : (w : Verdict ℕ) → Good (showed b w .board)
+    go : (w : Verdict ℕ) → Invariant (showed b w .board)
     go (no f) = g
     go (yes k) = g
 
-good-answered : {b : Board} (c : Call) → Good b → Good (answered b c .board)
+invariant-answered : {b : Board} (c : Call) → Invariant b → Invariant (answered b c .board)
 unfolding answered
-good-answered (load name bytes) g = good-loaded name bytes g
-good-answered (place card nodes seven) g = good-placed card nodes seven g
-good-answered (move n v) g = good-moved n v g
-good-answered (lift n) g = good-lifted n g
-good-answered (withdraw n) g = good-withdrawn n g
-good-answered (lookUp name) g = good-looked name g
-good-answered (node n) g = good-showed n g
+invariant-answered (load name bytes) g = invariant-loaded name bytes g
+invariant-answered (place card nodes seven) g = invariant-placed card nodes seven g
+invariant-answered (move n v) g = invariant-moved n v g
+invariant-answered (lift n) g = invariant-lifted n g
+invariant-answered (withdraw n) g = invariant-withdrawn n g
+invariant-answered (lookUp name) g = invariant-looked name g
+invariant-answered (node n) g = invariant-showed n g
 
-pub good-after : (calls : List Call) → Good (boardAfter calls)
+pub invariant-after : (calls : List Call) → Invariant (boardAfter calls)
 unfolding boardAfter
-good-after [] = good-fresh
-good-after (c ∷ cs) = good-answered c (good-after cs)
+invariant-after [] = invariant-fresh
+invariant-after (c ∷ cs) = invariant-answered c (invariant-after cs)
 
-pub good : {b : Board} → Reached b → Good b
-good r = subst Good (r .leaves) (good-after (r .calls))
+pub invariant : {b : Board} → Reached b → Invariant b
+invariant r = subst Invariant (r .leaves) (invariant-after (r .calls))
 
-pub totals-long : {b : Board} → Good b → length (b .totals) ≡ nodesMost
+pub totals-long : {b : Board} → Invariant b → length (b .totals) ≡ nodesMost
 unfolding totalsOf
 totals-long g = ap length (g .balanced) ∙ tabulate-long _ nodesMost

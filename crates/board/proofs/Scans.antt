@@ -58,16 +58,16 @@ module _ {A : Type 0} {p : A → Bool} {l : List A} where
       let a : anyOf p (drop i l) ≡ false = rw (drop-of-length-le l h) in sym (s .rest-any ∙ a)
 
 -- whether one of the first i passes the test
-pub record Heard {A : Type 0} (p : A → Bool) (l : List A) (i : ℕ) (b : Bool) : Type 0 where
+pub record AnyAmong {A : Type 0} (p : A → Bool) (l : List A) (i : ℕ) (b : Bool) : Type 0 where
   pub with-rest : anyOf p l ≡ b || anyOf p (drop i l)
 
 module _ {A : Type 0} {p : A → Bool} {l : List A} where
-  pub heard-none : Heard p l 0 false
-  heard-none = record { with-rest = refl }
+  pub among-none : AnyAmong p l 0 false
+  among-none = record { with-rest = refl }
 
-  pub heard-more : {i : ℕ} {b : Bool} (d : A) → i < length l → (c : Bool) → c ≡ p (getD l i d) → Heard p l i b → Heard p l (i + 1) (b || c)
+  pub among-more : {i : ℕ} {b : Bool} (d : A) → i < length l → (c : Bool) → c ≡ p (getD l i d) → AnyAmong p l i b → AnyAmong p l (i + 1) (b || c)
   unfolding anyOf
-  heard-more {i} {b} d h c e s =
+  among-more {i} {b} d h c e s =
       let a : anyOf p (drop i l) ≡ c || anyOf p (drop (suc i) l) = rw (drop-cons l i d h, e) in
       record { with-rest = rw add-one (s .with-rest ∙ ap (λ (x : Bool). b || x) a ∙ joined b c _) }
     where
@@ -75,15 +75,15 @@ module _ {A : Type 0} {p : A → Bool} {l : List A} where
       joined true y z = refl
       joined false y z = refl
 
-  pub heard-quiet : {i : ℕ} {b : Bool} (d : A) → i < length l → p (getD l i d) ≡ false → Heard p l i b → Heard p l (i + 1) b
+  pub among-quiet : {i : ℕ} {b : Bool} (d : A) → i < length l → p (getD l i d) ≡ false → AnyAmong p l i b → AnyAmong p l (i + 1) b
   unfolding anyOf
-  heard-quiet {i} {b} d h e s =
+  among-quiet {i} {b} d h e s =
       let a : anyOf p (drop i l) ≡ anyOf p (drop (suc i) l) = rw (drop-cons l i d h, e) in
       record { with-rest = rw add-one (s .with-rest ∙ ap (λ (x : Bool). b || x) a) }
 
-  pub heard-all : {i : ℕ} {b : Bool} → length l ≤ i → Heard p l i b → b ≡ anyOf p l
+  pub among-all : {i : ℕ} {b : Bool} → length l ≤ i → AnyAmong p l i b → b ≡ anyOf p l
   unfolding anyOf
-  heard-all {i} {b} h s =
+  among-all {i} {b} h s =
       let a : anyOf p (drop i l) ≡ false = rw (drop-of-length-le l h) in
       sym (s .with-rest ∙ ap (λ (x : Bool). b || x) a ∙ alone b)
     where

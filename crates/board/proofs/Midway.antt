@@ -25,11 +25,11 @@ use Rattle.board.proofs.Totals.{small-sum, small-place}
 -- ---- sums half way
 
 -- f over the first i, g over the others
-unfoldable pub mixed : {A : Type 0} → (A → ℤ) → (A → ℤ) → ℕ → List A → ℤ
+unfoldable pub midway : {A : Type 0} → (A → ℤ) → (A → ℤ) → ℕ → List A → ℤ
 unfolding sumOver
-mixed f g zero l = sumOver g l
-mixed f g (suc i) [] = pos 0
-mixed f g (suc i) (a ∷ l) = f a +ℤ mixed f g i l
+midway f g zero l = sumOver g l
+midway f g (suc i) [] = pos 0
+midway f g (suc i) (a ∷ l) = f a +ℤ midway f g i l
 
 swap-first : (x y s : ℤ) → y +ℤ s ≡ ((x +ℤ s) +ℤ negℤ x) +ℤ y
 swap-first x y s =
@@ -39,16 +39,16 @@ swap-later : (a m x y : ℤ) → a +ℤ ((m +ℤ x) +ℤ y) ≡ ((a +ℤ m) +ℤ
 swap-later a m x y = simp +ℤ-assoc
 
 module _ {A : Type 0} (f g : A → ℤ) (d : A) where
-  mixed-more : (i : ℕ) (l : List A) → i < length l → mixed f g (suc i) l ≡ (mixed f g i l +ℤ negℤ (g (getD l i d))) +ℤ f (getD l i d)
-  unfolding mixed sumOver
-  mixed-more i [] h = absurd (omega arith)
-  mixed-more zero (a ∷ l) h = swap-first (g a) (f a) (sumOver g l)
-  mixed-more (suc i) (a ∷ l) h =
-      ap (λ (z : ℤ). f a +ℤ z) (mixed-more i l (omega arith)) ∙ swap-later (f a) (mixed f g i l) (negℤ (g (getD l i d))) (f (getD l i d))
+  midway-more : (i : ℕ) (l : List A) → i < length l → midway f g (suc i) l ≡ (midway f g i l +ℤ negℤ (g (getD l i d))) +ℤ f (getD l i d)
+  unfolding midway sumOver
+  midway-more i [] h = absurd (omega arith)
+  midway-more zero (a ∷ l) h = swap-first (g a) (f a) (sumOver g l)
+  midway-more (suc i) (a ∷ l) h =
+      ap (λ (z : ℤ). f a +ℤ z) (midway-more i l (omega arith)) ∙ swap-later (f a) (midway f g i l) (negℤ (g (getD l i d))) (f (getD l i d))
 
-  mixed-same : (i : ℕ) (l : List A) → i < length l → g (getD l i d) ≡ f (getD l i d) → mixed f g (suc i) l ≡ mixed f g i l
-  mixed-same i l h e =
-      mixed-more i l h ∙ ap (λ (z : ℤ). (mixed f g i l +ℤ negℤ z) +ℤ f (getD l i d)) e ∙ -ℤ-+ℤ-cancel (mixed f g i l) (f (getD l i d))
+  midway-same : (i : ℕ) (l : List A) → i < length l → g (getD l i d) ≡ f (getD l i d) → midway f g (suc i) l ≡ midway f g i l
+  midway-same i l h e =
+      midway-more i l h ∙ ap (λ (z : ℤ). (midway f g i l +ℤ negℤ z) +ℤ f (getD l i d)) e ∙ -ℤ-+ℤ-cancel (midway f g i l) (f (getD l i d))
 
 -- another element at one place
 sum-set : {A : Type 0} (f : A → ℤ) (d : A) (l : List A) (i : ℕ) (a : A) → i < length l → sumOver f (set l i a) ≡ (sumOver f l +ℤ negℤ (f (getD l i d))) +ℤ f a
@@ -58,28 +58,28 @@ sum-set f d (b ∷ l) zero a h = swap-first (f b) (f a) (sumOver f l)
 sum-set f d (b ∷ l) (suc i) a h =
     ap (λ (z : ℤ). f b +ℤ z) (sum-set f d l i a (omega arith)) ∙ swap-later (f b) (sumOver f l) (negℤ (f (getD l i d))) (f a)
 
-mixed-all : {A : Type 0} (f g : A → ℤ) (i : ℕ) (l : List A) → length l ≡ i → mixed f g i l ≡ sumOver f l
-unfolding mixed sumOver
-mixed-all f g zero [] h = refl
-mixed-all f g zero (a ∷ l) h = absurd (omega arith)
-mixed-all f g (suc i) [] h = absurd (omega arith)
-mixed-all f g (suc i) (a ∷ l) h = ap (λ (z : ℤ). f a +ℤ z) (mixed-all f g i l (omega arith))
+midway-all : {A : Type 0} (f g : A → ℤ) (i : ℕ) (l : List A) → length l ≡ i → midway f g i l ≡ sumOver f l
+unfolding midway sumOver
+midway-all f g zero [] h = refl
+midway-all f g zero (a ∷ l) h = absurd (omega arith)
+midway-all f g (suc i) [] h = absurd (omega arith)
+midway-all f g (suc i) (a ∷ l) h = ap (λ (z : ℤ). f a +ℤ z) (midway-all f g i l (omega arith))
 
-mixed-small : {A : Type 0} (f g : A → ℤ) (most : ℕ) → ((a : A) → natAbs (f a) ≤ most) → ((a : A) → natAbs (g a) ≤ most) → (i : ℕ) (l : List A) → natAbs (mixed f g i l) ≤ length l * most
-unfolding mixed sumOver
-mixed-small f g most p q zero l = small-sum g most q l
-mixed-small f g most p q (suc i) [] = zero-le
-mixed-small f g most p q (suc i) (a ∷ l) =
-    let s = abs-add (f a) (mixed f g i l) in
-    let t = mixed-small f g most p q i l in
+midway-small : {A : Type 0} (f g : A → ℤ) (most : ℕ) → ((a : A) → natAbs (f a) ≤ most) → ((a : A) → natAbs (g a) ≤ most) → (i : ℕ) (l : List A) → natAbs (midway f g i l) ≤ length l * most
+unfolding midway sumOver
+midway-small f g most p q zero l = small-sum g most q l
+midway-small f g most p q (suc i) [] = zero-le
+midway-small f g most p q (suc i) (a ∷ l) =
+    let s = abs-add (f a) (midway f g i l) in
+    let t = midway-small f g most p q i l in
     let u = p a in rw (suc-mul (length l) most) (omega arith)
 
 -- ---- the totals when i places are passed
 
 module _ (cards : List Card) (ts : List Transistor) (was volts : List ℕ) where
-  pub record Mixed (i : ℕ) (l : List ℤ) : Type 0 where
+  pub record Midway (i : ℕ) (l : List ℤ) : Type 0 where
     pub long : length l ≡ nodesMost
-    pub at : (n : ℕ) → n < nodesMost → getD l n (pos 0) ≡ mixed (placeGives cards (map lowered volts) n) (placeGives cards (map lowered was) n) i ts
+    pub at : (n : ℕ) → n < nodesMost → getD l n (pos 0) ≡ midway (placeGives cards (map lowered volts) n) (placeGives cards (map lowered was) n) i ts
 
 -- totals worked anew, node by node
 totals-at : (cards : List Card) (ts : List Transistor) (volts : List ℤ) (n : ℕ) → n < nodesMost → getD (totalsOf cards ts volts) n (pos 0) ≡ sumOver (placeGives cards volts n) ts
@@ -107,38 +107,38 @@ totals-room cards ts volts h = record { long = totals-count cards ts volts; with
     go n (inr b) = rw (List·getD-eq-default (totalsOf cards ts volts) (pos 0) {n = n} (rw (totals-count cards ts volts) b)) zero-le
 
 module _ {cards : List Card} {ts : List Transistor} {was volts : List ℕ} where
-  pub mixed-start : {totals : List ℤ} → totals ≡ totalsOf cards ts (map lowered was) → Mixed cards ts was volts 0 totals
-  unfolding mixed
-  mixed-start {totals} e =
+  pub midway-start : {totals : List ℤ} → totals ≡ totalsOf cards ts (map lowered was) → Midway cards ts was volts 0 totals
+  unfolding midway
+  midway-start {totals} e =
       record {
         long = ap length e ∙ totals-count cards ts (map lowered was);
         at = λ n h. ap (λ (l : List ℤ). getD l n (pos 0)) e ∙ totals-at cards ts (map lowered was) n h;
       }
 
-  pub mixed-end : {l : List ℤ} → length ts ≡ transistorsMost → Mixed cards ts was volts transistorsMost l → l ≡ totalsOf cards ts (map lowered volts)
-  mixed-end {l} h m = are-totals cards ts (map lowered volts) l (m .long) (λ n b. m .at n b ∙ mixed-all _ _ transistorsMost ts h)
+  pub midway-end : {l : List ℤ} → length ts ≡ transistorsMost → Midway cards ts was volts transistorsMost l → l ≡ totalsOf cards ts (map lowered volts)
+  midway-end {l} h m = are-totals cards ts (map lowered volts) l (m .long) (λ n b. m .at n b ∙ midway-all _ _ transistorsMost ts h)
 
-  pub mixed-room : {l : List ℤ} (i : ℕ) → length ts ≡ transistorsMost → Mixed cards ts was volts i l → Room nodesMost totalMost l
-  mixed-room {l} i h m = record { long = m .long; within = λ n. go n (below-or-not n nodesMost) }
+  pub midway-room : {l : List ℤ} (i : ℕ) → length ts ≡ transistorsMost → Midway cards ts was volts i l → Room nodesMost totalMost l
+  midway-room {l} i h m = record { long = m .long; within = λ n. go n (below-or-not n nodesMost) }
     where
       go : (n : ℕ) → (n < nodesMost) ⊎ (nodesMost ≤ n) → natAbs (getD l n (pos 0)) ≤ totalMost
       go n (inl b) =
-          let s = mixed-small (placeGives cards (map lowered volts) n) (placeGives cards (map lowered was) n) flowMost (small-place cards (map lowered volts) n) (small-place cards (map lowered was) n) i ts in
-          rw (m .at n b) (subst (λ (k : ℕ). natAbs (mixed (placeGives cards (map lowered volts) n) (placeGives cards (map lowered was) n) i ts) ≤ k * flowMost) h s)
+          let s = midway-small (placeGives cards (map lowered volts) n) (placeGives cards (map lowered was) n) flowMost (small-place cards (map lowered volts) n) (small-place cards (map lowered was) n) i ts in
+          rw (m .at n b) (subst (λ (k : ℕ). natAbs (midway (placeGives cards (map lowered volts) n) (placeGives cards (map lowered was) n) i ts) ≤ k * flowMost) h s)
       go n (inr b) = rw (List·getD-eq-default l (pos 0) {n = n} (rw (m .long) b)) zero-le
 
   -- a place that gives what it gave
-  pub mixed-passes : {l : List ℤ} (i : ℕ) → i < length ts → ((n : ℕ) → placeGives cards (map lowered was) n (getD ts i noTransistor) ≡ placeGives cards (map lowered volts) n (getD ts i noTransistor)) → Mixed cards ts was volts i l → Mixed cards ts was volts (i + 1) l
-  mixed-passes i h same m = record { long = m .long; at = λ n b. rw add-one (m .at n b ∙ sym (mixed-same _ _ noTransistor i ts h (same n))) }
+  pub midway-passes : {l : List ℤ} (i : ℕ) → i < length ts → ((n : ℕ) → placeGives cards (map lowered was) n (getD ts i noTransistor) ≡ placeGives cards (map lowered volts) n (getD ts i noTransistor)) → Midway cards ts was volts i l → Midway cards ts was volts (i + 1) l
+  midway-passes i h same m = record { long = m .long; at = λ n b. rw add-one (m .at n b ∙ sym (midway-same _ _ noTransistor i ts h (same n))) }
 
   -- a place whose currents were taken out at the old voltages and put in at the new
-  pub mixed-works : {l l′ l″ : List ℤ} (i : ℕ) → i < length ts → {f g : ℕ → ℤ} → ((n : ℕ) → g n ≡ negℤ (placeGives cards (map lowered was) n (getD ts i noTransistor))) → ((n : ℕ) → f n ≡ placeGives cards (map lowered volts) n (getD ts i noTransistor)) → Mixed cards ts was volts i l → More nodesMost l l′ g → More nodesMost l′ l″ f → Mixed cards ts was volts (i + 1) l″
-  mixed-works i h {f} {g} eg ef m p q =
+  pub midway-works : {l l′ l″ : List ℤ} (i : ℕ) → i < length ts → {f g : ℕ → ℤ} → ((n : ℕ) → g n ≡ negℤ (placeGives cards (map lowered was) n (getD ts i noTransistor))) → ((n : ℕ) → f n ≡ placeGives cards (map lowered volts) n (getD ts i noTransistor)) → Midway cards ts was volts i l → More nodesMost l l′ g → More nodesMost l′ l″ f → Midway cards ts was volts (i + 1) l″
+  midway-works i h {f} {g} eg ef m p q =
       record {
         long = q .long;
         at = λ n b. rw add-one
             (q .at n b ∙ ap (λ (z : ℤ). z +ℤ f n) (p .at n b ∙ ap (λ (z : ℤ). z +ℤ g n) (m .at n b))
-            ∙ rw (eg n, ef n) (sym (mixed-more (placeGives cards (map lowered volts) n) (placeGives cards (map lowered was) n) noTransistor i ts h)));
+            ∙ rw (eg n, ef n) (sym (midway-more (placeGives cards (map lowered volts) n) (placeGives cards (map lowered was) n) noTransistor i ts h)));
       }
 
 -- ---- another transistor at one place
