@@ -34,10 +34,12 @@ amount-fits = lit< tt
 
 -- ---- more at one node
 
-at-one : (l : List ℤ) (m : ℕ) (x : ℤ) (n : ℕ) → m < length l → getD (set l m (getD l m (pos 0) +ℤ x)) n (pos 0) ≡ getD l n (pos 0) +ℤ atNode m n x
+at-one : (l : List ℤ) (m : ℕ) (x : ℤ) (n : ℕ) → m < length l →
+    getD (set l m (getD l m (pos 0) +ℤ x)) n (pos 0) ≡ getD l n (pos 0) +ℤ atNode m n x
 at-one l m x n h = go (eqb m n) refl
   where
-    go : (t : Bool) → eqb m n ≡ t → getD (set l m (getD l m (pos 0) +ℤ x)) n (pos 0) ≡ getD l n (pos 0) +ℤ cond t x (pos 0)
+    go : (t : Bool) → eqb m n ≡ t →
+        getD (set l m (getD l m (pos 0) +ℤ x)) n (pos 0) ≡ getD l n (pos 0) +ℤ cond t x (pos 0)
     go true e = let same = eqb-true m n e in rw (← same) (getD-set-same l m _ (pos 0) h)
     go false e = getD-set-other l m n _ (pos 0) (λ q. eqb-false m n e (sym q)) ∙ sym (+ℤ-idr _)
 
@@ -96,13 +98,17 @@ module _ (l : List ℤ) (f t : ℕ) (x : ℤ) (p : Fair l f t x) where
       let d = abs-neg x in omega (arith, abs-add (getD once t (pos 0)) (negℤ x))
 
   pub room-to : SFits w64 (held (getD once t (pos 0)) -ℤ held x)
-  room-to = subst (λ (z : ℤ). SFits w64 (z -ℤ held x)) (sym to-is) (subst (λ (z : ℤ). SFits w64 (getD once t (pos 0) -ℤ z)) (sym x-is) (fits _ small-less))
+  room-to =
+      subst (λ (z : ℤ). SFits w64 (z -ℤ held x)) (sym to-is)
+      (subst (λ (z : ℤ). SFits w64 (getD once t (pos 0) -ℤ z)) (sym x-is) (fits _ small-less))
 
   abbrev twice : List ℤ
   twice = set once t (held (held (getD once t (pos 0)) -ℤ held x))
 
   twice-is : twice ≡ set once t (getD once t (pos 0) +ℤ negℤ x)
-  twice-is = ap (λ (z : ℤ). set once t z) (ap (λ (z : ℤ). held (z -ℤ held x)) to-is ∙ ap (λ (z : ℤ). held (getD once t (pos 0) -ℤ z)) x-is ∙ held-is _ small-less)
+  twice-is =
+      ap (λ (z : ℤ). set once t z)
+      (ap (λ (z : ℤ). held (z -ℤ held x)) to-is ∙ ap (λ (z : ℤ). held (getD once t (pos 0) -ℤ z)) x-is ∙ held-is _ small-less)
 
   once-long : length once ≡ roles
   once-long = length-set l f _ ∙ long
@@ -119,7 +125,8 @@ module _ (l : List ℤ) (f t : ℕ) (x : ℤ) (p : Fair l f t x) where
 
 -- ---- all branches
 
-pub ends-small : (froms tos : List ℕ) (ticks : List ℤ) → Within tickLimit ticks → (k n : ℕ) → natAbs (endsGive froms tos ticks k n) ≤ k * tickLimit
+pub ends-small : (froms tos : List ℕ) (ticks : List ℤ) → Within tickLimit ticks → (k n : ℕ) →
+    natAbs (endsGive froms tos ticks k n) ≤ k * tickLimit
 unfolding endsGive
 ends-small froms tos ticks w zero n = zero-le
 ends-small froms tos ticks w (suc k) n =
@@ -130,7 +137,8 @@ ends-small froms tos ticks w (suc k) n =
     let s = abs-add (endsGive froms tos ticks k n) (ends (getD froms k 0) (getD tos k 0) x n) in
     rw (suc-mul k tickLimit) (omega arith)
 
-pub room-more : {k a m : ℕ} {l₀ l : List ℤ} {f : ℕ → ℤ} → Room k a l₀ → More k l₀ l f → ((n : ℕ) → natAbs (f n) ≤ m) → Room k (a + m) l
+pub room-more : {k a m : ℕ} {l₀ l : List ℤ} {f : ℕ → ℤ} → Room k a l₀ → More k l₀ l f → ((n : ℕ) → natAbs (f n) ≤ m) →
+    Room k (a + m) l
 room-more {k} {a} {m} {l₀} {l} {f} w more small = record { long = more .long; within = λ n. go n (below-or-not n k) }
   where
     go : (n : ℕ) → (n < k) ⊎ (k ≤ n) → natAbs (getD l n (pos 0)) ≤ a + m
@@ -148,17 +156,23 @@ module _ (froms tos : List ℕ) (ticks : List ℤ) where
   unfolding endsGive
   ends-none l h = record { long = h; at = λ n k. sym (+ℤ-idr (getD l n (pos 0))) }
 
-  pub ends-more : {l₀ l l′ : List ℤ} (k : ℕ) (x : ℤ) → More roles l₀ l (endsGive froms tos ticks k) → x ≡ getD ticks k (pos 0) → More roles l l′ (ends (getD froms k 0) (getD tos k 0) x) → More roles l₀ l′ (endsGive froms tos ticks (k + 1))
+  pub ends-more : {l₀ l l′ : List ℤ} (k : ℕ) (x : ℤ) → More roles l₀ l (endsGive froms tos ticks k) →
+      x ≡ getD ticks k (pos 0) → More roles l l′ (ends (getD froms k 0) (getD tos k 0) x) →
+      More roles l₀ l′ (endsGive froms tos ticks (k + 1))
   unfolding endsGive
   ends-more {l₀} k x p e q =
       record {
         long = q .long;
-        at = λ n h. rw add-one (q .at n h ∙ ap (λ (z : ℤ). z +ℤ ends (getD froms k 0) (getD tos k 0) x n) (p .at n h) ∙ +ℤ-assoc (getD l₀ n (pos 0)) (endsGive froms tos ticks k n) (ends (getD froms k 0) (getD tos k 0) x n)
+        at =
+            λ n h. rw add-one
+            (q .at n h ∙ ap (λ (z : ℤ). z +ℤ ends (getD froms k 0) (getD tos k 0) x n) (p .at n h) ∙ +ℤ-assoc (getD l₀ n (pos 0)) (endsGive froms tos ticks k n) (ends (getD froms k 0) (getD tos k 0) x n)
             ∙ ap (λ (z : ℤ). getD l₀ n (pos 0) +ℤ (endsGive froms tos ticks k n +ℤ ends (getD froms k 0) (getD tos k 0) z n)) e);
       }
 
   -- there is room for one more branch
-  pub fair-next : {l₀ l : List ℤ} (k : ℕ) (x : ℤ) → Wired roles froms → Wired roles tos → Room roles 0 l₀ → Within tickLimit ticks → k < branches → x ≡ getD ticks k (pos 0) → More roles l₀ l (endsGive froms tos ticks k) → Fair l (getD froms k 0) (getD tos k 0) x
+  pub fair-next : {l₀ l : List ℤ} (k : ℕ) (x : ℤ) → Wired roles froms → Wired roles tos → Room roles 0 l₀ →
+      Within tickLimit ticks → k < branches → x ≡ getD ticks k (pos 0) →
+      More roles l₀ l (endsGive froms tos ticks k) → Fair l (getD froms k 0) (getD tos k 0) x
   fair-next k x u v w s h e more =
       let b = s .within k in
       (u .wired k, v .wired k, room-less (omega arith) (room-more w more (ends-small froms tos ticks s k)), rw e b)
@@ -185,7 +199,8 @@ module _ (l : List ℤ) (n : ℕ) (x : ℤ) (p : (n < nodesMost) × Room nodesMo
         at = λ m h. rw (total-is, amount-is, held-is _ small-total) (at-one l n x m (rw (p .1 .long) (p .0)));
       }
 
-spread-small : (nodes : List ℕ) (f : ℕ → ℤ) (most : ℕ) → ((r : ℕ) → natAbs (f r) ≤ most) → (k n : ℕ) → natAbs (spread nodes f k n) ≤ k * most
+spread-small : (nodes : List ℕ) (f : ℕ → ℤ) (most : ℕ) → ((r : ℕ) → natAbs (f r) ≤ most) → (k n : ℕ) →
+    natAbs (spread nodes f k n) ≤ k * most
 unfolding spread
 spread-small nodes f most w zero n = zero-le
 spread-small nodes f most w (suc k) n =
@@ -200,17 +215,22 @@ module _ (nodes : List ℕ) (f : ℕ → ℤ) where
   unfolding spread
   spread-none l h = record { long = h; at = λ n k. sym (+ℤ-idr (getD l n (pos 0))) }
 
-  pub spread-more : {l₀ l l′ : List ℤ} (k : ℕ) (x : ℤ) → More nodesMost l₀ l (spread nodes f k) → x ≡ f k → More nodesMost l l′ (λ (m : ℕ). atNode (getD nodes k 0) m x) → More nodesMost l₀ l′ (spread nodes f (k + 1))
+  pub spread-more : {l₀ l l′ : List ℤ} (k : ℕ) (x : ℤ) → More nodesMost l₀ l (spread nodes f k) → x ≡ f k →
+      More nodesMost l l′ (λ (m : ℕ). atNode (getD nodes k 0) m x) → More nodesMost l₀ l′ (spread nodes f (k + 1))
   unfolding spread
   spread-more {l₀} k x p e q =
       record {
         long = q .long;
-        at = λ n h. rw add-one (q .at n h ∙ ap (λ (z : ℤ). z +ℤ atNode (getD nodes k 0) n x) (p .at n h) ∙ +ℤ-assoc (getD l₀ n (pos 0)) (spread nodes f k n) (atNode (getD nodes k 0) n x)
+        at =
+            λ n h. rw add-one
+            (q .at n h ∙ ap (λ (z : ℤ). z +ℤ atNode (getD nodes k 0) n x) (p .at n h) ∙ +ℤ-assoc (getD l₀ n (pos 0)) (spread nodes f k n) (atNode (getD nodes k 0) n x)
             ∙ ap (λ (z : ℤ). getD l₀ n (pos 0) +ℤ (spread nodes f k n +ℤ atNode (getD nodes k 0) n z)) e);
       }
 
   -- there is room for one more role
-  pub room-next : {l₀ l : List ℤ} (k : ℕ) (x : ℤ) → Wired nodesMost nodes → Room nodesMost workedMost l₀ → ((r : ℕ) → natAbs (f r) ≤ flowMost) → k < roles → x ≡ f k → More nodesMost l₀ l (spread nodes f k) → (getD nodes k 0 < nodesMost) × Room nodesMost handedMost l × (natAbs x ≤ flowMost)
+  pub room-next : {l₀ l : List ℤ} (k : ℕ) (x : ℤ) → Wired nodesMost nodes → Room nodesMost workedMost l₀ →
+      ((r : ℕ) → natAbs (f r) ≤ flowMost) → k < roles → x ≡ f k → More nodesMost l₀ l (spread nodes f k) →
+      (getD nodes k 0 < nodesMost) × Room nodesMost handedMost l × (natAbs x ≤ flowMost)
   room-next k x u w s h e more =
       let b = s k in
       (u .wired k, room-less (omega arith) (room-more w more (spread-small nodes f flowMost s k)), rw e b)

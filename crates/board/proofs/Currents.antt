@@ -31,9 +31,11 @@ use Rattle.board.proofs.Roles.{roles-are-rows, roles-turned}
 -- ---- the voltages of the roles
 
 module _ (volts : List ℕ) (v : Volts volts) where
-  pub roles-lowered : (nodes : List ℕ) → ((k : ℕ) → getD nodes k 0 < nodesMost) → map lowered (rolesOf volts nodes) ≡ rolesAt (map lowered volts) nodes
+  pub roles-lowered : (nodes : List ℕ) → ((k : ℕ) → getD nodes k 0 < nodesMost) →
+      map lowered (rolesOf volts nodes) ≡ rolesAt (map lowered volts) nodes
   roles-lowered [] h = refl
-  roles-lowered (n ∷ nodes) h = rw (getD-map lowered volts n 0 (pos 0) (rw (v .long) (h 0)), roles-lowered nodes (λ k. h (suc k)))
+  roles-lowered (n ∷ nodes) h =
+      rw (getD-map lowered volts n 0 (pos 0) (rw (v .long) (h 0)), roles-lowered nodes (λ k. h (suc k)))
 
   pub roles-near : (nodes : List ℕ) (k : ℕ) → getD (rolesOf volts nodes) k 0 ≤ 2 * reach
   roles-near [] k = zero-le
@@ -50,12 +52,16 @@ module _ (c : WorkedCard) (nodes : List ℕ) (volts : List ℤ) where
   unfolding overloads
   over-told e = rw e
 
-  pub gives-flow : {l l′ : List ℤ} → More nodesMost l l′ (rolesGive nodes fromRoles toRoles (outcomeOf c (rolesAt volts nodes) .ticks)) → More nodesMost l l′ (flow c nodes volts)
+  pub gives-flow : {l l′ : List ℤ} →
+      More nodesMost l l′ (rolesGive nodes fromRoles toRoles (outcomeOf c (rolesAt volts nodes) .ticks)) →
+      More nodesMost l l′ (flow c nodes volts)
   unfolding flow
   gives-flow {l} m =
       record { long = m .long; at = λ n h. m .at n h ∙ ap (λ (z : ℤ). getD l n (pos 0) +ℤ z) (roles-are-rows (rowsFor (c .exsub)) nodes _ n (ticks-long c (rolesAt volts nodes))) }
 
-  pub takes-flow : {l l′ : List ℤ} → More nodesMost l l′ (rolesGive nodes toRoles fromRoles (outcomeOf c (rolesAt volts nodes) .ticks)) → More nodesMost l l′ (backFlow c nodes volts)
+  pub takes-flow : {l l′ : List ℤ} →
+      More nodesMost l l′ (rolesGive nodes toRoles fromRoles (outcomeOf c (rolesAt volts nodes) .ticks)) →
+      More nodesMost l l′ (backFlow c nodes volts)
   unfolding flow backFlow
   takes-flow {l} m =
       record { long = m .long; at = λ n h. m .at n h ∙ ap (λ (z : ℤ). getD l n (pos 0) +ℤ z) (roles-turned (rowsFor (c .exsub)) nodes _ n (ticks-long c (rolesAt volts nodes))) }
@@ -70,18 +76,23 @@ module _ (cards : List Card) (t : Transistor) (stands : t .issue ≡ 0 → ⊥) 
   place-same : k ≡ t .«card_place»
   place-same = at ∙ rw (lt-ltb _ _ (s .place-there))
 
-  pub workable-card : (table volts : List ℕ) → table ≡ entries → Volts volts → Workable table (getD cards k noCard) (t .nodes) volts
-  workable-card table volts i w = record { table-is = i; ready = rw place-same (s .ready); wired = s .wired; long = s .long; volts-are = w }
+  pub workable-card : (table volts : List ℕ) → table ≡ entries → Volts volts →
+      Workable table (getD cards k noCard) (t .nodes) volts
+  workable-card table volts i w =
+      record { table-is = i; ready = rw place-same (s .ready); wired = s .wired; long = s .long; volts-are = w }
 
-  pub card-gives : (volts : List ℤ) (n : ℕ) → flow (getD cards k noCard .ready .card) (t .nodes) volts n ≡ placeGives cards volts n t
+  pub card-gives : (volts : List ℤ) (n : ℕ) →
+      flow (getD cards k noCard .ready .card) (t .nodes) volts n ≡ placeGives cards volts n t
   unfolding placeGives
   card-gives volts n = rw (ne-eqb _ _ stands, place-same)
 
-  pub card-takes : (volts : List ℤ) (n : ℕ) → backFlow (getD cards k noCard .ready .card) (t .nodes) volts n ≡ negℤ (placeGives cards volts n t)
+  pub card-takes : (volts : List ℤ) (n : ℕ) →
+      backFlow (getD cards k noCard .ready .card) (t .nodes) volts n ≡ negℤ (placeGives cards volts n t)
   unfolding backFlow
   card-takes volts n = ap negℤ (card-gives volts n)
 
-  pub card-overloads : (volts : List ℤ) {b : Bool} → b ≡ overloads (getD cards k noCard .ready .card) (t .nodes) volts → b ≡ placeOverloads cards volts t
+  pub card-overloads : (volts : List ℤ) {b : Bool} →
+      b ≡ overloads (getD cards k noCard .ready .card) (t .nodes) volts → b ≡ placeOverloads cards volts t
   unfolding placeOverloads
   card-overloads volts e = e ∙ rw (ne-eqb _ _ stands, place-same)
 

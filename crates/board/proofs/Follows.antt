@@ -43,12 +43,14 @@ abbrev mapVerdict : {A B : Type 0} → (A → B) → Verdict A → Verdict B
 mapVerdict g (no f) = no f
 mapVerdict g (yes a) = yes (g a)
 
-map-unless : {A B : Type 0} (g : A → B) (t : Bool) (f : Refusal) (v : Verdict A) → mapVerdict g (refuseIf t f v) ≡ refuseIf t f (mapVerdict g v)
+map-unless : {A B : Type 0} (g : A → B) (t : Bool) (f : Refusal) (v : Verdict A) →
+    mapVerdict g (refuseIf t f v) ≡ refuseIf t f (mapVerdict g v)
 map-unless g true f v = refl
 map-unless g false f v = refl
 
 module _ {A B : Type 0} (g : A → B) where
-  map-place : (found : Found A) (worked : B → WorkedCard) (over : B → Bool) (nodes : List ℤ) (noRoom used : Bool) → placeVerdict (mapFound g found) worked over nodes noRoom used ≡ mapVerdict g (placeVerdict found (λ (a : A). worked (g a)) (λ (a : A). over (g a)) nodes noRoom used)
+  map-place : (found : Found A) (worked : B → WorkedCard) (over : B → Bool) (nodes : List ℤ) (noRoom used : Bool) →
+      placeVerdict (mapFound g found) worked over nodes noRoom used ≡ mapVerdict g (placeVerdict found (λ (a : A). worked (g a)) (λ (a : A). over (g a)) nodes noRoom used)
   unfolding placeVerdict
   map-place none worked over nodes noRoom used = refl
   map-place (some a) worked over nodes noRoom used = sym (simp map-unless)
@@ -81,7 +83,8 @@ highest-held name (c ∷ cards) = go (eqb (c .issue) 0) refl (highest-held name 
     nothing true n = zero-larger n
     nothing false n = zero-larger n
 
-    go : (t : Bool) → eqb (c .issue) 0 ≡ t → highest name (heldIn cards) ≡ highestAt name cards → highest name (desk.keepIf (not t) (heldOf c) (heldIn cards)) ≡ larger (cond (same (c .name) name) (c .issue) 0) (highestAt name cards)
+    go : (t : Bool) → eqb (c .issue) 0 ≡ t → highest name (heldIn cards) ≡ highestAt name cards →
+        highest name (desk.keepIf (not t) (heldOf c) (heldIn cards)) ≡ larger (cond (same (c .name) name) (c .issue) 0) (highestAt name cards)
     go true e h = rw (eqb-true (c .issue) 0 e) (h ∙ sym (nothing (same (c .name) name) (highestAt name cards)))
     go false e h = ap (larger (cond (same (c .name) name) (c .issue) 0)) h
 
@@ -96,26 +99,50 @@ module _ (b : Board) (d : Desk) (g : Invariant b) (o : Orderly d) (s : Stands b 
       let e = full (λ (t : Transistor). t .issue) (standingOf (b .cards)) (b .transistors) in
       rw (← (perm-length (s .standing))) (rw (g .transistors-long) at e)
 
-  card-by : (n : ℕ) → heldAs n (d .cards) ≡ mapFound (λ (i : ℕ). heldOf (getD (b .cards) i noCard)) (cardPlace n (b .cards))
-  card-by n = sym (perm-first (λ (h : Held). eqb (h .issue) n) (subst (λ (k : ℕ). k ≤ 1) (sym (perm-count (λ (h : Held). eqb (h .issue) n) (s .cards))) (o .cards .single n)) (s .cards)) ∙ go (eqb n 0) refl
+  card-by : (n : ℕ) →
+      heldAs n (d .cards) ≡ mapFound (λ (i : ℕ). heldOf (getD (b .cards) i noCard)) (cardPlace n (b .cards))
+  card-by n =
+      sym
+      (perm-first (λ (h : Held). eqb (h .issue) n) (subst (λ (k : ℕ). k ≤ 1) (sym (perm-count (λ (h : Held). eqb (h .issue) n) (s .cards))) (o .cards .single n)) (s .cards))
+      ∙ go (eqb n 0) refl
     where
-      go : (t : Bool) → eqb n 0 ≡ t → firstWith (λ (h : Held). eqb (h .issue) n) (heldIn (b .cards)) ≡ mapFound (λ (i : ℕ). heldOf (getD (b .cards) i noCard)) (cond t none (foundAt cardsMost (first (isCard n) (b .cards))))
-      go true e = rw (eqb-true n 0 e) (find-none (λ (c : Card). c .issue) heldOf (λ (h : Held). h .issue) (λ c. refl) (b .cards))
-      go false e = rw (← (g .cards-long)) (find (λ (c : Card). c .issue) heldOf (λ (h : Held). h .issue) (λ c. refl) n (eqb-false n 0 e) noCard (b .cards))
+      go : (t : Bool) → eqb n 0 ≡ t →
+          firstWith (λ (h : Held). eqb (h .issue) n) (heldIn (b .cards)) ≡ mapFound (λ (i : ℕ). heldOf (getD (b .cards) i noCard)) (cond t none (foundAt cardsMost (first (isCard n) (b .cards))))
+      go true e =
+          rw (eqb-true n 0 e)
+          (find-none (λ (c : Card). c .issue) heldOf (λ (h : Held). h .issue) (λ c. refl) (b .cards))
+      go false e =
+          rw (← (g .cards-long))
+          (find (λ (c : Card). c .issue) heldOf (λ (h : Held). h .issue) (λ c. refl) n (eqb-false n 0 e) noCard (b .cards))
 
-  transistor-by : (n : ℕ) → standsAs n (d .standing) ≡ mapFound (λ (i : ℕ). standingOf (b .cards) (getD (b .transistors) i noTransistor)) (transistorPlace n (b .transistors))
-  transistor-by n = sym (perm-first (λ (t : Standing). eqb (t .issue) n) (subst (λ (k : ℕ). k ≤ 1) (sym (perm-count (λ (t : Standing). eqb (t .issue) n) (s .standing))) (o .standing .single n)) (s .standing)) ∙ go (eqb n 0) refl
+  transistor-by : (n : ℕ) →
+      standsAs n (d .standing) ≡ mapFound (λ (i : ℕ). standingOf (b .cards) (getD (b .transistors) i noTransistor)) (transistorPlace n (b .transistors))
+  transistor-by n =
+      sym
+      (perm-first (λ (t : Standing). eqb (t .issue) n) (subst (λ (k : ℕ). k ≤ 1) (sym (perm-count (λ (t : Standing). eqb (t .issue) n) (s .standing))) (o .standing .single n)) (s .standing))
+      ∙ go (eqb n 0) refl
     where
-      go : (t : Bool) → eqb n 0 ≡ t → firstWith (λ (u : Standing). eqb (u .issue) n) (standingIn (b .cards) (b .transistors)) ≡ mapFound (λ (i : ℕ). standingOf (b .cards) (getD (b .transistors) i noTransistor)) (cond t none (foundAt transistorsMost (first (isTransistor n) (b .transistors))))
-      go true e = rw (eqb-true n 0 e) (find-none (λ (t : Transistor). t .issue) (standingOf (b .cards)) (λ (u : Standing). u .issue) (λ t. refl) (b .transistors))
-      go false e = rw (← (g .transistors-long)) (find (λ (t : Transistor). t .issue) (standingOf (b .cards)) (λ (u : Standing). u .issue) (λ t. refl) n (eqb-false n 0 e) noTransistor (b .transistors))
+      go : (t : Bool) → eqb n 0 ≡ t →
+          firstWith (λ (u : Standing). eqb (u .issue) n) (standingIn (b .cards) (b .transistors)) ≡ mapFound (λ (i : ℕ). standingOf (b .cards) (getD (b .transistors) i noTransistor)) (cond t none (foundAt transistorsMost (first (isTransistor n) (b .transistors))))
+      go true e =
+          rw (eqb-true n 0 e)
+          (find-none (λ (t : Transistor). t .issue) (standingOf (b .cards)) (λ (u : Standing). u .issue) (λ t. refl) (b .transistors))
+      go false e =
+          rw (← (g .transistors-long))
+          (find (λ (t : Transistor). t .issue) (standingOf (b .cards)) (λ (u : Standing). u .issue) (λ t. refl) n (eqb-false n 0 e) noTransistor (b .transistors))
 
   any-standing : (volts : List ℤ) → someOverloads d volts ≡ anyOf (placeOverloads (b .cards) volts) (b .transistors)
   unfolding placeOverloads
-  any-standing volts = sym (perm-any (λ (t : Standing). overloads (t .worked) (t .nodes) volts) (s .standing)) ∙ any-occupied (λ (t : Transistor). t .issue) (standingOf (b .cards)) (λ (t : Standing). overloads (t .worked) (t .nodes) volts) (b .transistors)
+  any-standing volts =
+      sym (perm-any (λ (t : Standing). overloads (t .worked) (t .nodes) volts) (s .standing))
+      ∙ any-occupied (λ (t : Transistor). t .issue) (standingOf (b .cards))
+      (λ (t : Standing). overloads (t .worked) (t .nodes) volts) (b .transistors)
 
   any-on : (n : ℕ) → anyOf (λ (t : Standing). eqb (t .card) n) (d .standing) ≡ anyOf (standsOn n) (b .transistors)
-  any-on n = sym (perm-any (λ (t : Standing). eqb (t .card) n) (s .standing)) ∙ any-occupied (λ (t : Transistor). t .issue) (standingOf (b .cards)) (λ (t : Standing). eqb (t .card) n) (b .transistors)
+  any-on n =
+      sym (perm-any (λ (t : Standing). eqb (t .card) n) (s .standing))
+      ∙ any-occupied (λ (t : Transistor). t .issue) (standingOf (b .cards)) (λ (t : Standing). eqb (t .card) n)
+      (b .transistors)
 
   pub totals-follow : (n : ℕ) → n < nodesMost → getD (b .totals) n (pos 0) ≡ total d n
   unfolding totalsOf total placeGives
@@ -141,7 +168,9 @@ pub record Follow (a : Answered) (t : Step) : Type 0 where
 
 module _ (b : Board) (d : Desk) (g : Invariant b) (o : Orderly d) (s : Stands b d) where
   -- other cards at a place on which nobody stands leave the transistors as they are
-  same-standing : (p : ℕ) (c : Card) → ((i : ℕ) → (getD (b .transistors) i noTransistor .issue ≡ 0 → ⊥) → getD (b .transistors) i noTransistor .«card_place» ≡ p → ⊥) → standingIn (set (b .cards) p c) (b .transistors) ≡ standingIn (b .cards) (b .transistors)
+  same-standing : (p : ℕ) (c : Card) →
+      ((i : ℕ) → (getD (b .transistors) i noTransistor .issue ≡ 0 → ⊥) → getD (b .transistors) i noTransistor .«card_place» ≡ p → ⊥) →
+      standingIn (set (b .cards) p c) (b .transistors) ≡ standingIn (b .cards) (b .transistors)
   same-standing p c away =
       seen (λ (t : Transistor). t .issue) (standingOf (set (b .cards) p c)) (standingOf (b .cards)) noTransistor (b .transistors)
       (λ i h k. let t = getD (b .transistors) i noTransistor in ap (λ (w : WorkedCard). record { issue = t .issue; card = t .card; worked = w; nodes = t .nodes }) (worked-same (b .cards) p c (voltsOf b) (t .«card_place») (away i k)))
@@ -151,15 +180,19 @@ module _ (b : Board) (d : Desk) (g : Invariant b) (o : Orderly d) (s : Stands b 
 
   follow-load : (name bytes : List ℕ) → Follow (loadedOf b name bytes) (step d (load name bytes))
   unfolding loadedOf step
-  follow-load name bytes = subst (λ (v : Verdict WorkedCard). Follow (loadedOf b name bytes) (desk.loaded d name v)) agree (go (board.mayLoad b name bytes) refl)
+  follow-load name bytes =
+      subst (λ (v : Verdict WorkedCard). Follow (loadedOf b name bytes) (desk.loaded d name v)) agree
+      (go (board.mayLoad b name bytes) refl)
     where
       agree : board.mayLoad b name bytes ≡ desk.mayLoad d name bytes
       agree = rw (cards-full b d g o s, s .next)
 
-      new : (c : WorkedCard) → heldOf (record { issue = b .next; name = padded name; ready = readyOf c }) ≡ record { issue = d .next; name = padded name; worked = c }
+      new : (c : WorkedCard) →
+          heldOf (record { issue = b .next; name = padded name; ready = readyOf c }) ≡ record { issue = d .next; name = padded name; worked = c }
       new c = rw (ready-card c, s .next)
 
-      go : (v : Verdict WorkedCard) → board.mayLoad b name bytes ≡ v → Follow (board.loaded b name v) (desk.loaded d name v)
+      go : (v : Verdict WorkedCard) → board.mayLoad b name bytes ≡ v →
+          Follow (board.loaded b name v) (desk.loaded d name v)
       go (no f) e = record { reply = refl; board = s }
       go (yes c) e =
           let p = free-card b g (loads name e .room) in
@@ -173,17 +206,22 @@ module _ (b : Board) (d : Desk) (g : Invariant b) (o : Orderly d) (s : Stands b 
             };
           }
 
-  follow-place : (card : ℤ) (nodes : List ℤ) (seven : length nodes ≡ roles) → Follow (placedOf b card nodes) (step d (place card nodes seven))
+  follow-place : (card : ℤ) (nodes : List ℤ) (seven : length nodes ≡ roles) →
+      Follow (placedOf b card nodes) (step d (place card nodes seven))
   unfolding placedOf step
-  follow-place card nodes seven = subst (λ (v : Verdict Held). Follow (placedOf b card nodes) (desk.placed d nodes v)) agree (go (board.mayPlace b card nodes) refl)
+  follow-place card nodes seven =
+      subst (λ (v : Verdict Held). Follow (placedOf b card nodes) (desk.placed d nodes v)) agree
+      (go (board.mayPlace b card nodes) refl)
     where
       agree : mapVerdict (heldAt b) (board.mayPlace b card nodes) ≡ desk.mayPlace d card nodes
       agree = rw (card-by b d g o s (issueOf card), map-place (heldAt b), transistors-full b d g o s, s .next, s .volts)
 
-      new : (i : ℕ) → standingOf (b .cards) (record { issue = b .next; card = heldAt b i .issue; «card_place» = i; nodes = map natAbs nodes }) ≡ record { issue = d .next; card = heldAt b i .issue; worked = heldAt b i .worked; nodes = map natAbs nodes }
+      new : (i : ℕ) →
+          standingOf (b .cards) (record { issue = b .next; card = heldAt b i .issue; «card_place» = i; nodes = map natAbs nodes }) ≡ record { issue = d .next; card = heldAt b i .issue; worked = heldAt b i .worked; nodes = map natAbs nodes }
       new i = rw (s .next)
 
-      go : (v : Verdict ℕ) → board.mayPlace b card nodes ≡ v → Follow (board.placed b nodes v) (desk.placed d nodes (mapVerdict (heldAt b) v))
+      go : (v : Verdict ℕ) → board.mayPlace b card nodes ≡ v →
+          Follow (board.placed b nodes v) (desk.placed d nodes (mapVerdict (heldAt b) v))
       go (no f) e = record { reply = refl; board = s }
       go (yes i) e =
           let p = places (cardPlace (issueOf card) (b .cards)) e in
@@ -191,7 +229,10 @@ module _ (b : Board) (d : Desk) (g : Invariant b) (o : Orderly d) (s : Stands b 
             reply = ap desk.issued (s .next);
             board = record {
               cards = s .cards;
-              standing = perm-join (join (λ (t : Transistor). t .issue) (standingOf (b .cards)) (b .transistors) _ given (rw (g .transistors-long) (leb-false _ _ (p .room)))) (new i) (s .standing);
+              standing =
+                  perm-join
+                  (join (λ (t : Transistor). t .issue) (standingOf (b .cards)) (b .transistors) _ given (rw (g .transistors-long) (leb-false _ _ (p .room))))
+                  (new i) (s .standing);
               volts = s .volts;
               next = add-one (b .next) ∙ ap suc (s .next);
             };
@@ -208,14 +249,27 @@ module _ (b : Board) (d : Desk) (g : Invariant b) (o : Orderly d) (s : Stands b 
 
   follow-move : (n v : ℤ) → Follow (movedOf b n v) (step d (move n v))
   unfolding movedOf step
-  follow-move n v = subst (λ (w : Verdict ℕ). Follow (movedOf b n v) (desk.moved d v w)) (agree-move n v (offVolts v) refl) (go (board.mayMove b n v) refl)
+  follow-move n v =
+      subst (λ (w : Verdict ℕ). Follow (movedOf b n v) (desk.moved d v w)) (agree-move n v (offVolts v) refl)
+      (go (board.mayMove b n v) refl)
     where
       go : (w : Verdict ℕ) → board.mayMove b n v ≡ w → Follow (board.moved b v w) (desk.moved d v w)
       go (no f) e = record { reply = refl; board = s }
-      go (yes k) e = record { reply = refl; board = record { cards = s .cards; standing = s .standing; volts = moved-volts v k (moves e .near); next = s .next } }
+      go (yes k) e =
+          record {
+            reply = refl;
+            board =
+                record {
+                  cards = s .cards;
+                  standing = s .standing;
+                  volts = moved-volts v k (moves e .near);
+                  next = s .next;
+                };
+          }
 
   -- without the one that was found its place is empty
-  without-transistor : (n i : ℕ) → AtTransistor n (b .transistors) i → without (λ (t : Standing). t .issue) (standingAt b i .issue) (standingIn (b .cards) (b .transistors)) ≡ standingIn (b .cards) (set (b .transistors) i emptyTransistor)
+  without-transistor : (n i : ℕ) → AtTransistor n (b .transistors) i →
+      without (λ (t : Standing). t .issue) (standingAt b i .issue) (standingIn (b .cards) (b .transistors)) ≡ standingIn (b .cards) (set (b .transistors) i emptyTransistor)
   without-transistor n i a =
       let c = count-occupied (λ (t : Transistor). t .issue) (standingOf (b .cards)) (λ (t : Standing). t .issue) (λ t. refl) n (a .given) (b .transistors) in
       let p = perm-count (λ (t : Standing). eqb (t .issue) n) (s .standing) in
@@ -224,7 +278,8 @@ module _ (b : Board) (d : Desk) (g : Invariant b) (o : Orderly d) (s : Stands b 
       ∙ sym (leave (λ (t : Transistor). t .issue) (standingOf (b .cards)) (λ (t : Standing). t .issue) (λ t. refl) n (a .given) emptyTransistor refl (b .transistors) (omega arith))
       ∙ ap (λ (k : ℕ). standingIn (b .cards) (set (b .transistors) k emptyTransistor)) (sym (a .is))
 
-  without-card : (n i : ℕ) → AtCard n (b .cards) i → without (λ (h : Held). h .issue) (heldAt b i .issue) (heldIn (b .cards)) ≡ heldIn (set (b .cards) i emptyCard)
+  without-card : (n i : ℕ) → AtCard n (b .cards) i →
+      without (λ (h : Held). h .issue) (heldAt b i .issue) (heldIn (b .cards)) ≡ heldIn (set (b .cards) i emptyCard)
   without-card n i a =
       let c = count-occupied (λ (t : Card). t .issue) heldOf (λ (t : Held). t .issue) (λ t. refl) n (a .given) (b .cards) in
       let p = perm-count (λ (t : Held). eqb (t .issue) n) (s .cards) in
@@ -235,12 +290,14 @@ module _ (b : Board) (d : Desk) (g : Invariant b) (o : Orderly d) (s : Stands b 
 
   follow-lift : (n : ℤ) → Follow (liftedOf b n) (step d (lift n))
   unfolding liftedOf step
-  follow-lift n = subst (λ (v : Verdict Standing). Follow (liftedOf b n) (desk.lifted d v)) agree (go (board.mayLift b n) refl)
+  follow-lift n =
+      subst (λ (v : Verdict Standing). Follow (liftedOf b n) (desk.lifted d v)) agree (go (board.mayLift b n) refl)
     where
       agree : mapVerdict (standingAt b) (board.mayLift b n) ≡ desk.mayLift d n
       agree = rw (transistor-by b d g o s (issueOf n), map-lift (standingAt b))
 
-      go : (v : Verdict ℕ) → board.mayLift b n ≡ v → Follow (board.lifted b v) (desk.lifted d (mapVerdict (standingAt b) v))
+      go : (v : Verdict ℕ) → board.mayLift b n ≡ v →
+          Follow (board.lifted b v) (desk.lifted d (mapVerdict (standingAt b) v))
       go (no f) e = record { reply = refl; board = s }
       go (yes i) e =
           let a = at-transistor (issueOf n) (b .transistors) i (g .transistors-long) (lifts (transistorPlace (issueOf n) (b .transistors)) e) in
@@ -248,13 +305,16 @@ module _ (b : Board) (d : Desk) (g : Invariant b) (o : Orderly d) (s : Stands b 
             reply = refl;
             board = record {
               cards = s .cards;
-              standing = rw (← (without-transistor (issueOf n) i a)) (perm-without (λ (t : Standing). t .issue) (standingAt b i .issue) (s .standing));
+              standing =
+                  rw (← (without-transistor (issueOf n) i a))
+                  (perm-without (λ (t : Standing). t .issue) (standingAt b i .issue) (s .standing));
               volts = s .volts;
               next = s .next;
             };
           }
 
-  agree-withdraw : (n : ℤ) (found : Found ℕ) → cardPlace (issueOf n) (b .cards) ≡ found → mapVerdict (heldAt b) (board.mayWithdraw b n) ≡ desk.mayWithdraw d n
+  agree-withdraw : (n : ℤ) (found : Found ℕ) → cardPlace (issueOf n) (b .cards) ≡ found →
+      mapVerdict (heldAt b) (board.mayWithdraw b n) ≡ desk.mayWithdraw d n
   unfolding withdrawVerdict
   agree-withdraw n none e = rw (card-by b d g o s (issueOf n), e)
   agree-withdraw n (some i) e =
@@ -265,9 +325,12 @@ module _ (b : Board) (d : Desk) (g : Invariant b) (o : Orderly d) (s : Stands b 
 
   follow-withdraw : (n : ℤ) → Follow (withdrawnOf b n) (step d (withdraw n))
   unfolding withdrawnOf step
-  follow-withdraw n = subst (λ (v : Verdict Held). Follow (withdrawnOf b n) (desk.withdrawn d v)) (agree-withdraw n (cardPlace (issueOf n) (b .cards)) refl) (go (board.mayWithdraw b n) refl)
+  follow-withdraw n =
+      subst (λ (v : Verdict Held). Follow (withdrawnOf b n) (desk.withdrawn d v))
+      (agree-withdraw n (cardPlace (issueOf n) (b .cards)) refl) (go (board.mayWithdraw b n) refl)
     where
-      go : (v : Verdict ℕ) → board.mayWithdraw b n ≡ v → Follow (board.withdrawn b v) (desk.withdrawn d (mapVerdict (heldAt b) v))
+      go : (v : Verdict ℕ) → board.mayWithdraw b n ≡ v →
+          Follow (board.withdrawn b v) (desk.withdrawn d (mapVerdict (heldAt b) v))
       go (no f) e = record { reply = refl; board = s }
       go (yes i) e =
           let w = withdraws (cardPlace (issueOf n) (b .cards)) e in
@@ -275,7 +338,9 @@ module _ (b : Board) (d : Desk) (g : Invariant b) (o : Orderly d) (s : Stands b 
           record {
             reply = refl;
             board = record {
-              cards = rw (← (without-card (issueOf n) i a)) (perm-without (λ (t : Held). t .issue) (heldAt b i .issue) (s .cards));
+              cards =
+                  rw (← (without-card (issueOf n) i a))
+                  (perm-without (λ (t : Held). t .issue) (heldAt b i .issue) (s .cards));
               standing = rw (same-standing i emptyCard (unused-away b g (issueOf n) i a (w .unused))) (s .standing);
               volts = s .volts;
               next = s .next;
@@ -284,7 +349,8 @@ module _ (b : Board) (d : Desk) (g : Invariant b) (o : Orderly d) (s : Stands b 
 
   follow-look : (name : List ℕ) → Follow (lookedOf b name) (step d (lookUp name))
   unfolding lookedOf step
-  follow-look name = subst (λ (v : Verdict ℕ). Follow (lookedOf b name) (desk.looked d v)) agree (go (board.mayLookUp b name))
+  follow-look name =
+      subst (λ (v : Verdict ℕ). Follow (lookedOf b name) (desk.looked d v)) agree (go (board.mayLookUp b name))
     where
       agree : board.mayLookUp b name ≡ desk.mayLookUp d name
       agree = rw (← (highest-held (padded name) (b .cards)), perm-highest (padded name) (s .cards))
@@ -323,8 +389,10 @@ follow b d g o s (node n) = follow-node b d g o s n
 pub stands-after : (calls : List Call) → Stands (boardAfter calls) (after calls)
 unfolding boardAfter after
 stands-after [] = stands-fresh
-stands-after (c ∷ cs) = follow (boardAfter cs) (after cs) (invariant-after cs) (orderly-after cs) (stands-after cs) c .board
+stands-after (c ∷ cs) =
+    follow (boardAfter cs) (after cs) (invariant-after cs) (orderly-after cs) (stands-after cs) c .board
 
 -- whatever calls were made, the next one is answered, and changes the board, as the desk has it
 pub follows : (calls : List Call) (c : Call) → Follow (answered (boardAfter calls) c) (step (after calls) c)
-follows calls c = follow (boardAfter calls) (after calls) (invariant-after calls) (orderly-after calls) (stands-after calls) c
+follows calls c =
+    follow (boardAfter calls) (after calls) (invariant-after calls) (orderly-after calls) (stands-after calls) c

@@ -39,7 +39,8 @@ pub record Invariant (b : Board) : Type 0 where
   pub transistors-long : length (b .transistors) ≡ transistorsMost
   pub volts-long : length (b .volts) ≡ nodesMost
   pub near : (k : ℕ) → getD (b .volts) k 0 ≤ 2 * reach
-  pub transistor : (i : ℕ) → (getD (b .transistors) i noTransistor .issue ≡ 0 → ⊥) → TransistorInvariant (b .cards) (voltsOf b) (getD (b .transistors) i noTransistor)
+  pub transistor : (i : ℕ) → (getD (b .transistors) i noTransistor .issue ≡ 0 → ⊥) →
+      TransistorInvariant (b .cards) (voltsOf b) (getD (b .transistors) i noTransistor)
   pub ready : (i : ℕ) → (getD (b .cards) i noCard .issue ≡ 0 → ⊥) → IsReady (getD (b .cards) i noCard .ready)
   pub balanced : b .totals ≡ totalsOf (b .cards) (b .transistors) (voltsOf b)
 
@@ -49,7 +50,8 @@ module _ (cards : List Card) (p : ℕ) (c : Card) (volts : List ℤ) where
   pub worked-same : (i : ℕ) → (i ≡ p → ⊥) → workedAt (set cards p c) i ≡ workedAt cards i
   worked-same i h = ap (λ (x : Card). x .ready .card) (getD-set-other cards p i c noCard h)
 
-  pub transistor-keeps : (t : Transistor) → (t .«card_place» ≡ p → ⊥) → TransistorInvariant cards volts t → TransistorInvariant (set cards p c) volts t
+  pub transistor-keeps : (t : Transistor) → (t .«card_place» ≡ p → ⊥) → TransistorInvariant cards volts t →
+      TransistorInvariant (set cards p c) volts t
   transistor-keeps t h s =
       let same = getD-set-other cards p (t .«card_place») c noCard h in record {
         place-there = s .place-there;
@@ -60,27 +62,35 @@ module _ (cards : List Card) (p : ℕ) (c : Card) (volts : List ℤ) where
         quiet = rw (worked-same (t .«card_place») h) (s .quiet);
       }
 
-  gives-same : (n : ℕ) (t : Transistor) → ((t .issue ≡ 0 → ⊥) → t .«card_place» ≡ p → ⊥) → placeGives cards volts n t ≡ placeGives (set cards p c) volts n t
+  gives-same : (n : ℕ) (t : Transistor) → ((t .issue ≡ 0 → ⊥) → t .«card_place» ≡ p → ⊥) →
+      placeGives cards volts n t ≡ placeGives (set cards p c) volts n t
   unfolding placeGives
   gives-same n t h = go (eqb (t .issue) 0) refl
     where
-      go : (u : Bool) → eqb (t .issue) 0 ≡ u → cond u (pos 0) (flow (workedAt cards (t .«card_place»)) (t .nodes) volts n) ≡ cond u (pos 0) (flow (workedAt (set cards p c) (t .«card_place»)) (t .nodes) volts n)
+      go : (u : Bool) → eqb (t .issue) 0 ≡ u →
+          cond u (pos 0) (flow (workedAt cards (t .«card_place»)) (t .nodes) volts n) ≡ cond u (pos 0) (flow (workedAt (set cards p c) (t .«card_place»)) (t .nodes) volts n)
       go true e = refl
       go false e = rw (worked-same (t .«card_place») (h (eqb-false (t .issue) 0 e)))
 
-  pub totals-keep : (ts : List Transistor) → ((i : ℕ) → (getD ts i noTransistor .issue ≡ 0 → ⊥) → getD ts i noTransistor .«card_place» ≡ p → ⊥) → totalsOf cards ts volts ≡ totalsOf (set cards p c) ts volts
+  pub totals-keep : (ts : List Transistor) →
+      ((i : ℕ) → (getD ts i noTransistor .issue ≡ 0 → ⊥) → getD ts i noTransistor .«card_place» ≡ p → ⊥) →
+      totalsOf cards ts volts ≡ totalsOf (set cards p c) ts volts
   unfolding totalsOf
-  totals-keep ts h = tabulate-same _ _ nodesMost (λ n k. sum-same (placeGives cards volts n) (placeGives (set cards p c) volts n) noTransistor ts (λ i q. gives-same n (getD ts i noTransistor) (h i)))
+  totals-keep ts h =
+      tabulate-same _ _ nodesMost
+      (λ n k. sum-same (placeGives cards volts n) (placeGives (set cards p c) volts n) noTransistor ts (λ i q. gives-same n (getD ts i noTransistor) (h i)))
 
 -- ---- each call keeps it
 
 -- no place of a fresh board has anything on it
-totals-none : (cards : List Card) (volts : List ℤ) (n k : ℕ) → sumOver (placeGives cards volts n) (replicate k emptyTransistor) ≡ pos 0
+totals-none : (cards : List Card) (volts : List ℤ) (n k : ℕ) →
+    sumOver (placeGives cards volts n) (replicate k emptyTransistor) ≡ pos 0
 unfolding sumOver placeGives
 totals-none cards volts n zero = refl
 totals-none cards volts n (suc k) = +ℤ-idl _ ∙ totals-none cards volts n k
 
-totals-fresh : (cards : List Card) (volts : List ℤ) → replicate nodesMost (pos 0) ≡ totalsOf cards (replicate transistorsMost emptyTransistor) volts
+totals-fresh : (cards : List Card) (volts : List ℤ) →
+    replicate nodesMost (pos 0) ≡ totalsOf cards (replicate transistorsMost emptyTransistor) volts
 unfolding totalsOf
 totals-fresh cards volts = tabulate-none _ (pos 0) nodesMost (λ n k. totals-none cards volts n transistorsMost)
 
@@ -92,14 +102,18 @@ invariant-fresh =
       transistors-long = length-replicate transistorsMost emptyTransistor;
       volts-long = length-replicate nodesMost (raised (pos 0));
       near = λ k. each-replicate (λ (x : ℕ). x ≤ 2 * reach) nodesMost k (raised (pos 0)) 0 (lit≤ tt) (lit≤ tt);
-      transistor = λ i h. absurd (h (each-replicate (λ (t : Transistor). t .issue ≡ 0) transistorsMost i emptyTransistor noTransistor refl refl));
+      transistor =
+          λ i h. absurd
+          (h (each-replicate (λ (t : Transistor). t .issue ≡ 0) transistorsMost i emptyTransistor noTransistor refl refl));
       ready = λ i h. absurd (h (each-replicate (λ (c : Card). c .issue ≡ 0) cardsMost i emptyCard noCard refl refl));
       balanced = totals-fresh (replicate cardsMost emptyCard) (map lowered (replicate nodesMost (raised (pos 0))));
     }
 
 -- nobody stands on the place p of the cards
 abbrev pub Away : Board → ℕ → Type 0
-Away b p = (i : ℕ) → (getD (b .transistors) i noTransistor .issue ≡ 0 → ⊥) → getD (b .transistors) i noTransistor .«card_place» ≡ p → ⊥
+Away b p =
+    (i : ℕ) → (getD (b .transistors) i noTransistor .issue ≡ 0 → ⊥) → getD (b .transistors) i
+    noTransistor .«card_place» ≡ p → ⊥
 
 -- the free place that a new card takes
 pub record FreeCard (b : Board) : Type 0 where
@@ -128,8 +142,12 @@ invariant-loaded {b} name bytes g = go (mayLoad b name bytes) refl
           transistors-long = g .transistors-long;
           volts-long = g .volts-long;
           near = g .near;
-          transistor = λ i h. transistor-keeps (b .cards) p _ (voltsOf b) (getD (b .transistors) i noTransistor) (away i h) (g .transistor i h);
-          ready = λ i. each-set (λ (x : Card). (x .issue ≡ 0 → ⊥) → IsReady (x .ready)) (b .cards) p i _ noCard (λ h. made-ready bytes c (l .judged)) (g .ready i);
+          transistor =
+              λ i h. transistor-keeps (b .cards) p _ (voltsOf b) (getD (b .transistors) i noTransistor) (away i h)
+              (g .transistor i h);
+          ready =
+              λ i. each-set (λ (x : Card). (x .issue ≡ 0 → ⊥) → IsReady (x .ready)) (b .cards) p i _ noCard
+              (λ h. made-ready bytes c (l .judged)) (g .ready i);
           balanced = g .balanced ∙ totals-keep (b .cards) p _ (voltsOf b) (b .transistors) away;
         }
 
@@ -142,10 +160,12 @@ pub record At {A : Type 0} (key : A → ℕ) (d : A) (n : ℕ) (l : List A) (i :
   pub is : i ≡ first (λ (a : A). eqb (key a) n) l
   pub issue-is : key (getD l i d) ≡ n
 
-at : {A : Type 0} (key : A → ℕ) (d : A) (n : ℕ) (l : List A) (i most : ℕ) → length l ≡ most → cond (eqb n 0) none (foundAt most (first (λ (a : A). eqb (key a) n) l)) ≡ some i → At key d n l i
+at : {A : Type 0} (key : A → ℕ) (d : A) (n : ℕ) (l : List A) (i most : ℕ) → length l ≡ most →
+    cond (eqb n 0) none (foundAt most (first (λ (a : A). eqb (key a) n) l)) ≡ some i → At key d n l i
 at {A} key d n l i most long e = go (eqb n 0) refl e
   where
-    go : (t : Bool) → eqb n 0 ≡ t → cond t none (foundAt most (first (λ (a : A). eqb (key a) n) l)) ≡ some i → At key d n l i
+    go : (t : Bool) → eqb n 0 ≡ t → cond t none (foundAt most (first (λ (a : A). eqb (key a) n) l)) ≡ some i →
+        At key d n l i
     go true p q = clash (cc)
     go false p q =
         let f = found-is most (first (λ (a : A). eqb (key a) n) l) i q in
@@ -155,13 +175,15 @@ at {A} key d n l i most long e = go (eqb n 0) refl e
 abbrev pub AtCard : ℕ → List Card → ℕ → Type 0
 AtCard n cards i = At (λ (c : Card). c .issue) noCard n cards i
 
-pub at-card : (n : ℕ) (cards : List Card) (i : ℕ) → length cards ≡ cardsMost → cardPlace n cards ≡ some i → AtCard n cards i
+pub at-card : (n : ℕ) (cards : List Card) (i : ℕ) → length cards ≡ cardsMost → cardPlace n cards ≡ some i →
+    AtCard n cards i
 at-card n cards i long e = at (λ (c : Card). c .issue) noCard n cards i cardsMost long e
 
 abbrev pub AtTransistor : ℕ → List Transistor → ℕ → Type 0
 AtTransistor n ts i = At (λ (t : Transistor). t .issue) noTransistor n ts i
 
-pub at-transistor : (n : ℕ) (ts : List Transistor) (i : ℕ) → length ts ≡ transistorsMost → transistorPlace n ts ≡ some i → AtTransistor n ts i
+pub at-transistor : (n : ℕ) (ts : List Transistor) (i : ℕ) → length ts ≡ transistorsMost →
+    transistorPlace n ts ≡ some i → AtTransistor n ts i
 at-transistor n ts i long e = at (λ (t : Transistor). t .issue) noTransistor n ts i transistorsMost long e
 
 -- ---- nodes and voltages in range
@@ -170,7 +192,9 @@ pub on-nodes : (nodes : List ℤ) → someOff nodes ≡ false → (k : ℕ) → 
 on-nodes [] e k = lit< tt
 on-nodes (z ∷ nodes) e k = go (offNode z) refl e k (λ p. on-nodes nodes p)
   where
-    go : (t : Bool) → offNode z ≡ t → t || someOff nodes ≡ false → (k : ℕ) → (someOff nodes ≡ false → (j : ℕ) → getD (map natAbs nodes) j 0 < nodesMost) → getD (map natAbs (z ∷ nodes)) k 0 < nodesMost
+    go : (t : Bool) → offNode z ≡ t → t || someOff nodes ≡ false → (k : ℕ) →
+        (someOff nodes ≡ false → (j : ℕ) → getD (map natAbs nodes) j 0 < nodesMost) →
+        getD (map natAbs (z ∷ nodes)) k 0 < nodesMost
     go true p q k next = clash (cc)
     go false p q zero next = on-node z p
     go false p q (suc k) next = next q k
@@ -180,7 +204,8 @@ raised-near v e = kept v e .near
 
 -- ---- tests of a place that is not empty
 
-standing-quiet : (cards : List Card) (volts : List ℤ) (t : Transistor) → (t .issue ≡ 0 → ⊥) → placeOverloads cards volts t ≡ false → overloads (workedAt cards (t .«card_place»)) (t .nodes) volts ≡ false
+standing-quiet : (cards : List Card) (volts : List ℤ) (t : Transistor) → (t .issue ≡ 0 → ⊥) →
+    placeOverloads cards volts t ≡ false → overloads (workedAt cards (t .«card_place»)) (t .nodes) volts ≡ false
 unfolding placeOverloads
 standing-quiet cards volts t h e = rw (ne-eqb (t .issue) 0 h) at e
 
@@ -189,7 +214,8 @@ not-on n t h e = eqb-false (t .card) n (rw (ne-eqb (t .issue) 0 h) at e)
 
 -- ---- the other calls
 
-invariant-placed : {b : Board} (card : ℤ) (nodes : List ℤ) → length nodes ≡ roles → Invariant b → Invariant (placedOf b card nodes .board)
+invariant-placed : {b : Board} (card : ℤ) (nodes : List ℤ) → length nodes ≡ roles → Invariant b →
+    Invariant (placedOf b card nodes .board)
 unfolding placedOf
 invariant-placed {b} card nodes seven g = go _ refl
   where
@@ -203,7 +229,9 @@ invariant-placed {b} card nodes seven g = go _ refl
           transistors-long = length-set (b .transistors) (freeTransistor (b .transistors)) _ ∙ g .transistors-long;
           volts-long = g .volts-long;
           near = g .near;
-          transistor = λ j. each-set (λ (t : Transistor). (t .issue ≡ 0 → ⊥) → TransistorInvariant (b .cards) (voltsOf b) t) (b .transistors) (freeTransistor (b .transistors)) j _ noTransistor
+          transistor =
+              λ j. each-set (λ (t : Transistor). (t .issue ≡ 0 → ⊥) → TransistorInvariant (b .cards) (voltsOf b) t)
+              (b .transistors) (freeTransistor (b .transistors)) j _ noTransistor
               (λ h. record { place-there = subst (λ (k : ℕ). i < k) (g .cards-long) (a .below); card-there = refl; card-given = λ z. a .given (sym (a .issue-is) ∙ z); wired = on-nodes nodes (p .on); long = length-map nodes natAbs ∙ seven; quiet = p .quiet })
               (g .transistor j);
           ready = g .ready;
@@ -222,13 +250,18 @@ invariant-moved {b} n v g = go _ refl
           cards-long = g .cards-long;
           transistors-long = g .transistors-long;
           volts-long = length-set (b .volts) k (raised v) ∙ g .volts-long;
-          near = λ j. each-set (λ (x : ℕ). x ≤ 2 * reach) (b .volts) k j (raised v) 0 (raised-near v (m .near)) (g .near j);
+          near =
+              λ j. each-set (λ (x : ℕ). x ≤ 2 * reach) (b .volts) k j (raised v) 0 (raised-near v (m .near))
+              (g .near j);
           transistor = λ j h. still k j h (m .at) (m .quiet) (g .transistor j h);
           ready = g .ready;
           balanced = refl;
         }
       where
-        still : (k j : ℕ) → (getD (b .transistors) j noTransistor .issue ≡ 0 → ⊥) → k ≡ natAbs n → anyOf (placeOverloads (b .cards) (map lowered (set (b .volts) (natAbs n) (raised v)))) (b .transistors) ≡ false → TransistorInvariant (b .cards) (voltsOf b) (getD (b .transistors) j noTransistor) → TransistorInvariant (b .cards) (map lowered (set (b .volts) k (raised v))) (getD (b .transistors) j noTransistor)
+        still : (k j : ℕ) → (getD (b .transistors) j noTransistor .issue ≡ 0 → ⊥) → k ≡ natAbs n →
+            anyOf (placeOverloads (b .cards) (map lowered (set (b .volts) (natAbs n) (raised v)))) (b .transistors) ≡ false →
+            TransistorInvariant (b .cards) (voltsOf b) (getD (b .transistors) j noTransistor) →
+            TransistorInvariant (b .cards) (map lowered (set (b .volts) k (raised v))) (getD (b .transistors) j noTransistor)
         still k j h at quiet s =
             let t = getD (b .transistors) j noTransistor in
             let each = none-of _ (b .transistors) noTransistor quiet j (stands (λ (u : Transistor). u .issue) noTransistor (b .transistors) j refl h) in
@@ -246,13 +279,16 @@ invariant-lifted {b} n g = go _ refl
           transistors-long = length-set (b .transistors) i emptyTransistor ∙ g .transistors-long;
           volts-long = g .volts-long;
           near = g .near;
-          transistor = λ j. each-set (λ (t : Transistor). (t .issue ≡ 0 → ⊥) → TransistorInvariant (b .cards) (voltsOf b) t) (b .transistors) i j emptyTransistor noTransistor (λ h. absurd (h refl)) (g .transistor j);
+          transistor =
+              λ j. each-set (λ (t : Transistor). (t .issue ≡ 0 → ⊥) → TransistorInvariant (b .cards) (voltsOf b) t)
+              (b .transistors) i j emptyTransistor noTransistor (λ h. absurd (h refl)) (g .transistor j);
           ready = g .ready;
           balanced = refl;
         }
 
 -- nobody stands on a card on which no transistor stands
-pub unused-away : (b : Board) → Invariant b → (n p : ℕ) → AtCard n (b .cards) p → anyOf (standsOn n) (b .transistors) ≡ false → Away b p
+pub unused-away : (b : Board) → Invariant b → (n p : ℕ) → AtCard n (b .cards) p →
+    anyOf (standsOn n) (b .transistors) ≡ false → Away b p
 unused-away b g n p a unused i h q =
     not-on n (getD (b .transistors) i noTransistor) h (none-of _ (b .transistors) noTransistor unused i (stands (λ (u : Transistor). u .issue) noTransistor (b .transistors) i refl h))
     (sym (g .transistor i h .card-there) ∙ ap (λ (j : ℕ). getD (b .cards) j noCard .issue) q ∙ a .issue-is)
@@ -272,8 +308,12 @@ invariant-withdrawn {b} n g = go _ refl
           transistors-long = g .transistors-long;
           volts-long = g .volts-long;
           near = g .near;
-          transistor = λ i h. transistor-keeps (b .cards) p emptyCard (voltsOf b) (getD (b .transistors) i noTransistor) (away i h) (g .transistor i h);
-          ready = λ i. each-set (λ (x : Card). (x .issue ≡ 0 → ⊥) → IsReady (x .ready)) (b .cards) p i emptyCard noCard (λ h. absurd (h refl)) (g .ready i);
+          transistor =
+              λ i h. transistor-keeps (b .cards) p emptyCard (voltsOf b) (getD (b .transistors) i noTransistor)
+              (away i h) (g .transistor i h);
+          ready =
+              λ i. each-set (λ (x : Card). (x .issue ≡ 0 → ⊥) → IsReady (x .ready)) (b .cards) p i emptyCard noCard
+              (λ h. absurd (h refl)) (g .ready i);
           balanced = g .balanced ∙ totals-keep (b .cards) p emptyCard (voltsOf b) (b .transistors) away;
         }
 

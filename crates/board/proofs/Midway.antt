@@ -39,19 +39,22 @@ swap-later : (a m x y : ℤ) → a +ℤ ((m +ℤ x) +ℤ y) ≡ ((a +ℤ m) +ℤ
 swap-later a m x y = simp +ℤ-assoc
 
 module _ {A : Type 0} (f g : A → ℤ) (d : A) where
-  midway-more : (i : ℕ) (l : List A) → i < length l → midway f g (suc i) l ≡ (midway f g i l +ℤ negℤ (g (getD l i d))) +ℤ f (getD l i d)
+  midway-more : (i : ℕ) (l : List A) → i < length l →
+      midway f g (suc i) l ≡ (midway f g i l +ℤ negℤ (g (getD l i d))) +ℤ f (getD l i d)
   unfolding midway sumOver
   midway-more i [] h = absurd (omega arith)
   midway-more zero (a ∷ l) h = swap-first (g a) (f a) (sumOver g l)
   midway-more (suc i) (a ∷ l) h =
       ap (λ (z : ℤ). f a +ℤ z) (midway-more i l (omega arith)) ∙ swap-later (f a) (midway f g i l) (negℤ (g (getD l i d))) (f (getD l i d))
 
-  midway-same : (i : ℕ) (l : List A) → i < length l → g (getD l i d) ≡ f (getD l i d) → midway f g (suc i) l ≡ midway f g i l
+  midway-same : (i : ℕ) (l : List A) → i < length l → g (getD l i d) ≡ f (getD l i d) →
+      midway f g (suc i) l ≡ midway f g i l
   midway-same i l h e =
       midway-more i l h ∙ ap (λ (z : ℤ). (midway f g i l +ℤ negℤ z) +ℤ f (getD l i d)) e ∙ -ℤ-+ℤ-cancel (midway f g i l) (f (getD l i d))
 
 -- another element at one place
-sum-set : {A : Type 0} (f : A → ℤ) (d : A) (l : List A) (i : ℕ) (a : A) → i < length l → sumOver f (set l i a) ≡ (sumOver f l +ℤ negℤ (f (getD l i d))) +ℤ f a
+sum-set : {A : Type 0} (f : A → ℤ) (d : A) (l : List A) (i : ℕ) (a : A) → i < length l →
+    sumOver f (set l i a) ≡ (sumOver f l +ℤ negℤ (f (getD l i d))) +ℤ f a
 unfolding sumOver
 sum-set f d [] i a h = absurd (omega arith)
 sum-set f d (b ∷ l) zero a h = swap-first (f b) (f a) (sumOver f l)
@@ -65,7 +68,8 @@ midway-all f g zero (a ∷ l) h = absurd (omega arith)
 midway-all f g (suc i) [] h = absurd (omega arith)
 midway-all f g (suc i) (a ∷ l) h = ap (λ (z : ℤ). f a +ℤ z) (midway-all f g i l (omega arith))
 
-midway-small : {A : Type 0} (f g : A → ℤ) (most : ℕ) → ((a : A) → natAbs (f a) ≤ most) → ((a : A) → natAbs (g a) ≤ most) → (i : ℕ) (l : List A) → natAbs (midway f g i l) ≤ length l * most
+midway-small : {A : Type 0} (f g : A → ℤ) (most : ℕ) → ((a : A) → natAbs (f a) ≤ most) →
+    ((a : A) → natAbs (g a) ≤ most) → (i : ℕ) (l : List A) → natAbs (midway f g i l) ≤ length l * most
 unfolding midway sumOver
 midway-small f g most p q zero l = small-sum g most q l
 midway-small f g most p q (suc i) [] = zero-le
@@ -79,35 +83,44 @@ midway-small f g most p q (suc i) (a ∷ l) =
 module _ (cards : List Card) (ts : List Transistor) (was volts : List ℕ) where
   pub record Midway (i : ℕ) (l : List ℤ) : Type 0 where
     pub long : length l ≡ nodesMost
-    pub at : (n : ℕ) → n < nodesMost → getD l n (pos 0) ≡ midway (placeGives cards (map lowered volts) n) (placeGives cards (map lowered was) n) i ts
+    pub at : (n : ℕ) → n < nodesMost →
+        getD l n (pos 0) ≡ midway (placeGives cards (map lowered volts) n) (placeGives cards (map lowered was) n) i ts
 
 -- totals worked anew, node by node
-totals-at : (cards : List Card) (ts : List Transistor) (volts : List ℤ) (n : ℕ) → n < nodesMost → getD (totalsOf cards ts volts) n (pos 0) ≡ sumOver (placeGives cards volts n) ts
+totals-at : (cards : List Card) (ts : List Transistor) (volts : List ℤ) (n : ℕ) → n < nodesMost →
+    getD (totalsOf cards ts volts) n (pos 0) ≡ sumOver (placeGives cards volts n) ts
 unfolding totalsOf
 totals-at cards ts volts n h = tabulate-at (λ (m : ℕ). sumOver (placeGives cards volts m) ts) nodesMost n (pos 0) h
 
-pub totals-count : (cards : List Card) (ts : List Transistor) (volts : List ℤ) → length (totalsOf cards ts volts) ≡ nodesMost
+pub totals-count : (cards : List Card) (ts : List Transistor) (volts : List ℤ) →
+    length (totalsOf cards ts volts) ≡ nodesMost
 unfolding totalsOf
 totals-count cards ts volts = tabulate-long _ nodesMost
 
 -- a list with these sums is the totals
-are-totals : (cards : List Card) (ts : List Transistor) (volts : List ℤ) (l : List ℤ) → length l ≡ nodesMost → ((n : ℕ) → n < nodesMost → getD l n (pos 0) ≡ sumOver (placeGives cards volts n) ts) → l ≡ totalsOf cards ts volts
+are-totals : (cards : List Card) (ts : List Transistor) (volts : List ℤ) (l : List ℤ) → length l ≡ nodesMost →
+    ((n : ℕ) → n < nodesMost → getD l n (pos 0) ≡ sumOver (placeGives cards volts n) ts) → l ≡ totalsOf cards ts volts
 are-totals cards ts volts l h at =
     ext-getD (pos 0) l (totalsOf cards ts volts) (h ∙ sym (totals-count cards ts volts))
     (λ n q. let b = subst (λ (x : ℕ). n < x) h q in at n b ∙ sym (totals-at cards ts volts n b))
 
 -- no total is above what each place can give
-pub totals-room : (cards : List Card) (ts : List Transistor) (volts : List ℤ) → length ts ≡ transistorsMost → Room nodesMost totalMost (totalsOf cards ts volts)
-totals-room cards ts volts h = record { long = totals-count cards ts volts; within = λ n. go n (below-or-not n nodesMost) }
+pub totals-room : (cards : List Card) (ts : List Transistor) (volts : List ℤ) → length ts ≡ transistorsMost →
+    Room nodesMost totalMost (totalsOf cards ts volts)
+totals-room cards ts volts h =
+    record { long = totals-count cards ts volts; within = λ n. go n (below-or-not n nodesMost) }
   where
     go : (n : ℕ) → (n < nodesMost) ⊎ (nodesMost ≤ n) → natAbs (getD (totalsOf cards ts volts) n (pos 0)) ≤ totalMost
     go n (inl b) =
         let s = small-sum (placeGives cards volts n) flowMost (small-place cards volts n) ts in
         rw (totals-at cards ts volts n b) (subst (λ (k : ℕ). natAbs (sumOver (placeGives cards volts n) ts) ≤ k * flowMost) h s)
-    go n (inr b) = rw (List·getD-eq-default (totalsOf cards ts volts) (pos 0) {n = n} (rw (totals-count cards ts volts) b)) zero-le
+    go n (inr b) =
+        rw (List·getD-eq-default (totalsOf cards ts volts) (pos 0) {n = n} (rw (totals-count cards ts volts) b))
+        zero-le
 
 module _ {cards : List Card} {ts : List Transistor} {was volts : List ℕ} where
-  pub midway-start : {totals : List ℤ} → totals ≡ totalsOf cards ts (map lowered was) → Midway cards ts was volts 0 totals
+  pub midway-start : {totals : List ℤ} → totals ≡ totalsOf cards ts (map lowered was) →
+      Midway cards ts was volts 0 totals
   unfolding midway
   midway-start {totals} e =
       record {
@@ -115,10 +128,13 @@ module _ {cards : List Card} {ts : List Transistor} {was volts : List ℕ} where
         at = λ n h. ap (λ (l : List ℤ). getD l n (pos 0)) e ∙ totals-at cards ts (map lowered was) n h;
       }
 
-  pub midway-end : {l : List ℤ} → length ts ≡ transistorsMost → Midway cards ts was volts transistorsMost l → l ≡ totalsOf cards ts (map lowered volts)
-  midway-end {l} h m = are-totals cards ts (map lowered volts) l (m .long) (λ n b. m .at n b ∙ midway-all _ _ transistorsMost ts h)
+  pub midway-end : {l : List ℤ} → length ts ≡ transistorsMost → Midway cards ts was volts transistorsMost l →
+      l ≡ totalsOf cards ts (map lowered volts)
+  midway-end {l} h m =
+      are-totals cards ts (map lowered volts) l (m .long) (λ n b. m .at n b ∙ midway-all _ _ transistorsMost ts h)
 
-  pub midway-room : {l : List ℤ} (i : ℕ) → length ts ≡ transistorsMost → Midway cards ts was volts i l → Room nodesMost totalMost l
+  pub midway-room : {l : List ℤ} (i : ℕ) → length ts ≡ transistorsMost → Midway cards ts was volts i l →
+      Room nodesMost totalMost l
   midway-room {l} i h m = record { long = m .long; within = λ n. go n (below-or-not n nodesMost) }
     where
       go : (n : ℕ) → (n < nodesMost) ⊎ (nodesMost ≤ n) → natAbs (getD l n (pos 0)) ≤ totalMost
@@ -128,11 +144,21 @@ module _ {cards : List Card} {ts : List Transistor} {was volts : List ℕ} where
       go n (inr b) = rw (List·getD-eq-default l (pos 0) {n = n} (rw (m .long) b)) zero-le
 
   -- a place that gives what it gave
-  pub midway-passes : {l : List ℤ} (i : ℕ) → i < length ts → ((n : ℕ) → placeGives cards (map lowered was) n (getD ts i noTransistor) ≡ placeGives cards (map lowered volts) n (getD ts i noTransistor)) → Midway cards ts was volts i l → Midway cards ts was volts (i + 1) l
-  midway-passes i h same m = record { long = m .long; at = λ n b. rw add-one (m .at n b ∙ sym (midway-same _ _ noTransistor i ts h (same n))) }
+  pub midway-passes : {l : List ℤ} (i : ℕ) → i < length ts →
+      ((n : ℕ) → placeGives cards (map lowered was) n (getD ts i noTransistor) ≡ placeGives cards (map lowered volts) n (getD ts i noTransistor)) →
+      Midway cards ts was volts i l → Midway cards ts was volts (i + 1) l
+  midway-passes i h same m =
+      record {
+        long = m .long;
+        at = λ n b. rw add-one (m .at n b ∙ sym (midway-same _ _ noTransistor i ts h (same n)));
+      }
 
   -- a place whose currents were taken out at the old voltages and put in at the new
-  pub midway-works : {l l′ l″ : List ℤ} (i : ℕ) → i < length ts → {f g : ℕ → ℤ} → ((n : ℕ) → g n ≡ negℤ (placeGives cards (map lowered was) n (getD ts i noTransistor))) → ((n : ℕ) → f n ≡ placeGives cards (map lowered volts) n (getD ts i noTransistor)) → Midway cards ts was volts i l → More nodesMost l l′ g → More nodesMost l′ l″ f → Midway cards ts was volts (i + 1) l″
+  pub midway-works : {l l′ l″ : List ℤ} (i : ℕ) → i < length ts → {f g : ℕ → ℤ} →
+      ((n : ℕ) → g n ≡ negℤ (placeGives cards (map lowered was) n (getD ts i noTransistor))) →
+      ((n : ℕ) → f n ≡ placeGives cards (map lowered volts) n (getD ts i noTransistor)) →
+      Midway cards ts was volts i l → More nodesMost l l′ g → More nodesMost l′ l″ f →
+      Midway cards ts was volts (i + 1) l″
   midway-works i h {f} {g} eg ef m p q =
       record {
         long = q .long;
@@ -147,7 +173,9 @@ module _ (cards : List Card) (ts : List Transistor) (volts : List ℤ) (i : ℕ)
   before-at : (n : ℕ) → n < nodesMost → getD totals n (pos 0) ≡ sumOver (placeGives cards volts n) ts
   before-at n h = ap (λ (x : List ℤ). getD x n (pos 0)) e ∙ totals-at cards ts volts n h
 
-  pub totals-changed : ((n : ℕ) → f n ≡ negℤ (placeGives cards volts n (getD ts i noTransistor)) +ℤ placeGives cards volts n t) → l ≡ totalsOf cards (set ts i t) volts
+  pub totals-changed :
+      ((n : ℕ) → f n ≡ negℤ (placeGives cards volts n (getD ts i noTransistor)) +ℤ placeGives cards volts n t) →
+      l ≡ totalsOf cards (set ts i t) volts
   totals-changed is =
       are-totals cards (set ts i t) volts l (more .long)
       (λ n h. more .at n h ∙ ap (λ (z : ℤ). z +ℤ f n) (before-at n h) ∙ ap (λ (z : ℤ). sumOver (placeGives cards volts n) ts +ℤ z) (is n)

@@ -63,19 +63,23 @@ one-more {n} p q f = let h : n < n + 1 = omega arith in next h p (ltb-false issu
 
 -- on a board whose next number is 1 or more, one call more
 module _ (b : Board) (l : List ℕ) (begun : 1 ≤ b .next) (f : Falls (b .next) l) where
-  falls-load : (name bytes : List ℕ) → Falls (loadedOf b name bytes .board .next) (withNumber (loadedOf b name bytes .answer) l)
+  falls-load : (name bytes : List ℕ) →
+      Falls (loadedOf b name bytes .board .next) (withNumber (loadedOf b name bytes .answer) l)
   unfolding loadedOf
   falls-load name bytes = go (board.mayLoad b name bytes) refl
     where
-      go : (v : Verdict WorkedCard) → board.mayLoad b name bytes ≡ v → Falls (board.loaded b name v .board .next) (withNumber (board.loaded b name v .answer) l)
+      go : (v : Verdict WorkedCard) → board.mayLoad b name bytes ≡ v →
+          Falls (board.loaded b name v .board .next) (withNumber (board.loaded b name v .answer) l)
       go (no g) e = f
       go (yes c) e = one-more begun (loads name e .number) f
 
-  falls-place : (card : ℤ) (nodes : List ℤ) → Falls (placedOf b card nodes .board .next) (withNumber (placedOf b card nodes .answer) l)
+  falls-place : (card : ℤ) (nodes : List ℤ) →
+      Falls (placedOf b card nodes .board .next) (withNumber (placedOf b card nodes .answer) l)
   unfolding placedOf
   falls-place card nodes = go (board.mayPlace b card nodes) refl
     where
-      go : (v : Verdict ℕ) → board.mayPlace b card nodes ≡ v → Falls (board.placed b nodes v .board .next) (withNumber (board.placed b nodes v .answer) l)
+      go : (v : Verdict ℕ) → board.mayPlace b card nodes ≡ v →
+          Falls (board.placed b nodes v .board .next) (withNumber (board.placed b nodes v .answer) l)
       go (no g) e = f
       go (yes i) e = one-more begun (places (board.cardPlace (issueOf card) (b .cards)) e .number) f
 
@@ -125,21 +129,25 @@ unfolding count firstWith
 find-none-left p [] e = refl
 find-none-left p (a ∷ rest) e = go (p a) e (λ h. find-none-left p rest h)
   where
-    go : (t : Bool) → more t (count p rest) ≡ 0 → (count p rest ≡ 0 → firstWith p rest ≡ none) → ifTrue t a (firstWith p rest) ≡ none
+    go : (t : Bool) → more t (count p rest) ≡ 0 → (count p rest ≡ 0 → firstWith p rest ≡ none) →
+        ifTrue t a (firstWith p rest) ≡ none
     go true h n = absurd (omega arith)
     go false h n = n h
 
 -- the one with number k is still found where another is taken away, and is gone where it is itself taken away
-find-without : {A : Type 0} (key : A → ℕ) (k m : ℕ) (l : List A) → firstWith (λ (a : A). eqb (key a) k) (without key m l) ≡ cond (eqb m k) none (firstWith (λ (a : A). eqb (key a) k) l)
+find-without : {A : Type 0} (key : A → ℕ) (k m : ℕ) (l : List A) →
+    firstWith (λ (a : A). eqb (key a) k) (without key m l) ≡ cond (eqb m k) none (firstWith (λ (a : A). eqb (key a) k) l)
 unfolding without firstWith
 find-without key k m [] = go (eqb m k)
   where
     go : {B : Type 0} (t : Bool) → _≡_ {A = Found B} none (cond t none none)
     go true = refl
     go false = refl
-find-without {A = A} key k m (a ∷ rest) = go (eqb (key a) m) (eqb (key a) k) (eqb m k) refl refl refl (find-without key k m rest)
+find-without {A = A} key k m (a ∷ rest) =
+    go (eqb (key a) m) (eqb (key a) k) (eqb m k) refl refl refl (find-without key k m rest)
   where
-    go : (t u w : Bool) → eqb (key a) m ≡ t → eqb (key a) k ≡ u → eqb m k ≡ w → firstWith (λ (b : A). eqb (key b) k) (without key m rest) ≡ cond w none (firstWith (λ (b : A). eqb (key b) k) rest) →
+    go : (t u w : Bool) → eqb (key a) m ≡ t → eqb (key a) k ≡ u → eqb m k ≡ w →
+        firstWith (λ (b : A). eqb (key b) k) (without key m rest) ≡ cond w none (firstWith (λ (b : A). eqb (key b) k) rest) →
         firstWith (λ (b : A). eqb (key b) k) (keepIf (not t) a (without key m rest)) ≡ cond w none (ifTrue u a (firstWith (λ (b : A). eqb (key b) k) rest))
     go true true true p q r h = h
     go true true false p q r h = absurd (eqb-false m k r (sym (eqb-true (key a) m p) ∙ eqb-true (key a) k q))
@@ -155,7 +163,8 @@ module _ (d : Desk) (o : Orderly d) where
   nobody : (k : ℕ) → d .next ≤ k → standsAs k (d .standing) ≡ none
   nobody k h = find-none-left (λ (t : Standing). eqb (t .issue) k) (d .standing) (o .standing .below k h)
 
-  keeps-place : (nodes : List ℤ) (v : Verdict Held) (k : ℕ) (t u : Standing) → standsAs k (d .standing) ≡ some t → standsAs k (desk.placed d nodes v .desk .standing) ≡ some u → t ≡ u
+  keeps-place : (nodes : List ℤ) (v : Verdict Held) (k : ℕ) (t u : Standing) → standsAs k (d .standing) ≡ some t →
+      standsAs k (desk.placed d nodes v .desk .standing) ≡ some u → t ≡ u
   unfolding firstWith
   keeps-place nodes (no f) k t u p q = cc
   keeps-place nodes (yes h) k t u p q = go _ (eqb (d .next) k) refl q
@@ -164,15 +173,18 @@ module _ (d : Desk) (o : Orderly d) where
       go n true e r = let l : d .next ≤ k = le-of-eq (eqb-true (d .next) k e) in let m = nobody k l in clash (cc)
       go n false e r = cc
 
-  keeps-lift : (v : Verdict Standing) (k : ℕ) (t u : Standing) → standsAs k (d .standing) ≡ some t → standsAs k (desk.lifted d v .desk .standing) ≡ some u → t ≡ u
+  keeps-lift : (v : Verdict Standing) (k : ℕ) (t u : Standing) → standsAs k (d .standing) ≡ some t →
+      standsAs k (desk.lifted d v .desk .standing) ≡ some u → t ≡ u
   keeps-lift (no f) k t u p q = cc
-  keeps-lift (yes x) k t u p q = go (eqb (x .issue) k) (sym (find-without (λ (w : Standing). w .issue) k (x .issue) (d .standing)) ∙ q)
+  keeps-lift (yes x) k t u p q =
+      go (eqb (x .issue) k) (sym (find-without (λ (w : Standing). w .issue) k (x .issue) (d .standing)) ∙ q)
     where
       go : (b : Bool) → cond b none (standsAs k (d .standing)) ≡ some u → t ≡ u
       go true r = clash (cc)
       go false r = cc
 
-  keeps : (c : Call) (k : ℕ) (t u : Standing) → standsAs k (d .standing) ≡ some t → standsAs k (step d c .desk .standing) ≡ some u → t ≡ u
+  keeps : (c : Call) (k : ℕ) (t u : Standing) → standsAs k (d .standing) ≡ some t →
+      standsAs k (step d c .desk .standing) ≡ some u → t ≡ u
   unfolding step
   keeps (load name bytes) k t u p q = go (desk.mayLoad d name bytes) q
     where
@@ -203,18 +215,22 @@ module _ (d : Desk) (o : Orderly d) where
       go (yes c) r = cc
 
 -- one who stands under the same number before and after a call is the same: same card, same nodes
-pub others-keep-their-card : (calls : List Call) (c : Call) (k : ℕ) (t u : Standing) → standsAs k (after calls .standing) ≡ some t → standsAs k (after (c ∷ calls) .standing) ≡ some u → t ≡ u
+pub others-keep-their-card : (calls : List Call) (c : Call) (k : ℕ) (t u : Standing) →
+    standsAs k (after calls .standing) ≡ some t → standsAs k (after (c ∷ calls) .standing) ≡ some u → t ≡ u
 unfolding after
 others-keep-their-card calls c k t u p q = keeps (after calls) (orderly-after calls) c k t u p q
 
 -- ---- lifting the one just placed
 
-without-none : {A : Type 0} (key : A → ℕ) (n : ℕ) (l : List A) → count (λ (a : A). eqb (key a) n) l ≡ 0 → without key n l ≡ l
+without-none : {A : Type 0} (key : A → ℕ) (n : ℕ) (l : List A) → count (λ (a : A). eqb (key a) n) l ≡ 0 →
+    without key n l ≡ l
 unfolding count without
 without-none key n [] e = refl
 without-none {A = A} key n (a ∷ rest) e = go (eqb (key a) n) e (λ h. without-none key n rest h)
   where
-    go : (t : Bool) → more t (count (λ (b : A). eqb (key b) n) rest) ≡ 0 → (count (λ (b : A). eqb (key b) n) rest ≡ 0 → without key n rest ≡ rest) → keepIf (not t) a (without key n rest) ≡ a ∷ rest
+    go : (t : Bool) → more t (count (λ (b : A). eqb (key b) n) rest) ≡ 0 →
+        (count (λ (b : A). eqb (key b) n) rest ≡ 0 → without key n rest ≡ rest) →
+        keepIf (not t) a (without key n rest) ≡ a ∷ rest
     go true h m = absurd (omega arith)
     go false h m = ap (λ (l : List A). a ∷ l) (m h)
 
@@ -229,14 +245,19 @@ pub record Undone (d e : Desk) : Type 0 where
 take-back : (d : Desk) → Orderly d → (t : Standing) (later : ℕ) → t .issue ≡ d .next → d .next ≤ issuesMost →
     Undone d (desk.lifted (record { cards = d .cards; standing = t ∷ d .standing; volts = d .volts; next = later }) (desk.mayLift (record { cards = d .cards; standing = t ∷ d .standing; volts = d .volts; next = later }) (pos (d .next))) .desk)
 unfolding firstWith liftVerdict without
-take-back d o t later e h = rw (issue-kept (d .next) h, eq-eqb (t .issue) (d .next) e) (record { standing = rw (eq-eqb (t .issue) (t .issue) refl, e) (without-none (λ (u : Standing). u .issue) (d .next) (d .standing) (o .standing .below (d .next) (le-refl _))); volts = refl })
+take-back d o t later e h =
+    rw (issue-kept (d .next) h, eq-eqb (t .issue) (d .next) e)
+    (record { standing = rw (eq-eqb (t .issue) (t .issue) refl, e) (without-none (λ (u : Standing). u .issue) (d .next) (d .standing) (o .standing .below (d .next) (le-refl _))); volts = refl })
 
 -- on the desk: what was placed is found, and taken away again
-undo : (d : Desk) → Orderly d → (card : ℤ) (nodes : List ℤ) (seven : length nodes ≡ roles) (n : ℕ) → step d (place card nodes seven) .reply ≡ desk.issued n → Undone d (step (step d (place card nodes seven) .desk) (lift (pos n)) .desk)
+undo : (d : Desk) → Orderly d → (card : ℤ) (nodes : List ℤ) (seven : length nodes ≡ roles) (n : ℕ) →
+    step d (place card nodes seven) .reply ≡ desk.issued n →
+    Undone d (step (step d (place card nodes seven) .desk) (lift (pos n)) .desk)
 unfolding step
 undo d o card nodes seven n e = go (desk.mayPlace d card nodes) refl e
   where
-    go : (v : Verdict Held) → desk.mayPlace d card nodes ≡ v → desk.placed d nodes v .reply ≡ desk.issued n → Undone d (desk.lifted (desk.placed d nodes v .desk) (desk.mayLift (desk.placed d nodes v .desk) (pos n)) .desk)
+    go : (v : Verdict Held) → desk.mayPlace d card nodes ≡ v → desk.placed d nodes v .reply ≡ desk.issued n →
+        Undone d (desk.lifted (desk.placed d nodes v .desk) (desk.mayLift (desk.placed d nodes v .desk) (pos n)) .desk)
     go (no f) p r = clash (cc)
     go (yes h) p r =
         let same : d .next ≡ n = cc in
@@ -246,12 +267,16 @@ total-same : {d e : Desk} → Undone d e → (i : ℕ) → total e i ≡ total d
 unfolding total
 total-same u i = rw (u .standing, u .volts)
 
-after-undone : (calls : List Call) (card : ℤ) (nodes : List ℤ) (seven : length nodes ≡ roles) (n : ℕ) → step (after calls) (place card nodes seven) .reply ≡ desk.issued n → Undone (after calls) (after (lift (pos n) ∷ place card nodes seven ∷ calls))
+after-undone : (calls : List Call) (card : ℤ) (nodes : List ℤ) (seven : length nodes ≡ roles) (n : ℕ) →
+    step (after calls) (place card nodes seven) .reply ≡ desk.issued n →
+    Undone (after calls) (after (lift (pos n) ∷ place card nodes seven ∷ calls))
 unfolding after
 after-undone calls card nodes seven n e = undo (after calls) (orderly-after calls) card nodes seven n e
 
 -- lifting the transistor that was just placed brings back every total
-pub lift-undoes-place : (calls : List Call) (card : ℤ) (nodes : List ℤ) (seven : length nodes ≡ roles) (n : ℕ) → answered (boardAfter calls) (place card nodes seven) .answer ≡ Issue n → boardAfter (lift (pos n) ∷ place card nodes seven ∷ calls) .totals ≡ boardAfter calls .totals
+pub lift-undoes-place : (calls : List Call) (card : ℤ) (nodes : List ℤ) (seven : length nodes ≡ roles) (n : ℕ) →
+    answered (boardAfter calls) (place card nodes seven) .answer ≡ Issue n →
+    boardAfter (lift (pos n) ∷ place card nodes seven ∷ calls) .totals ≡ boardAfter calls .totals
 lift-undoes-place calls card nodes seven n e =
     let later = lift (pos n) ∷ place card nodes seven ∷ calls in
     let a = totals-long (invariant-after later) in

@@ -30,7 +30,9 @@ use Rattle.board.proofs.Verdicts.{on-node}
 
 module _ (cards : List Card) (ts : List Transistor) (next n : ℕ) (on : List ℕ) where
   abbrev pub way : Way
-  way = wayOf (freeTransistor ts) (placing (cardPlace n cards) (workedAt cards) on (leb transistorsMost (freeTransistor ts)) (usedUp next))
+  way =
+      wayOf (freeTransistor ts)
+      (placing (cardPlace n cards) (workedAt cards) on (leb transistorsMost (freeTransistor ts)) (usedUp next))
 
   pub stop-unknown : cardPlace n cards ≡ none → Stop Unknown ≡ way
   unfolding placing
@@ -81,7 +83,8 @@ unfolding anyOf
 off-same [] = refl
 off-same (z ∷ nodes) = go (offNode z) refl (off-same nodes)
   where
-    go : (t : Bool) → offNode z ≡ t → anyOf (leb nodesMost) (map nodeOf nodes) ≡ someOff nodes → leb nodesMost (cond t nodesMost (natAbs z)) || anyOf (leb nodesMost) (map nodeOf nodes) ≡ t || someOff nodes
+    go : (t : Bool) → offNode z ≡ t → anyOf (leb nodesMost) (map nodeOf nodes) ≡ someOff nodes →
+        leb nodesMost (cond t nodesMost (natAbs z)) || anyOf (leb nodesMost) (map nodeOf nodes) ≡ t || someOff nodes
     go true e next = refl
     go false e next = rw (lt-leb _ _ (on-node z e), next)
 
@@ -89,7 +92,9 @@ pub on-same : (nodes : List ℤ) → someOff nodes ≡ false → map nodeOf node
 on-same [] e = refl
 on-same (z ∷ nodes) e = go (offNode z) refl e (λ h. on-same nodes h)
   where
-    go : (t : Bool) → offNode z ≡ t → t || someOff nodes ≡ false → (someOff nodes ≡ false → map nodeOf nodes ≡ map natAbs nodes) → cond t nodesMost (natAbs z) ∷ map nodeOf nodes ≡ natAbs z ∷ map natAbs nodes
+    go : (t : Bool) → offNode z ≡ t → t || someOff nodes ≡ false →
+        (someOff nodes ≡ false → map nodeOf nodes ≡ map natAbs nodes) →
+        cond t nodesMost (natAbs z) ∷ map nodeOf nodes ≡ natAbs z ∷ map natAbs nodes
     go true p q next = clash (cc)
     go false p q next = ap (λ (l : List ℕ). natAbs z ∷ l) (next q)
 
@@ -98,17 +103,23 @@ size-at [] k = refl
 size-at (z ∷ nodes) zero = refl
 size-at (z ∷ nodes) (suc k) = size-at nodes k
 
-pub then-lastly : {A : Type 0} (found : Found A) (worked : A → WorkedCard) (over : A → Bool) (nodes : List ℤ) (noRoom used : Bool) → placeVerdict found worked over nodes noRoom used ≡ lastly (placing found worked (map nodeOf nodes) noRoom used) over
+pub then-lastly :
+    {A : Type 0} (found : Found A) (worked : A → WorkedCard) (over : A → Bool) (nodes : List ℤ) (noRoom used : Bool) →
+    placeVerdict found worked over nodes noRoom used ≡ lastly (placing found worked (map nodeOf nodes) noRoom used) over
 unfolding placeVerdict placing
 then-lastly none worked over nodes noRoom used = refl
 then-lastly (some a) worked over nodes noRoom used = rw (off-same nodes) (go (someOff nodes) refl)
   where
-    chain : (s r u : Bool) → refuseIf s SplitCollector (refuseIf r NoRoom (refuseIf u NumbersUsedUp (refuseIf (over a) Overload (yes a)))) ≡ lastly (refuseIf s SplitCollector (refuseIf r NoRoom (refuseIf u NumbersUsedUp (yes a)))) over
+    chain : (s r u : Bool) →
+        refuseIf s SplitCollector (refuseIf r NoRoom (refuseIf u NumbersUsedUp (refuseIf (over a) Overload (yes a)))) ≡ lastly (refuseIf s SplitCollector (refuseIf r NoRoom (refuseIf u NumbersUsedUp (yes a)))) over
     chain true r u = refl
     chain false true u = refl
     chain false false true = refl
     chain false false false = refl
 
-    go : (t : Bool) → someOff nodes ≡ t → refuseIf t OutOfRange (refuseIf (worked a .direct && apart nodes) SplitCollector (refuseIf noRoom NoRoom (refuseIf used NumbersUsedUp (refuseIf (over a) Overload (yes a))))) ≡ lastly (refuseIf t OutOfRange (refuseIf (worked a .direct && apartOn (map nodeOf nodes)) SplitCollector (refuseIf noRoom NoRoom (refuseIf used NumbersUsedUp (yes a))))) over
+    go : (t : Bool) → someOff nodes ≡ t →
+        refuseIf t OutOfRange (refuseIf (worked a .direct && apart nodes) SplitCollector (refuseIf noRoom NoRoom (refuseIf used NumbersUsedUp (refuseIf (over a) Overload (yes a))))) ≡ lastly (refuseIf t OutOfRange (refuseIf (worked a .direct && apartOn (map nodeOf nodes)) SplitCollector (refuseIf noRoom NoRoom (refuseIf used NumbersUsedUp (yes a))))) over
     go true e = refl
-    go false e = rw (on-same nodes e, size-at nodes (seatOf C4), size-at nodes (seatOf C1)) (chain (worked a .direct && apart nodes) noRoom used)
+    go false e =
+        rw (on-same nodes e, size-at nodes (seatOf C4), size-at nodes (seatOf C1))
+        (chain (worked a .direct && apart nodes) noRoom used)

@@ -20,14 +20,19 @@ fresh-reached e = (e, record { calls = []; leaves = sym e })
 
 one-more : {b : Board} {r : Answered} (c : Call) → Reached b → r ≡ answered b c → Reached (r .board)
 unfolding boardAfter
-one-more c k e = record { calls = c ∷ k .calls; leaves = ap (λ (b : Board). answered b c .board) (k .leaves) ∙ sym (ap (λ (r : Answered). r .board) e) }
+one-more c k e =
+    record {
+      calls = c ∷ k .calls;
+      leaves = ap (λ (b : Board). answered b c .board) (k .leaves) ∙ sym (ap (λ (r : Answered). r .board) e);
+    }
 
 module _ {b : Board} {r : Answered} (k : Reached b) where
   pub after-load : (name bytes : List ℕ) → r ≡ loadedOf b name bytes → Gives r (loadedOf b name bytes)
   unfolding answered
   after-load name bytes e = (e, one-more (load name bytes) k e)
 
-  pub after-place : (card : ℤ) (nodes : List ℤ) → length nodes ≡ roles → r ≡ placedOf b card nodes → Gives r (placedOf b card nodes)
+  pub after-place : (card : ℤ) (nodes : List ℤ) → length nodes ≡ roles → r ≡ placedOf b card nodes →
+      Gives r (placedOf b card nodes)
   unfolding answered
   after-place card nodes seven e = (e, one-more (place card nodes seven) k e)
 

@@ -42,32 +42,42 @@ module _ (nodes : List ℕ) (n : ℕ) where
   spread-nothing zero = refl
   spread-nothing (suc k) = rw (spread-nothing k, nothing-at (eqb (getD nodes k 0) n))
 
-  spread-both : (f g : ℕ → ℤ) (k : ℕ) → spread nodes (λ (r : ℕ). f r +ℤ g r) k n ≡ spread nodes f k n +ℤ spread nodes g k n
+  spread-both : (f g : ℕ → ℤ) (k : ℕ) →
+      spread nodes (λ (r : ℕ). f r +ℤ g r) k n ≡ spread nodes f k n +ℤ spread nodes g k n
   unfolding spread
   spread-both f g zero = refl
-  spread-both f g (suc k) = rw (spread-both f g k, both-at (eqb (getD nodes k 0) n) (f k) (g k)) (swap-inner (spread nodes f k n) (spread nodes g k n) _ _)
+  spread-both f g (suc k) =
+      rw (spread-both f g k, both-at (eqb (getD nodes k 0) n) (f k) (g k))
+      (swap-inner (spread nodes f k n) (spread nodes g k n) _ _)
 
   spread-less : (f : ℕ → ℤ) (k : ℕ) → spread nodes (λ (r : ℕ). negℤ (f r)) k n ≡ negℤ (spread nodes f k n)
   unfolding spread
   spread-less f zero = refl
-  spread-less f (suc k) = rw (spread-less f k, turned (eqb (getD nodes k 0) n) (f k)) (sym (negℤ-+ℤ (spread nodes f k n) _))
+  spread-less f (suc k) =
+      rw (spread-less f k, turned (eqb (getD nodes k 0) n) (f k)) (sym (negℤ-+ℤ (spread nodes f k n) _))
 
   -- what one role has goes to its node
   spread-away : (r : ℕ) (x : ℤ) (k : ℕ) → k ≤ r → spread nodes (λ (j : ℕ). atNode r j x) k n ≡ pos 0
   unfolding spread
   spread-away r x zero h = refl
-  spread-away r x (suc k) h = rw (spread-away r x k (omega arith), ne-eqb r k (λ q. omega arith), nothing-at (eqb (getD nodes k 0) n))
+  spread-away r x (suc k) h =
+      rw (spread-away r x k (omega arith), ne-eqb r k (λ q. omega arith), nothing-at (eqb (getD nodes k 0) n))
 
-  spread-one : (r : ℕ) (x : ℤ) (k : ℕ) → r < k → spread nodes (λ (j : ℕ). atNode r j x) k n ≡ atNode (getD nodes r 0) n x
+  spread-one : (r : ℕ) (x : ℤ) (k : ℕ) → r < k →
+      spread nodes (λ (j : ℕ). atNode r j x) k n ≡ atNode (getD nodes r 0) n x
   unfolding spread
   spread-one r x zero h = absurd (omega arith)
   spread-one r x (suc k) h = go (eqb r k) refl (λ q. spread-one r x k q)
     where
-      go : (t : Bool) → eqb r k ≡ t → (r < k → spread nodes (λ (j : ℕ). atNode r j x) k n ≡ atNode (getD nodes r 0) n x) → spread nodes (λ (j : ℕ). atNode r j x) k n +ℤ atNode (getD nodes k 0) n (cond t x (pos 0)) ≡ atNode (getD nodes r 0) n x
+      go : (t : Bool) → eqb r k ≡ t →
+          (r < k → spread nodes (λ (j : ℕ). atNode r j x) k n ≡ atNode (getD nodes r 0) n x) →
+          spread nodes (λ (j : ℕ). atNode r j x) k n +ℤ atNode (getD nodes k 0) n (cond t x (pos 0)) ≡ atNode (getD nodes r 0) n x
       go true e next = let same = eqb-true r k e in rw (spread-away r x k (omega arith), same) (+ℤ-idl _)
-      go false e next = let other = eqb-false r k e in rw (next (omega arith), nothing-at (eqb (getD nodes k 0) n)) (+ℤ-idr _)
+      go false e next =
+          let other = eqb-false r k e in rw (next (omega arith), nothing-at (eqb (getD nodes k 0) n)) (+ℤ-idr _)
 
-  spread-ends : (f t : ℕ) (x : ℤ) → f < roles → t < roles → spread nodes (ends f t x) roles n ≡ ends (getD nodes f 0) (getD nodes t 0) x n
+  spread-ends : (f t : ℕ) (x : ℤ) → f < roles → t < roles →
+      spread nodes (ends f t x) roles n ≡ ends (getD nodes f 0) (getD nodes t 0) x n
   spread-ends f t x h j =
       spread-both (λ (r : ℕ). atNode f r x) (λ (r : ℕ). negℤ (atNode t r x)) roles
       ∙ rw (spread-one f x roles h, spread-less (λ (r : ℕ). atNode t r x) roles, spread-one t x roles j)
@@ -76,7 +86,9 @@ module _ (nodes : List ℕ) (n : ℕ) where
   abbrev nodesOf : List ℕ → List ℕ
   nodesOf roles = map (λ (r : ℕ). getD nodes r 0) roles
 
-  spread-branches : (froms tos : List ℕ) (ticks : List ℤ) → Wired roles froms → Wired roles tos → (k : ℕ) → k ≤ length froms → k ≤ length tos → spread nodes (endsGive froms tos ticks k) roles n ≡ endsGive (nodesOf froms) (nodesOf tos) ticks k n
+  spread-branches : (froms tos : List ℕ) (ticks : List ℤ) → Wired roles froms → Wired roles tos → (k : ℕ) →
+      k ≤ length froms → k ≤ length tos →
+      spread nodes (endsGive froms tos ticks k) roles n ≡ endsGive (nodesOf froms) (nodesOf tos) ticks k n
   unfolding endsGive
   spread-branches froms tos ticks u v zero h j = spread-nothing roles
   spread-branches froms tos ticks u v (suc k) h j =
@@ -89,7 +101,8 @@ module _ (nodes : List ℕ) (n : ℕ) where
 turned-ends : (a b : ℤ) → b -ℤ a ≡ negℤ (a -ℤ b)
 turned-ends a b = +ℤ-comm b (negℤ a) ∙ ap (λ (z : ℤ). negℤ a +ℤ z) (sym (negℤ-negℤ b)) ∙ sym (negℤ-+ℤ a (negℤ b))
 
-ends-turned : (froms tos : List ℕ) (ticks : List ℤ) (k n : ℕ) → endsGive tos froms ticks k n ≡ negℤ (endsGive froms tos ticks k n)
+ends-turned : (froms tos : List ℕ) (ticks : List ℤ) (k n : ℕ) →
+    endsGive tos froms ticks k n ≡ negℤ (endsGive froms tos ticks k n)
 unfolding endsGive
 ends-turned froms tos ticks zero n = refl
 ends-turned froms tos ticks (suc k) n =
@@ -99,7 +112,8 @@ ends-turned froms tos ticks (suc k) n =
     ∙ sym (negℤ-+ℤ (endsGive froms tos ticks k n) (ends (getD froms k 0) (getD tos k 0) x n))
 
 -- the first branch before the others
-ends-first : (f t : ℕ) (froms tos : List ℕ) (x : ℤ) (ticks : List ℤ) (k n : ℕ) → endsGive (f ∷ froms) (t ∷ tos) (x ∷ ticks) (suc k) n ≡ ends f t x n +ℤ endsGive froms tos ticks k n
+ends-first : (f t : ℕ) (froms tos : List ℕ) (x : ℤ) (ticks : List ℤ) (k n : ℕ) →
+    endsGive (f ∷ froms) (t ∷ tos) (x ∷ ticks) (suc k) n ≡ ends f t x n +ℤ endsGive froms tos ticks k n
 unfolding endsGive
 ends-first f t froms tos x ticks zero n = +ℤ-idl (ends f t x n) ∙ sym (+ℤ-idr (ends f t x n))
 ends-first f t froms tos x ticks (suc k) n =
@@ -108,7 +122,8 @@ ends-first f t froms tos x ticks (suc k) n =
 
 -- so that branches between the ends of rows give what the rows give
 module _ (nodes : List ℕ) (n : ℕ) where
-  ends-are-rows : (rows : List Row) (ticks : List ℤ) → length ticks ≡ length rows → endsGive (nodesOf nodes n (fromsOf rows)) (nodesOf nodes n (tosOf rows)) ticks (length rows) n ≡ rowsGive rows nodes ticks n
+  ends-are-rows : (rows : List Row) (ticks : List ℤ) → length ticks ≡ length rows →
+      endsGive (nodesOf nodes n (fromsOf rows)) (nodesOf nodes n (tosOf rows)) ticks (length rows) n ≡ rowsGive rows nodes ticks n
   unfolding endsGive rowsGive
   ends-are-rows [] ticks h = refl
   ends-are-rows (r ∷ rows) [] h = absurd (omega arith)
@@ -144,7 +159,8 @@ wired-tos rows = wired-by (λ (r : Row). r .to) rows
 
 -- any rows
 module _ (rows : List Row) (nodes : List ℕ) (ticks : List ℤ) (n : ℕ) (h : length ticks ≡ length rows) where
-  by-roles : (from to : Row → Role) → spread nodes (endsGive (map (λ (r : Row). seatOf (from r)) rows) (map (λ (r : Row). seatOf (to r)) rows) ticks (length rows)) roles n ≡ endsGive (nodesOf nodes n (map (λ (r : Row). seatOf (from r)) rows)) (nodesOf nodes n (map (λ (r : Row). seatOf (to r)) rows)) ticks (length rows) n
+  by-roles : (from to : Row → Role) →
+      spread nodes (endsGive (map (λ (r : Row). seatOf (from r)) rows) (map (λ (r : Row). seatOf (to r)) rows) ticks (length rows)) roles n ≡ endsGive (nodesOf nodes n (map (λ (r : Row). seatOf (from r)) rows)) (nodesOf nodes n (map (λ (r : Row). seatOf (to r)) rows)) ticks (length rows) n
   by-roles from to =
       spread-branches nodes n _ _ ticks (wired-by from rows) (wired-by to rows) (length rows)
       (le-of-eq (sym (length-map rows _))) (le-of-eq (sym (length-map rows _)))
@@ -172,9 +188,14 @@ module _ (froms tos : List ℕ) (ticks a : List ℤ) (more : More roles (replica
   pub amounts-within : Within tickLimit ticks → Within flowMost a
   amounts-within w = record { within = room-more room-nothing more (ends-small froms tos ticks w branches) .within }
 
-  pub amounts-out : (nodes : List ℕ) {l l′ : List ℤ} → More nodesMost l l′ (spread nodes (λ (k : ℕ). getD a k (pos 0)) roles) → More nodesMost l l′ (rolesGive nodes froms tos ticks)
+  pub amounts-out : (nodes : List ℕ) {l l′ : List ℤ} →
+      More nodesMost l l′ (spread nodes (λ (k : ℕ). getD a k (pos 0)) roles) →
+      More nodesMost l l′ (rolesGive nodes froms tos ticks)
   amounts-out nodes {l} m =
       record {
         long = m .long;
-        at = λ n h. m .at n h ∙ ap (λ (z : ℤ). getD l n (pos 0) +ℤ z) (spread-same nodes n _ _ roles (λ r k. more .at r k ∙ rw (nothing-yet roles r) (+ℤ-idl _)));
+        at =
+            λ n h. m .at n h
+            ∙ ap (λ (z : ℤ). getD l n (pos 0) +ℤ z)
+            (spread-same nodes n _ _ roles (λ r k. more .at r k ∙ rw (nothing-yet roles r) (+ℤ-idl _)));
       }

@@ -65,7 +65,8 @@ module _ {A : Type 0} {p : A → Bool} {l : List A} where
   pub among-none : AnyAmong p l 0 false
   among-none = record { with-rest = refl }
 
-  pub among-more : {i : ℕ} {b : Bool} (d : A) → i < length l → (c : Bool) → c ≡ p (getD l i d) → AnyAmong p l i b → AnyAmong p l (i + 1) (b || c)
+  pub among-more : {i : ℕ} {b : Bool} (d : A) → i < length l → (c : Bool) → c ≡ p (getD l i d) → AnyAmong p l i b →
+      AnyAmong p l (i + 1) (b || c)
   unfolding anyOf
   among-more {i} {b} d h c e s =
       let a : anyOf p (drop i l) ≡ c || anyOf p (drop (suc i) l) = rw (drop-cons l i d h, e) in
@@ -75,7 +76,8 @@ module _ {A : Type 0} {p : A → Bool} {l : List A} where
       joined true y z = refl
       joined false y z = refl
 
-  pub among-quiet : {i : ℕ} {b : Bool} (d : A) → i < length l → p (getD l i d) ≡ false → AnyAmong p l i b → AnyAmong p l (i + 1) b
+  pub among-quiet : {i : ℕ} {b : Bool} (d : A) → i < length l → p (getD l i d) ≡ false → AnyAmong p l i b →
+      AnyAmong p l (i + 1) b
   unfolding anyOf
   among-quiet {i} {b} d h e s =
       let a : anyOf p (drop i l) ≡ anyOf p (drop (suc i) l) = rw (drop-cons l i d h, e) in
@@ -109,7 +111,8 @@ place-is most i h = go (ltb i most) refl
     go false e = let k = ltb-false i most e in omega arith
 
 -- the highest issue of a name among the places from i - 1 on, by that among those from i on
-pub highest-more : (name : List ℕ) (l : List Card) (i : ℕ) → 0 < i → i ≤ length l → highestAt name (drop (i - 1) l) ≡ larger (cond (same (getD l (i - 1) noCard .name) name) (getD l (i - 1) noCard .issue) 0) (highestAt name (drop i l))
+pub highest-more : (name : List ℕ) (l : List Card) (i : ℕ) → 0 < i → i ≤ length l →
+    highestAt name (drop (i - 1) l) ≡ larger (cond (same (getD l (i - 1) noCard .name) name) (getD l (i - 1) noCard .issue) 0) (highestAt name (drop i l))
 unfolding highestAt
 highest-more name l zero z h = absurd (omega arith)
 highest-more name l (suc i) z h =
@@ -129,7 +132,8 @@ module _ {A B : Type 0} {f : A → B} {a : A} {b : B} {l : List A} where
   pub filled-none : {r : List B} → length r ≡ length l → Filled f a b l 0 r
   filled-none h = record { long = h; at = λ i k. absurd (omega arith) }
 
-  pub filled-more : {r : List B} {k : ℕ} (v : B) → k < length l → v ≡ f (getD l k a) → Filled f a b l k r → Filled f a b l (k + 1) (set r k v)
+  pub filled-more : {r : List B} {k : ℕ} (v : B) → k < length l → v ≡ f (getD l k a) → Filled f a b l k r →
+      Filled f a b l (k + 1) (set r k v)
   filled-more {r} {k} v h e s = record { long = length-set r k v ∙ s .long; at = λ i q. go i q (eqb i k) refl }
     where
       go : (i : ℕ) → i < k + 1 → (t : Bool) → eqb i k ≡ t → getD (set r k v) i b ≡ f (getD l i a)

@@ -35,8 +35,11 @@ use Rattle.board.proofs.Follows.{stands-after, totals-follow}
 
 -- ---- each total is the sum over the transistors standing
 
-pub totals-are-sums : (calls : List Call) (n : ℕ) → n < nodesMost → getD (boardAfter calls .totals) n (pos 0) ≡ total (after calls) n
-totals-are-sums calls n h = totals-follow (boardAfter calls) (after calls) (invariant-after calls) (orderly-after calls) (stands-after calls) n h
+pub totals-are-sums : (calls : List Call) (n : ℕ) → n < nodesMost →
+    getD (boardAfter calls .totals) n (pos 0) ≡ total (after calls) n
+totals-are-sums calls n h =
+    totals-follow (boardAfter calls) (after calls) (invariant-after calls) (orderly-after calls) (stands-after calls)
+    n h
 
 -- ---- and counts for something: whatever stands has its currents
 
@@ -45,7 +48,8 @@ not-over Within e = refl
 not-over (Ticks k) e = clash (cc)
 not-over (Injection k) e = clash (cc)
 
-pub none-overloads : {b : Board} → Reached b → (i : ℕ) → (getD (b .transistors) i noTransistor .issue ≡ 0 → ⊥) → outcomeOf (workedAt (b .cards) (getD (b .transistors) i noTransistor .«card_place»)) (rolesAt (voltsOf b) (getD (b .transistors) i noTransistor .nodes)) .over ≡ Within
+pub none-overloads : {b : Board} → Reached b → (i : ℕ) → (getD (b .transistors) i noTransistor .issue ≡ 0 → ⊥) →
+    outcomeOf (workedAt (b .cards) (getD (b .transistors) i noTransistor .«card_place»)) (rolesAt (voltsOf b) (getD (b .transistors) i noTransistor .nodes)) .over ≡ Within
 unfolding overloads
 none-overloads r i h = not-over _ (invariant r .transistor i h .quiet)
 
@@ -56,10 +60,13 @@ unfolding sumOver
 sumAll l = sumOver (λ (x : ℤ). x) l
 
 -- a table of sums is summed part by part
-sum-both : (f g : ℕ → ℤ) (k : ℕ) → sumAll (tabulate (λ (n : ℕ). f n +ℤ g n) k) ≡ sumAll (tabulate f k) +ℤ sumAll (tabulate g k)
+sum-both : (f g : ℕ → ℤ) (k : ℕ) →
+    sumAll (tabulate (λ (n : ℕ). f n +ℤ g n) k) ≡ sumAll (tabulate f k) +ℤ sumAll (tabulate g k)
 unfolding tabulate sumOver sumAll
 sum-both f g zero = refl
-sum-both f g (suc k) = ap (λ (z : ℤ). (f 0 +ℤ g 0) +ℤ z) (sum-both (λ (n : ℕ). f (suc n)) (λ (n : ℕ). g (suc n)) k) ∙ swap-inner (f 0) (g 0) _ _
+sum-both f g (suc k) =
+    ap (λ (z : ℤ). (f 0 +ℤ g 0) +ℤ z) (sum-both (λ (n : ℕ). f (suc n)) (λ (n : ℕ). g (suc n)) k)
+    ∙ swap-inner (f 0) (g 0) _ _
 
 sum-zeros : (f : ℕ → ℤ) (k : ℕ) → ((n : ℕ) → f n ≡ pos 0) → sumAll (tabulate f k) ≡ pos 0
 unfolding tabulate sumOver sumAll
@@ -70,8 +77,11 @@ sum-zeros f (suc k) h = rw (h 0) (+ℤ-idl _ ∙ sum-zeros (λ (n : ℕ). f (suc
 sum-node : (m k : ℕ) (x : ℤ) → m < k → sumAll (tabulate (λ (n : ℕ). atNode m n x) k) ≡ x
 unfolding tabulate sumOver sumAll
 sum-node m zero x h = absurd (omega arith)
-sum-node zero (suc k) x h = ap (λ (z : ℤ). x +ℤ z) (sum-zeros (λ (n : ℕ). atNode 0 (suc n) x) k (λ n. rw (eqb·zero-suc n))) ∙ +ℤ-idr x
-sum-node (suc m) (suc k) x h = rw (eqb·suc-zero m) (+ℤ-idl _ ∙ ap (sumAll) (tabulate-same _ _ k (λ n p. rw (eqb·suc-suc m n))) ∙ sum-node m k x (omega arith))
+sum-node zero (suc k) x h =
+    ap (λ (z : ℤ). x +ℤ z) (sum-zeros (λ (n : ℕ). atNode 0 (suc n) x) k (λ n. rw (eqb·zero-suc n))) ∙ +ℤ-idr x
+sum-node (suc m) (suc k) x h =
+    rw (eqb·suc-zero m)
+    (+ℤ-idl _ ∙ ap (sumAll) (tabulate-same _ _ k (λ n p. rw (eqb·suc-suc m n))) ∙ sum-node m k x (omega arith))
 
 -- a branch takes from one node what it gives to another
 sum-ends : (a b k : ℕ) (x : ℤ) → a < k → b < k → sumAll (tabulate (λ (n : ℕ). atNode a n x -ℤ atNode b n x) k) ≡ pos 0
@@ -80,7 +90,8 @@ sum-ends a b k x h j =
     ∙ sum-both (λ (n : ℕ). atNode a n x) (λ (n : ℕ). atNode b n (negℤ x)) k
     ∙ rw (sum-node a k x h, sum-node b k (negℤ x) j) (+ℤ-invr x)
 
-sum-rows : (rows : List Row) (nodes : List ℕ) (ticks : List ℤ) → ((k : ℕ) → getD nodes k 0 < nodesMost) → sumAll (tabulate (λ (n : ℕ). rowsGive rows nodes ticks n) nodesMost) ≡ pos 0
+sum-rows : (rows : List Row) (nodes : List ℕ) (ticks : List ℤ) → ((k : ℕ) → getD nodes k 0 < nodesMost) →
+    sumAll (tabulate (λ (n : ℕ). rowsGive rows nodes ticks n) nodesMost) ≡ pos 0
 unfolding rowsGive
 sum-rows [] nodes ticks h = sum-zeros _ nodesMost (λ n. refl)
 sum-rows (r ∷ rs) nodes [] h = sum-zeros _ nodesMost (λ n. refl)
@@ -88,19 +99,25 @@ sum-rows (r ∷ rs) nodes (x ∷ xs) h =
     sum-both (λ (n : ℕ). atNode (getD nodes (seatOf (r .from)) 0) n x -ℤ atNode (getD nodes (seatOf (r .to)) 0) n x) (λ (n : ℕ). rowsGive rs nodes xs n) nodesMost
     ∙ rw (sum-ends (getD nodes (seatOf (r .from)) 0) (getD nodes (seatOf (r .to)) 0) nodesMost x (h _) (h _), sum-rows rs nodes xs h)
 
-sum-flow : (c : WorkedCard) (nodes : List ℕ) (volts : List ℤ) → ((k : ℕ) → getD nodes k 0 < nodesMost) → sumAll (tabulate (λ (n : ℕ). flow c nodes volts n) nodesMost) ≡ pos 0
+sum-flow : (c : WorkedCard) (nodes : List ℕ) (volts : List ℤ) → ((k : ℕ) → getD nodes k 0 < nodesMost) →
+    sumAll (tabulate (λ (n : ℕ). flow c nodes volts n) nodesMost) ≡ pos 0
 unfolding flow
 sum-flow c nodes volts h = sum-rows (rowsFor (c .exsub)) nodes (outcomeOf c (rolesAt volts nodes) .ticks) h
 
-sum-place : (cards : List Card) (volts : List ℤ) (t : Transistor) → ((t .issue ≡ 0 → ⊥) → (k : ℕ) → getD (t .nodes) k 0 < nodesMost) → sumAll (tabulate (λ (n : ℕ). placeGives cards volts n t) nodesMost) ≡ pos 0
+sum-place : (cards : List Card) (volts : List ℤ) (t : Transistor) →
+    ((t .issue ≡ 0 → ⊥) → (k : ℕ) → getD (t .nodes) k 0 < nodesMost) →
+    sumAll (tabulate (λ (n : ℕ). placeGives cards volts n t) nodesMost) ≡ pos 0
 unfolding placeGives
 sum-place cards volts t h = go (eqb (t .issue) 0) refl
   where
-    go : (u : Bool) → eqb (t .issue) 0 ≡ u → sumAll (tabulate (λ (n : ℕ). cond u (pos 0) (flow (workedAt cards (t .«card_place»)) (t .nodes) volts n)) nodesMost) ≡ pos 0
+    go : (u : Bool) → eqb (t .issue) 0 ≡ u →
+        sumAll (tabulate (λ (n : ℕ). cond u (pos 0) (flow (workedAt cards (t .«card_place»)) (t .nodes) volts n)) nodesMost) ≡ pos 0
     go true e = sum-zeros (λ (n : ℕ). pos 0) nodesMost (λ n. refl)
     go false e = sum-flow (workedAt cards (t .«card_place»)) (t .nodes) volts (h (eqb-false (t .issue) 0 e))
 
-sum-places : (cards : List Card) (volts : List ℤ) (ts : List Transistor) → ((i : ℕ) → (getD ts i noTransistor .issue ≡ 0 → ⊥) → (k : ℕ) → getD (getD ts i noTransistor .nodes) k 0 < nodesMost) → sumAll (tabulate (λ (n : ℕ). sumOver (placeGives cards volts n) ts) nodesMost) ≡ pos 0
+sum-places : (cards : List Card) (volts : List ℤ) (ts : List Transistor) →
+    ((i : ℕ) → (getD ts i noTransistor .issue ≡ 0 → ⊥) → (k : ℕ) → getD (getD ts i noTransistor .nodes) k 0 < nodesMost) →
+    sumAll (tabulate (λ (n : ℕ). sumOver (placeGives cards volts n) ts) nodesMost) ≡ pos 0
 unfolding sumOver
 sum-places cards volts [] h = sum-zeros _ nodesMost (λ n. refl)
 sum-places cards volts (t ∷ ts) h =
@@ -109,7 +126,9 @@ sum-places cards volts (t ∷ ts) h =
 
 pub totals-add-to-zero : {b : Board} → Reached b → sumAll (b .totals) ≡ pos 0
 unfolding totalsOf
-totals-add-to-zero {b} r = rw (invariant r .balanced) (sum-places (b .cards) (voltsOf b) (b .transistors) (λ i h. invariant r .transistor i h .wired))
+totals-add-to-zero {b} r =
+    rw (invariant r .balanced)
+    (sum-places (b .cards) (voltsOf b) (b .transistors) (λ i h. invariant r .transistor i h .wired))
 
 -- ---- the same transistors on the same cards and nodes, at the same voltages
 
@@ -130,13 +149,15 @@ sum-map f g [] = refl
 sum-map f g (a ∷ rest) = ap (λ (z : ℤ). f (g a) +ℤ z) (sum-map f g rest)
 
 -- a node's sum, by what each counts by
-sum-fitted : (b : Board) (n : ℕ) → sumOver (placeGives (b .cards) (voltsOf b) n) (b .transistors) ≡ sumOver (λ (f : Fitted). flow (f .worked) (f .nodes) (voltsOf b) n) (fittedIn b)
+sum-fitted : (b : Board) (n : ℕ) →
+    sumOver (placeGives (b .cards) (voltsOf b) n) (b .transistors) ≡ sumOver (λ (f : Fitted). flow (f .worked) (f .nodes) (voltsOf b) n) (fittedIn b)
 unfolding placeGives
 sum-fitted b n =
     sym (sum-occupied (λ (t : Transistor). t .issue) (standingOf (b .cards)) (λ (t : Standing). flow (t .worked) (t .nodes) (voltsOf b) n) (b .transistors))
     ∙ sym (sum-map (λ (f : Fitted). flow (f .worked) (f .nodes) (voltsOf b) n) fittedOf (standingIn (b .cards) (b .transistors)))
 
-pub same-standing-same-totals : {b c : Board} → Reached b → Reached c → Perm (fittedIn b) (fittedIn c) → voltsOf b ≡ voltsOf c → b .totals ≡ c .totals
+pub same-standing-same-totals : {b c : Board} → Reached b → Reached c → Perm (fittedIn b) (fittedIn c) →
+    voltsOf b ≡ voltsOf c → b .totals ≡ c .totals
 unfolding totalsOf
 same-standing-same-totals {b} {c} r s p e =
     invariant r .balanced
@@ -145,7 +166,8 @@ same-standing-same-totals {b} {c} r s p e =
 
 -- ---- sizes: a row counts at most once at a node
 
-small-rows : (rows : List Row) (nodes : List ℕ) (ticks : List ℤ) (n most : ℕ) → ((k : ℕ) → natAbs (getD ticks k (pos 0)) ≤ most) → natAbs (rowsGive rows nodes ticks n) ≤ length rows * most
+small-rows : (rows : List Row) (nodes : List ℕ) (ticks : List ℤ) (n most : ℕ) →
+    ((k : ℕ) → natAbs (getD ticks k (pos 0)) ≤ most) → natAbs (rowsGive rows nodes ticks n) ≤ length rows * most
 unfolding rowsGive
 small-rows [] nodes ticks n most h = zero-le
 small-rows (r ∷ rs) nodes [] n most h = zero-le
@@ -160,9 +182,12 @@ small-rows (r ∷ rs) nodes (x ∷ xs) n most h =
 
 pub small-flow : (c : WorkedCard) (nodes : List ℕ) (volts : List ℤ) (n : ℕ) → natAbs (flow c nodes volts n) ≤ flowMost
 unfolding flow
-small-flow c nodes volts n = small-rows (rowsFor (c .exsub)) nodes (outcomeOf c (rolesAt volts nodes) .ticks) n tickLimit (ticks-small c (rolesAt volts nodes))
+small-flow c nodes volts n =
+    small-rows (rowsFor (c .exsub)) nodes (outcomeOf c (rolesAt volts nodes) .ticks) n tickLimit
+    (ticks-small c (rolesAt volts nodes))
 
-pub small-place : (cards : List Card) (volts : List ℤ) (n : ℕ) (t : Transistor) → natAbs (placeGives cards volts n t) ≤ flowMost
+pub small-place : (cards : List Card) (volts : List ℤ) (n : ℕ) (t : Transistor) →
+    natAbs (placeGives cards volts n t) ≤ flowMost
 unfolding placeGives
 small-place cards volts n t = go (eqb (t .issue) 0)
   where
@@ -170,7 +195,8 @@ small-place cards volts n t = go (eqb (t .issue) 0)
     go true = zero-le
     go false = small-flow (workedAt cards (t .«card_place»)) (t .nodes) volts n
 
-pub small-sum : {A : Type 0} (f : A → ℤ) (most : ℕ) → ((a : A) → natAbs (f a) ≤ most) → (l : List A) → natAbs (sumOver f l) ≤ length l * most
+pub small-sum : {A : Type 0} (f : A → ℤ) (most : ℕ) → ((a : A) → natAbs (f a) ≤ most) → (l : List A) →
+    natAbs (sumOver f l) ≤ length l * most
 unfolding sumOver
 small-sum f most h [] = zero-le
 small-sum f most h (a ∷ rest) =

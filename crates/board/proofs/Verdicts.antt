@@ -21,7 +21,8 @@ use Rattle.branch.specs.Currents.{offVolts}
 use Rattle.board.proofs.Integers.{clash}
 
 -- a test that a taken call went through
-passes : {A : Type 0} (t : Bool) (f : Refusal) (v : Verdict A) {a : A} → refuseIf t f v ≡ yes a → (t ≡ false) × (v ≡ yes a)
+passes : {A : Type 0} (t : Bool) (f : Refusal) (v : Verdict A) {a : A} → refuseIf t f v ≡ yes a →
+    (t ≡ false) × (v ≡ yes a)
 passes true f v e = clash (cc)
 passes false f v e = (refl, e)
 
@@ -30,13 +31,16 @@ pub record Loads (bytes : List ℕ) (noRoom used : Bool) (c : WorkedCard) : Type
   pub room : noRoom ≡ false
   pub number : used ≡ false
 
-pub loads : (name : List ℕ) {bytes : List ℕ} {noRoom used : Bool} {c : WorkedCard} → loadVerdict name bytes noRoom used ≡ yes c → Loads bytes noRoom used c
+pub loads : (name : List ℕ) {bytes : List ℕ} {noRoom used : Bool} {c : WorkedCard} →
+    loadVerdict name bytes noRoom used ≡ yes c → Loads bytes noRoom used c
 unfolding loadVerdict
 loads name {bytes} {noRoom} {used} {c} e =
     let p = passes (not (rightLength bytes)) _ _ e .1 in
     let q = passes (not (asked name)) _ _ p .1 in go (judgeOf bytes) refl q
   where
-    go : (j : Judged) → judgeOf bytes ≡ j → andThen (judgedCard j) (λ (d : WorkedCard). refuseIf noRoom NoRoom (refuseIf used NumbersUsedUp (yes d))) ≡ yes c → Loads bytes noRoom used c
+    go : (j : Judged) → judgeOf bytes ≡ j →
+        andThen (judgedCard j) (λ (d : WorkedCard). refuseIf noRoom NoRoom (refuseIf used NumbersUsedUp (yes d))) ≡ yes c →
+        Loads bytes noRoom used c
     go (judged.Refused f) j h = clash (cc)
     go (judged.Card d) j h =
         let r = passes noRoom _ _ h in
@@ -51,7 +55,9 @@ pub record Places {A : Type 0} (found : Found A) (worked : A → WorkedCard) (ov
   pub number : used ≡ false
   pub quiet : over a ≡ false
 
-pub places : {A : Type 0} (found : Found A) {worked : A → WorkedCard} {over : A → Bool} {nodes : List ℤ} {noRoom used : Bool} {a : A} → placeVerdict found worked over nodes noRoom used ≡ yes a → Places found worked over nodes noRoom used a
+pub places :
+    {A : Type 0} (found : Found A) {worked : A → WorkedCard} {over : A → Bool} {nodes : List ℤ} {noRoom used : Bool} {a : A} →
+    placeVerdict found worked over nodes noRoom used ≡ yes a → Places found worked over nodes noRoom used a
 unfolding placeVerdict
 places none e = clash (cc)
 places (some b) {worked} {over} {nodes} {noRoom} {used} {a} e =
@@ -85,7 +91,8 @@ pub record Withdraws {A : Type 0} (found : Found A) (inUse : A → Bool) (a : A)
   pub there : found ≡ some a
   pub unused : inUse a ≡ false
 
-pub withdraws : {A : Type 0} (found : Found A) {inUse : A → Bool} {a : A} → withdrawVerdict found inUse ≡ yes a → Withdraws found inUse a
+pub withdraws : {A : Type 0} (found : Found A) {inUse : A → Bool} {a : A} → withdrawVerdict found inUse ≡ yes a →
+    Withdraws found inUse a
 unfolding withdrawVerdict
 withdraws none e = clash (cc)
 withdraws (some b) {inUse} {a} e =

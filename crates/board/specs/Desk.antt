@@ -136,7 +136,9 @@ loaded d name (no f) = refuse d f
 loaded d name (yes c) =
     record {
       reply = issued (d .next);
-      desk = record { cards = record { issue = d .next; name = padded name; worked = c } ∷ d .cards; standing = d .standing; volts = d .volts; next = suc (d .next) };
+      desk =
+          record
+          { cards = record { issue = d .next; name = padded name; worked = c } ∷ d .cards; standing = d .standing; volts = d .volts; next = suc (d .next) };
     }
 
 -- a new transistor, which keeps the card as it is now
@@ -145,20 +147,46 @@ placed d nodes (no f) = refuse d f
 placed d nodes (yes h) =
     record {
       reply = issued (d .next);
-      desk = record { cards = d .cards; standing = record { issue = d .next; card = h .issue; worked = h .worked; nodes = map natAbs nodes } ∷ d .standing; volts = d .volts; next = suc (d .next) };
+      desk =
+          record
+          { cards = d .cards; standing = record { issue = d .next; card = h .issue; worked = h .worked; nodes = map natAbs nodes } ∷ d .standing; volts = d .volts; next = suc (d .next) };
     }
 
 abbrev pub moved : Desk → ℤ → Verdict ℕ → Step
 moved d v (no f) = refuse d f
-moved d v (yes n) = record { reply = done; desk = record { cards = d .cards; standing = d .standing; volts = set (d .volts) n v; next = d .next } }
+moved d v (yes n) =
+    record {
+      reply = done;
+      desk = record { cards = d .cards; standing = d .standing; volts = set (d .volts) n v; next = d .next };
+    }
 
 abbrev pub lifted : Desk → Verdict Standing → Step
 lifted d (no f) = refuse d f
-lifted d (yes t) = record { reply = done; desk = record { cards = d .cards; standing = without (λ (u : Standing). u .issue) (t .issue) (d .standing); volts = d .volts; next = d .next } }
+lifted d (yes t) =
+    record {
+      reply = done;
+      desk =
+          record {
+            cards = d .cards;
+            standing = without (λ (u : Standing). u .issue) (t .issue) (d .standing);
+            volts = d .volts;
+            next = d .next;
+          };
+    }
 
 abbrev pub withdrawn : Desk → Verdict Held → Step
 withdrawn d (no f) = refuse d f
-withdrawn d (yes h) = record { reply = done; desk = record { cards = without (λ (u : Held). u .issue) (h .issue) (d .cards); standing = d .standing; volts = d .volts; next = d .next } }
+withdrawn d (yes h) =
+    record {
+      reply = done;
+      desk =
+          record {
+            cards = without (λ (u : Held). u .issue) (h .issue) (d .cards);
+            standing = d .standing;
+            volts = d .volts;
+            next = d .next;
+          };
+    }
 
 abbrev pub looked : Desk → Verdict ℕ → Step
 looked d (no f) = refuse d f
@@ -196,7 +224,9 @@ abbrev pub mayLift : Desk → ℤ → Verdict Standing
 mayLift d n = liftVerdict (standsAs (issueOf n) (d .standing))
 
 abbrev pub mayWithdraw : Desk → ℤ → Verdict Held
-mayWithdraw d n = withdrawVerdict (heldAs (issueOf n) (d .cards)) (λ (h : Held). anyOf (λ (t : Standing). eqb (t .card) (h .issue)) (d .standing))
+mayWithdraw d n =
+    withdrawVerdict (heldAs (issueOf n) (d .cards))
+    (λ (h : Held). anyOf (λ (t : Standing). eqb (t .card) (h .issue)) (d .standing))
 
 abbrev pub mayLookUp : Desk → List ℕ → Verdict ℕ
 mayLookUp d name = lookVerdict name (highest (padded name) (d .cards))

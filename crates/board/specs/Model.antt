@@ -67,10 +67,12 @@ workedAt cards i = getD cards i noCard .ready .card
 
 -- what a place adds to node n: nothing where it is empty
 unfoldable pub placeGives : List Card → List ℤ → ℕ → Transistor → ℤ
-placeGives cards volts n t = cond (eqb (t .issue) 0) (pos 0) (flow (workedAt cards (t .«card_place»)) (t .nodes) volts n)
+placeGives cards volts n t =
+    cond (eqb (t .issue) 0) (pos 0) (flow (workedAt cards (t .«card_place»)) (t .nodes) volts n)
 
 unfoldable pub placeOverloads : List Card → List ℤ → Transistor → Bool
-placeOverloads cards volts t = cond (eqb (t .issue) 0) false (overloads (workedAt cards (t .«card_place»)) (t .nodes) volts)
+placeOverloads cards volts t =
+    cond (eqb (t .issue) 0) false (overloads (workedAt cards (t .«card_place»)) (t .nodes) volts)
 
 -- f 0, f 1, .., f (n - 1)
 unfoldable pub tabulate : {A : Type 0} → (ℕ → A) → ℕ → List A
@@ -83,7 +85,14 @@ totalsOf cards ts volts = tabulate (λ (n : ℕ). sumOver (placeGives cards volt
 -- ---- the methods
 
 unfoldable pub freshBoard : Board
-freshBoard = record { cards = replicate cardsMost emptyCard; transistors = replicate transistorsMost emptyTransistor; volts = replicate nodesMost (raised (pos 0)); totals = replicate nodesMost (pos 0); next = 1 }
+freshBoard =
+    record {
+      cards = replicate cardsMost emptyCard;
+      transistors = replicate transistorsMost emptyTransistor;
+      volts = replicate nodesMost (raised (pos 0));
+      totals = replicate nodesMost (pos 0);
+      next = 1;
+    }
 
 -- the voltages of a board, which keeps them raised
 abbrev pub voltsOf : Board → List ℤ
@@ -100,10 +109,18 @@ freeTransistor ts = first (isTransistor 0) ts
 
 -- with these transistors at these raised voltages, each total anew
 abbrev pub settledAs : Board → List Transistor → List ℕ → ℕ → Board
-settledAs b ts volts next = record { cards = b .cards; transistors = ts; volts = volts; totals = totalsOf (b .cards) ts (map lowered volts); next = next }
+settledAs b ts volts next =
+    record {
+      cards = b .cards;
+      transistors = ts;
+      volts = volts;
+      totals = totalsOf (b .cards) ts (map lowered volts);
+      next = next;
+    }
 
 abbrev pub withCards : Board → List Card → ℕ → Board
-withCards b cards next = record { cards = cards; transistors = b .transistors; volts = b .volts; totals = b .totals; next = next }
+withCards b cards next =
+    record { cards = cards; transistors = b .transistors; volts = b .volts; totals = b .totals; next = next }
 
 abbrev pub loaded : Board → List ℕ → Verdict WorkedCard → Answered
 loaded b name (no f) = refuse b f
@@ -122,7 +139,8 @@ withTransistor b i nodes =
 
 abbrev pub placed : Board → List ℤ → Verdict ℕ → Answered
 placed b nodes (no f) = refuse b f
-placed b nodes (yes i) = record { board = settledAs b (withTransistor b i nodes) (b .volts) (b .next + 1); answer = Issue (b .next) }
+placed b nodes (yes i) =
+    record { board = settledAs b (withTransistor b i nodes) (b .volts) (b .next + 1); answer = Issue (b .next) }
 
 abbrev pub mayPlace : Board → ℤ → List ℤ → Verdict ℕ
 mayPlace b card nodes =
@@ -133,17 +151,21 @@ placedOf b card nodes = placed b nodes (mayPlace b card nodes)
 
 abbrev pub moved : Board → ℤ → Verdict ℕ → Answered
 moved b v (no f) = refuse b f
-moved b v (yes n) = record { board = settledAs b (b .transistors) (set (b .volts) n (raised v)) (b .next); answer = Done }
+moved b v (yes n) =
+    record { board = settledAs b (b .transistors) (set (b .volts) n (raised v)) (b .next); answer = Done }
 
 abbrev pub mayMove : Board → ℤ → ℤ → Verdict ℕ
-mayMove b n v = moveVerdict n v (anyOf (placeOverloads (b .cards) (map lowered (set (b .volts) (natAbs n) (raised v)))) (b .transistors))
+mayMove b n v =
+    moveVerdict n v
+    (anyOf (placeOverloads (b .cards) (map lowered (set (b .volts) (natAbs n) (raised v)))) (b .transistors))
 
 unfoldable pub movedOf : Board → ℤ → ℤ → Answered
 movedOf b n v = moved b v (mayMove b n v)
 
 abbrev pub lifted : Board → Verdict ℕ → Answered
 lifted b (no f) = refuse b f
-lifted b (yes i) = record { board = settledAs b (set (b .transistors) i emptyTransistor) (b .volts) (b .next); answer = Done }
+lifted b (yes i) =
+    record { board = settledAs b (set (b .transistors) i emptyTransistor) (b .volts) (b .next); answer = Done }
 
 abbrev pub mayLift : Board → ℤ → Verdict ℕ
 mayLift b n = liftVerdict (transistorPlace (issueOf n) (b .transistors))
@@ -160,7 +182,8 @@ abbrev pub standsOn : ℕ → Transistor → Bool
 standsOn n t = cond (eqb (t .issue) 0) false (eqb (t .card) n)
 
 abbrev pub mayWithdraw : Board → ℤ → Verdict ℕ
-mayWithdraw b n = withdrawVerdict (cardPlace (issueOf n) (b .cards)) (λ (i : ℕ). anyOf (standsOn (issueOf n)) (b .transistors))
+mayWithdraw b n =
+    withdrawVerdict (cardPlace (issueOf n) (b .cards)) (λ (i : ℕ). anyOf (standsOn (issueOf n)) (b .transistors))
 
 unfoldable pub withdrawnOf : Board → ℤ → Answered
 withdrawnOf b n = withdrawn b (mayWithdraw b n)

@@ -22,7 +22,8 @@ abbrev pub heldOf : Card → Held
 heldOf c = record { issue = c .issue; name = c .name; worked = c .ready .card }
 
 abbrev pub standingOf : List Card → Transistor → Standing
-standingOf cards t = record { issue = t .issue; card = t .card; worked = workedAt cards (t .«card_place»); nodes = t .nodes }
+standingOf cards t =
+    record { issue = t .issue; card = t .card; worked = workedAt cards (t .«card_place»); nodes = t .nodes }
 
 -- the cards and the transistors of a board
 abbrev pub heldIn : List Card → List Held

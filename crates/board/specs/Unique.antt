@@ -19,10 +19,12 @@ module _ (b : Board) {r s : Answered} where
   pub unique-load : (name bytes : List ℕ) → Allows (loadedOf b name bytes) r → Allows (loadedOf b name bytes) s → r ≡ s
   unique-load name bytes p q = unique-by-equation (p .0) (q .0)
 
-  pub unique-place : (card : ℤ) (nodes : List ℤ) → Allows (placedOf b card nodes) r → Allows (placedOf b card nodes) s → r ≡ s
+  pub unique-place : (card : ℤ) (nodes : List ℤ) → Allows (placedOf b card nodes) r →
+      Allows (placedOf b card nodes) s → r ≡ s
   unique-place card nodes p q = unique-by-equation (p .0) (q .0)
 
-  pub unique-move : (node microvolts : ℤ) → Allows (movedOf b node microvolts) r → Allows (movedOf b node microvolts) s → r ≡ s
+  pub unique-move : (node microvolts : ℤ) → Allows (movedOf b node microvolts) r →
+      Allows (movedOf b node microvolts) s → r ≡ s
   unique-move node microvolts p q = unique-by-equation (p .0) (q .0)
 
   pub unique-lift : (transistor : ℤ) → Allows (liftedOf b transistor) r → Allows (liftedOf b transistor) s → r ≡ s

@@ -75,7 +75,8 @@ placeVerdict {A} found worked over nodes noRoom usedUp =
 
 -- Moving a voltage: 13, 15
 unfoldable pub moveVerdict : ℤ → ℤ → Bool → Verdict ℕ
-moveVerdict n v over = refuseIf (offNode n) OutOfRange (refuseIf (offVolts v) OutOfRange (refuseIf over Overload (yes (natAbs n))))
+moveVerdict n v over =
+    refuseIf (offNode n) OutOfRange (refuseIf (offVolts v) OutOfRange (refuseIf over Overload (yes (natAbs n))))
 
 -- Lifting: 12
 unfoldable pub liftVerdict : {A : Type 0} → Found A → Verdict A

@@ -60,7 +60,8 @@ ends from to x n = atNode from n x -ℤ atNode to n x
 -- and the first k of the branches between these ends
 unfoldable pub endsGive : List ℕ → List ℕ → List ℤ → ℕ → ℕ → ℤ
 endsGive froms tos ticks zero n = pos 0
-endsGive froms tos ticks (suc k) n = endsGive froms tos ticks k n +ℤ ends (getD froms k 0) (getD tos k 0) (getD ticks k (pos 0)) n
+endsGive froms tos ticks (suc k) n =
+    endsGive froms tos ticks k n +ℤ ends (getD froms k 0) (getD tos k 0) (getD ticks k (pos 0)) n
 
 -- what node n gets where the first k roles hand f to their nodes
 unfoldable pub spread : List ℕ → (ℕ → ℤ) → ℕ → ℕ → ℤ

@@ -38,6 +38,8 @@ pub record Settling (cards : List Card) (ts : List Transistor) (was volts : List
   pub was-are : Volts was
   pub volts-are : Volts volts
   pub has-card : (i : ℕ) → standsAt n (getD ts i noTransistor) ≡ true → HasCard cards (getD ts i noTransistor)
-  pub same : (i : ℕ) → standsAt n (getD ts i noTransistor) ≡ false → (m : ℕ) → placeGives cards (map lowered was) m (getD ts i noTransistor) ≡ placeGives cards (map lowered volts) m (getD ts i noTransistor)
-  pub quiet : (i : ℕ) → standsAt n (getD ts i noTransistor) ≡ false → placeOverloads cards (map lowered volts) (getD ts i noTransistor) ≡ false
+  pub same : (i : ℕ) → standsAt n (getD ts i noTransistor) ≡ false → (m : ℕ) →
+      placeGives cards (map lowered was) m (getD ts i noTransistor) ≡ placeGives cards (map lowered volts) m (getD ts i noTransistor)
+  pub quiet : (i : ℕ) → standsAt n (getD ts i noTransistor) ≡ false →
+      placeOverloads cards (map lowered volts) (getD ts i noTransistor) ≡ false
   pub balanced : totals ≡ totalsOf cards ts (map lowered was)

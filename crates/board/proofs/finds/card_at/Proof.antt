@@ -13,9 +13,6 @@ use Rattle.board.proofs.finds.card_at.Tie as tie
 returns : tie.Need-returns
 returns c = simp (eq-eqb _ _ (c .if1 .taken))
 
-find-card-requires : tie.Need-find-card-requires
-find-card-requires c κs = search needs
-
 returns-2 : tie.Need-returns-2
 returns-2 c =
     let s = c .before .before in
@@ -24,4 +21,4 @@ returns-2 c =
     simp (ne-eqb _ _ (c .before .if1 .left)) (c .find-card .ensures ∙ place-is cardsMost _ (omega arith))
 
 pub card-at-spec : {M : Type 1} → statement M
-card-at-spec = tie.close (tie.spec returns find-card-requires returns-2)
+card-at-spec = tie.close (tie.spec returns (λ c κs. search needs) returns-2)

@@ -13,9 +13,6 @@ use Rattle.board.proofs.finds.transistor_at.Tie as tie
 returns : tie.Need-returns
 returns c = simp (eq-eqb _ _ (c .if1 .taken))
 
-find-transistor-requires : tie.Need-find-transistor-requires
-find-transistor-requires c κs = search needs
-
 returns-2 : tie.Need-returns-2
 returns-2 c =
     let s = c .before .before in
@@ -24,4 +21,4 @@ returns-2 c =
     simp (ne-eqb _ _ (c .before .if1 .left)) (c .find-transistor .ensures ∙ place-is transistorsMost _ (omega arith))
 
 pub transistor-at-spec : {M : Type 1} → statement M
-transistor-at-spec = tie.close (tie.spec returns find-transistor-requires returns-2)
+transistor-at-spec = tie.close (tie.spec returns (λ c κs. search needs) returns-2)

@@ -23,25 +23,23 @@ long c = search needs
 loop-holds : tie.Need-loop-holds Inv-loop μ-loop
 loop-holds c = (search needs, at-start)
 
-array-read-m : tie.Need-array-read-m Inv-loop μ-loop
-array-read-m c = omega arith
-
 returns : tie.Need-returns Inv-loop μ-loop
-returns c = let h = long (c .before .before .before) in any-here 0 (omega arith) (eq-eqb _ _ (c .if1 .taken)) ((c .before .before .loop .inv .1))
-
-add-k : tie.Need-add-k Inv-loop μ-loop
-add-k c = omega arith
-
-loop-less : tie.Need-loop-less Inv-loop μ-loop
-loop-less c = omega arith
+returns c =
+    let h = long (c .before .before .before) in
+    any-here 0 (omega arith) (eq-eqb _ _ (c .if1 .taken)) (c .before .before .loop .inv .1)
 
 loop-again : tie.Need-loop-again Inv-loop μ-loop
-loop-again c = let h = long (c .before .before .before) in (omega arith, goes-on 0 (omega arith) (ne-eqb _ _ (c .if1 .left)) ((c .before .before .loop .inv .1)))
+loop-again c =
+    let h = long (c .before .before .before) in
+    (omega arith, goes-on 0 (omega arith) (ne-eqb _ _ (c .if1 .left)) (c .before .before .loop .inv .1))
 
 returns-2 : tie.Need-returns-2 Inv-loop μ-loop
-returns-2 c = let h = long (c .before .before) in let e : (c .before .loop .k) ≡ roles = omega arith in any-nowhere (omega arith) ((c .before .loop .inv .1))
+returns-2 c =
+    let h = long (c .before .before) in
+    let e : (c .before .loop .k) ≡ roles = omega arith in any-nowhere (omega arith) (c .before .loop .inv .1)
 
 pub has-spec : {M : Type 1} → statement M
 has-spec =
     tie.close
-    (tie.spec Inv-loop μ-loop loop-holds array-read-m returns add-k loop-less loop-again returns-2)
+    (tie.spec Inv-loop μ-loop loop-holds (λ c. omega arith) returns (λ c. omega arith) (λ c. omega arith) loop-again
+    returns-2)

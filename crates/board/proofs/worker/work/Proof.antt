@@ -9,6 +9,10 @@ use Rattle.board.proofs.Currents.{roles-lowered, roles-near}
 use Rattle.board.proofs.worker.work.Statement.{statement}
 use Rattle.board.proofs.worker.work.Tie as tie
 
+-- earlier places, from later ones
+abbrev start : tie.After-work-out → tie.Start
+start c = c .before .before .before .before
+
 role-volts-requires : tie.Need-role-volts-requires
 role-volts-requires c κs = (record { wired = c .pre .wired }, c .pre .long)
 
@@ -19,10 +23,10 @@ work-out-requires c κs =
 
 returns : tie.Need-returns
 returns c =
-    let p = (c .before .before .before .before .pre) in
+    let p = (start c .pre) in
     c .work-out .ensures
-    ∙ ap (λ (v : List ℕ). outcomeOf (c .before .before .before .before .args .c .ready .card) (map lowered v)) (c .before .before .before .role-volts .ensures)
-    ∙ ap (outcomeOf (c .before .before .before .before .args .c .ready .card)) (roles-lowered _ (p .volts-are) (c .before .before .before .before .args .nodes .now) (p .wired))
+    ∙ ap (λ (v : List ℕ). outcomeOf (start c .args .c .ready .card) (map lowered v)) (c .before .before .before .role-volts .ensures)
+    ∙ ap (outcomeOf (start c .args .c .ready .card)) (roles-lowered _ (p .volts-are) (start c .args .nodes .now) (p .wired))
 
 pub work-spec : {M : Type 1} → statement M
 work-spec = tie.close (tie.spec role-volts-requires work-out-requires returns)
