@@ -1,4 +1,5 @@
--- Branches given to the roles, and the roles' amounts to the totals: each node gets what its definition says, and no sum leaves the machine's signed numbers.
+-- Branches given to the roles, and the roles' amounts to the totals: each node gets what its definition says, and no
+-- sum leaves the machine's signed numbers.
 use mathlib.Core.Path.{_≡_, refl, sym, ap, _∙_, subst}
 use mathlib.Core.Bool.{Bool, true, false, cond}
 use mathlib.Core.List.{List}
@@ -108,7 +109,9 @@ module _ (l : List ℤ) (f t : ℕ) (x : ℤ) (p : Fair l f t x) where
   twice-is : twice ≡ set once t (getD once t (pos 0) +ℤ negℤ x)
   twice-is =
       ap (λ (z : ℤ). set once t z)
-      (ap (λ (z : ℤ). held (z -ℤ held x)) to-is ∙ ap (λ (z : ℤ). held (getD once t (pos 0) -ℤ z)) x-is ∙ held-is _ small-less)
+      (ap (λ (z : ℤ). held (z -ℤ held x)) to-is
+      ∙ ap (λ (z : ℤ). held (getD once t (pos 0) -ℤ z)) x-is
+      ∙ held-is _ small-less)
 
   once-long : length once ≡ roles
   once-long = length-set l f _ ∙ long
@@ -165,7 +168,9 @@ module _ (froms tos : List ℕ) (ticks : List ℤ) where
         long = q .long;
         at =
             λ n h. rw add-one
-            (q .at n h ∙ ap (λ (z : ℤ). z +ℤ ends (getD froms k 0) (getD tos k 0) x n) (p .at n h) ∙ +ℤ-assoc (getD l₀ n (pos 0)) (endsGive froms tos ticks k n) (ends (getD froms k 0) (getD tos k 0) x n)
+            (q .at n h
+            ∙ ap (λ (z : ℤ). z +ℤ ends (getD froms k 0) (getD tos k 0) x n) (p .at n h)
+            ∙ +ℤ-assoc (getD l₀ n (pos 0)) (endsGive froms tos ticks k n) (ends (getD froms k 0) (getD tos k 0) x n)
             ∙ ap (λ (z : ℤ). getD l₀ n (pos 0) +ℤ (endsGive froms tos ticks k n +ℤ ends (getD froms k 0) (getD tos k 0) z n)) e);
       }
 
@@ -223,7 +228,9 @@ module _ (nodes : List ℕ) (f : ℕ → ℤ) where
         long = q .long;
         at =
             λ n h. rw add-one
-            (q .at n h ∙ ap (λ (z : ℤ). z +ℤ atNode (getD nodes k 0) n x) (p .at n h) ∙ +ℤ-assoc (getD l₀ n (pos 0)) (spread nodes f k n) (atNode (getD nodes k 0) n x)
+            (q .at n h
+            ∙ ap (λ (z : ℤ). z +ℤ atNode (getD nodes k 0) n x) (p .at n h)
+            ∙ +ℤ-assoc (getD l₀ n (pos 0)) (spread nodes f k n) (atNode (getD nodes k 0) n x)
             ∙ ap (λ (z : ℤ). getD l₀ n (pos 0) +ℤ (spread nodes f k n +ℤ atNode (getD nodes k 0) n z)) e);
       }
 

@@ -9,7 +9,8 @@ use lib.ListN.{getD, set}
 use lib.IntN.{ℤ, pos, natAbs}
 use borrow.Author.Tests.{ne-eqb, le-leb, lt-leb, lt-ltb, le-ltb, ltb-true}
 use Rattle.refusal.specs.declared.Refusal.{Refusal}
-use Rattle.refusal.specs.declared.Refusal.the-variants.{Malformed, BadName, NameNotHeld, NoRoom, Unknown, OutOfRange, CardInUse, NumbersUsedUp}
+use Rattle.refusal.specs.declared.Refusal.the-variants.{Malformed, BadName, NameNotHeld, NoRoom, Unknown, OutOfRange}
+use Rattle.refusal.specs.declared.Refusal.the-variants.{CardInUse, NumbersUsedUp}
 use Rattle.name.specs.Name.{asked, padded}
 use Rattle.card.specs.declared.WorkedCard.{WorkedCard}
 use Rattle.card.specs.declared.Judged.the-variants as judged
@@ -22,9 +23,12 @@ use Rattle.board.specs.declared.Transistor.{Transistor}
 use Rattle.board.specs.declared.Board.{Board}
 use Rattle.board.specs.declared.Answer.the-variants.{Issue, Done, Node, Refused}
 use Rattle.board.specs.Counts.{nodesMost, cardsMost, transistorsMost, issuesMost}
-use Rattle.board.specs.Verdict.{Found, none, some, issueOf, offNode, loadVerdict, withdrawVerdict, lookVerdict, nodeVerdict}
+use Rattle.board.specs.Verdict.{Found, none, some, issueOf, offNode, loadVerdict, withdrawVerdict, lookVerdict}
+use Rattle.board.specs.Verdict.{nodeVerdict}
 use Rattle.board.specs.Desk.{anyOf}
-use Rattle.board.specs.Model.{first, isCard, isTransistor, cardPlace, transistorPlace, foundAt, emptyCard, refuse, freeCard, withCards, loadedOf, withdrawnOf, standsOn, highestAt, lookedOf, showedOf}
+use Rattle.board.specs.Model.{first, isCard, isTransistor, cardPlace, transistorPlace, foundAt, emptyCard}
+use Rattle.board.specs.Model.{refuse, freeCard, withCards, loadedOf, withdrawnOf, standsOn, highestAt, lookedOf}
+use Rattle.board.specs.Model.{showedOf}
 use Rattle.board.specs.inner.Parts.{nodeOf, placeOr}
 use Rattle.board.proofs.Verdicts.{on-node}
 
@@ -158,6 +162,7 @@ module _ (b : Board) (name bytes : List ℕ) where
 
         pub loads-it : (i : ℕ) (held : List ℕ) (ready : Ready) → i ≡ freeCard (b .cards) → i < cardsMost →
             b .next ≤ issuesMost → held ≡ padded name → ready ≡ readyOf w →
-            record { board = withCards b (set (b .cards) i (record { issue = b .next; name = held; ready = ready })) (b .next + 1); answer = Issue (b .next) } ≡ loadedOf b name bytes
+            record { board = withCards b (set (b .cards) i (record { issue = b .next; name = held; ready = ready })) (b .next + 1); answer = Issue (b .next) }
+            ≡ loadedOf b name bytes
         unfolding loadedOf loadVerdict
         loads-it i held ready p h k q r = rw (l, e, j, ← p, lt-leb _ _ h, le-ltb _ _ k, q, r) (rw p)

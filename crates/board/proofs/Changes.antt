@@ -23,7 +23,9 @@ use Rattle.refusal.specs.Order.{Verdict, yes}
 use Rattle.branch.specs.Currents.{offVolts}
 use Rattle.branch.proofs.Levels.{Leveled}
 use Rattle.board.specs.Desk.{overloads, flow, anyOf, usedUp}
-use Rattle.board.specs.Model.{first, isTransistor, cardPlace, transistorPlace, noTransistor, emptyTransistor, noCard, workedAt, placeGives, placeOverloads, totalsOf, voltsOf, refuse, freeTransistor, placedOf, mayPlace, movedOf, liftedOf, Reached}
+use Rattle.board.specs.Model.{first, isTransistor, cardPlace, transistorPlace, noTransistor, emptyTransistor}
+use Rattle.board.specs.Model.{noCard, workedAt, placeGives, placeOverloads, totalsOf, voltsOf, refuse}
+use Rattle.board.specs.Model.{freeTransistor, placedOf, mayPlace, movedOf, liftedOf, Reached}
 use Rattle.board.specs.inner.Parts.{nodeOf, placeOfCard, More, Room, backFlow}
 use Rattle.board.specs.inner.Settle.{Workable, Settling}
 use Rattle.board.specs.inner.Placing.{placing, wayOf}
@@ -36,7 +38,8 @@ use Rattle.board.proofs.Verdicts.{Places, places}
 use Rattle.board.proofs.Answers.{off-board, on-board}
 use Rattle.board.proofs.PlacingTests.{way, stopped, went, lastly, on-same, then-lastly}
 use Rattle.board.proofs.Currents.{workable-card, card-takes}
-use Rattle.board.proofs.WorkerCalls.{volts-invariant, has-card, room-now, totals-put, totals-taken, settling-moved}
+use Rattle.board.proofs.WorkerCalls.{volts-invariant, has-card, room-now, totals-put, totals-taken}
+use Rattle.board.proofs.WorkerCalls.{settling-moved}
 
 -- ---- lifting
 
@@ -45,7 +48,8 @@ pub lift-unknown : (b : Board) (z : ℤ) → transistorPlace (issueOf z) (b .tra
 unfolding liftedOf liftVerdict
 lift-unknown b z e = rw e
 
-module _ {b : Board} (k : Reached b) (z : ℤ) (i : ℕ) (there : transistorPlace (issueOf z) (b .transistors) ≡ some i) (s : ℕ) (at : s ≡ placeOfCard (getD (b .transistors) i noTransistor)) where
+module _ {b : Board} (k : Reached b) (z : ℤ) (i : ℕ) (there : transistorPlace (issueOf z) (b .transistors) ≡ some i)
+    (s : ℕ) (at : s ≡ placeOfCard (getD (b .transistors) i noTransistor)) where
   abbrev leaver : Transistor
   leaver = getD (b .transistors) i noTransistor
 
@@ -57,15 +61,21 @@ module _ {b : Board} (k : Reached b) (z : ℤ) (i : ℕ) (there : transistorPlac
 
   pub lift-works : (table : List ℕ) → table ≡ entries →
       Workable table (getD (b .cards) s noCard) (leaver .nodes) (b .volts) × Room nodesMost workedMost (b .totals)
-  lift-works table e =
-      (workable-card (b .cards) leaver stands (has-card (invariant k) i stands) s at table (b .volts) e (volts-invariant (invariant k)), room-now (invariant k))
+  lift-works table e = (
+    workable-card (b .cards) leaver stands (has-card (invariant k) i stands) s at table (b .volts) e
+        (volts-invariant (invariant k)),
+    room-now (invariant k),
+  )
 
   pub lifts-it : {t : Transistor} → t ≡ emptyTransistor → {l : List ℤ} →
       More nodesMost (b .totals) l (backFlow (getD (b .cards) s noCard .ready .card) (leaver .nodes) (voltsOf b)) →
-      record { board = record { cards = b .cards; transistors = set (b .transistors) i t; volts = b .volts; totals = l; next = b .next }; answer = Done } ≡ liftedOf b z
+      record { board = record { cards = b .cards; transistors = set (b .transistors) i t; volts = b .volts; totals = l; next = b .next }; answer = Done }
+      ≡ liftedOf b z
   unfolding liftedOf liftVerdict
   lifts-it empty more =
-      let totals = totals-taken (invariant k) i (rw (invariant k .transistors-long) at (placed-there .below)) _ (card-takes (b .cards) leaver stands (has-card (invariant k) i stands) s at (voltsOf b)) more in
+      let totals =
+      totals-taken (invariant k) i (rw (invariant k .transistors-long) at (placed-there .below)) _
+      (card-takes (b .cards) leaver stands (has-card (invariant k) i stands) s at (voltsOf b)) more in
       rw (there, totals, empty)
 
 -- ---- moving a voltage
@@ -79,7 +89,8 @@ pub move-too-far : (b : Board) (z v : ℤ) → nodeOf z < nodesMost → offVolts
 unfolding movedOf moveVerdict
 move-too-far b z v h k = rw (on-board z h .0, k)
 
-module _ {b : Board} (reached : Reached b) (z v : ℤ) (n x : ℕ) (ne : n ≡ nodeOf z) (below : n < nodesMost) (level : Leveled v x) where
+module _ {b : Board} (reached : Reached b) (z v : ℤ) (n x : ℕ) (ne : n ≡ nodeOf z) (below : n < nodesMost)
+    (level : Leveled v x) where
   on : (offNode z ≡ false) × (nodeOf z ≡ natAbs z)
   on = on-board z (subst (λ (m : ℕ). m < nodesMost) ne below)
 
@@ -90,7 +101,8 @@ module _ {b : Board} (reached : Reached b) (z v : ℤ) (n x : ℕ) (ne : n ≡ n
   pub settling-move : Settling (b .cards) (b .transistors) (b .volts) (set (b .volts) n x) n (b .totals)
   settling-move = settling-moved (invariant reached) n x (level .near)
 
-  module _ (over : Bool) (oe : over ≡ anyOf (placeOverloads (b .cards) (map lowered (set (b .volts) n x))) (b .transistors)) where
+  module _ (over : Bool)
+      (oe : over ≡ anyOf (placeOverloads (b .cards) (map lowered (set (b .volts) n x))) (b .transistors)) where
     over-is : over ≡ anyOf (placeOverloads (b .cards) (map lowered (set (b .volts) (natAbs z) (raised v)))) (b .transistors)
     over-is = oe ∙ ap (λ (l : List ℕ). anyOf (placeOverloads (b .cards) (map lowered l)) (b .transistors)) same-volts
 
@@ -100,7 +112,8 @@ module _ {b : Board} (reached : Reached b) (z v : ℤ) (n x : ℕ) (ne : n ≡ n
 
     pub moves-it : over ≡ false → {l : List ℤ} →
         l ≡ totalsOf (b .cards) (b .transistors) (map lowered (set (b .volts) n x)) →
-        record { board = record { cards = b .cards; transistors = b .transistors; volts = set (b .volts) n x; totals = l; next = b .next }; answer = Done } ≡ movedOf b z v
+        record { board = record { cards = b .cards; transistors = b .transistors; volts = set (b .volts) n x; totals = l; next = b .next }; answer = Done }
+        ≡ movedOf b z v
     unfolding movedOf moveVerdict
     moves-it o totals = rw (on .0, level .on, sym over-is ∙ o, totals, same-volts)
 
@@ -204,7 +217,8 @@ module _ {b : Board} {card : ℤ} {nodes : List ℤ} {on : List ℕ} {w : Way} (
 
       free-empty : getD (b .transistors) free noTransistor .issue ≡ 0
       free-empty =
-          let below : first (isTransistor 0) (b .transistors) < length (b .transistors) = rw (invariant (t .reached) .transistors-long, ← (found .1)) free-below in
+          let below : first (isTransistor 0) (b .transistors) < length (b .transistors) =
+          rw (invariant (t .reached) .transistors-long, ← (found .1)) free-below in
           rw (found .1) (eqb-true _ 0 (first-passes (isTransistor 0) noTransistor (b .transistors) below))
 
       gives-new : (n : ℕ) → flow (workedAt (b .cards) i) on (voltsOf b) n ≡ placeGives (b .cards) (voltsOf b) n newcomer

@@ -57,14 +57,26 @@ module _ (c : WorkedCard) (nodes : List ℕ) (volts : List ℤ) where
       More nodesMost l l′ (flow c nodes volts)
   unfolding flow
   gives-flow {l} m =
-      record { long = m .long; at = λ n h. m .at n h ∙ ap (λ (z : ℤ). getD l n (pos 0) +ℤ z) (roles-are-rows (rowsFor (c .exsub)) nodes _ n (ticks-long c (rolesAt volts nodes))) }
+      record {
+        long = m .long;
+        at =
+            λ n h. m .at n h
+            ∙ ap (λ (z : ℤ). getD l n (pos 0) +ℤ z)
+            (roles-are-rows (rowsFor (c .exsub)) nodes _ n (ticks-long c (rolesAt volts nodes)));
+      }
 
   pub takes-flow : {l l′ : List ℤ} →
       More nodesMost l l′ (rolesGive nodes toRoles fromRoles (outcomeOf c (rolesAt volts nodes) .ticks)) →
       More nodesMost l l′ (backFlow c nodes volts)
   unfolding flow backFlow
   takes-flow {l} m =
-      record { long = m .long; at = λ n h. m .at n h ∙ ap (λ (z : ℤ). getD l n (pos 0) +ℤ z) (roles-turned (rowsFor (c .exsub)) nodes _ n (ticks-long c (rolesAt volts nodes))) }
+      record {
+        long = m .long;
+        at =
+            λ n h. m .at n h
+            ∙ ap (λ (z : ℤ). getD l n (pos 0) +ℤ z)
+            (roles-turned (rowsFor (c .exsub)) nodes _ n (ticks-long c (rolesAt volts nodes)));
+      }
 
   pub takes-small : (n : ℕ) → natAbs (backFlow c nodes volts n) ≤ flowMost
   unfolding backFlow
@@ -72,7 +84,8 @@ module _ (c : WorkedCard) (nodes : List ℕ) (volts : List ℤ) where
 
 -- ---- with its card
 
-module _ (cards : List Card) (t : Transistor) (stands : t .issue ≡ 0 → ⊥) (s : HasCard cards t) (k : ℕ) (at : k ≡ placeOfCard t) where
+module _ (cards : List Card) (t : Transistor) (stands : t .issue ≡ 0 → ⊥) (s : HasCard cards t) (k : ℕ)
+    (at : k ≡ placeOfCard t) where
   place-same : k ≡ t .«card_place»
   place-same = at ∙ rw (lt-ltb _ _ (s .place-there))
 

@@ -1,4 +1,5 @@
--- What holds of every board that calls from a fresh board leave: who stands where, and that each total is worked from what stands.
+-- What holds of every board that calls from a fresh board leave: who stands where, and that each total is worked from
+-- what stands.
 use mathlib.Core.Path.{_≡_, refl, sym, ap, _∙_, subst}
 use mathlib.Core.Bool.{Bool, true, false, cond, _||_}
 use mathlib.Core.List.{List, [], _∷_, map}
@@ -19,10 +20,17 @@ use Rattle.board.specs.Counts.{roles, nodesMost, cardsMost, transistorsM
 use Rattle.board.specs.Verdict.{none, some, issueOf, offNode, someOff, lookVerdict, nodeVerdict}
 use Rattle.refusal.specs.Order.{Verdict, no, yes}
 use Rattle.branch.specs.Currents.{offVolts}
-use Rattle.board.specs.Desk.{Call, load, place, move, lift, withdraw, lookUp, node, overloads, flow, sumOver, anyOf}
-use Rattle.board.specs.Model.{first, foundAt, isCard, cardPlace, transistorPlace, emptyCard, noCard, emptyTransistor, noTransistor, workedAt, placeGives, placeOverloads, totalsOf, freshBoard, voltsOf, freeCard, freeTransistor, loaded, loadedOf, placed, placedOf, moved, movedOf, lifted, liftedOf, withdrawn, withdrawnOf, standsOn, looked, lookedOf, showed, showedOf, mayLoad, mayPlace, mayMove, mayLift, mayWithdraw, answered, boardAfter, Reached}
+use Rattle.board.specs.Desk.{Call, load, place, move, lift, withdraw, lookUp, node, overloads, flow, sumOver}
+use Rattle.board.specs.Desk.{anyOf}
+use Rattle.board.specs.Model.{first, foundAt, isCard, cardPlace, transistorPlace, emptyCard, noCard}
+use Rattle.board.specs.Model.{emptyTransistor, noTransistor, workedAt, placeGives, placeOverloads, totalsOf}
+use Rattle.board.specs.Model.{freshBoard, voltsOf, freeCard, freeTransistor, loaded, loadedOf, placed, placedOf}
+use Rattle.board.specs.Model.{moved, movedOf, lifted, liftedOf, withdrawn, withdrawnOf, standsOn, looked}
+use Rattle.board.specs.Model.{lookedOf, showed, showedOf, mayLoad, mayPlace, mayMove, mayLift, mayWithdraw}
+use Rattle.board.specs.Model.{answered, boardAfter, Reached}
 use Rattle.board.proofs.Integers.{clash}
-use Rattle.board.proofs.Lists.{each-set, each-replicate, first-passes, found-is, none-of, sum-same, tabulate-same, tabulate-none, tabulate-long, stands}
+use Rattle.board.proofs.Lists.{each-set, each-replicate, first-passes, found-is, none-of, sum-same}
+use Rattle.board.proofs.Lists.{tabulate-same, tabulate-none, tabulate-long, stands}
 use Rattle.board.proofs.Verdicts.{loads, places, moves, withdraws, on-node}
 
 -- a transistor that stands: on a card that is there, on nodes of the board, and within its limits
@@ -68,7 +76,8 @@ module _ (cards : List Card) (p : ℕ) (c : Card) (volts : List ℤ) where
   gives-same n t h = go (eqb (t .issue) 0) refl
     where
       go : (u : Bool) → eqb (t .issue) 0 ≡ u →
-          cond u (pos 0) (flow (workedAt cards (t .«card_place»)) (t .nodes) volts n) ≡ cond u (pos 0) (flow (workedAt (set cards p c) (t .«card_place»)) (t .nodes) volts n)
+          cond u (pos 0) (flow (workedAt cards (t .«card_place»)) (t .nodes) volts n) ≡ cond u (pos 0)
+          (flow (workedAt (set cards p c) (t .«card_place»)) (t .nodes) volts n)
       go true e = refl
       go false e = rw (worked-same (t .«card_place») (h (eqb-false (t .issue) 0 e)))
 
@@ -78,7 +87,8 @@ module _ (cards : List Card) (p : ℕ) (c : Card) (volts : List ℤ) where
   unfolding totalsOf
   totals-keep ts h =
       tabulate-same _ _ nodesMost
-      (λ n k. sum-same (placeGives cards volts n) (placeGives (set cards p c) volts n) noTransistor ts (λ i q. gives-same n (getD ts i noTransistor) (h i)))
+      (λ n k. sum-same (placeGives cards volts n) (placeGives (set cards p c) volts n) noTransistor ts
+      (λ i q. gives-same n (getD ts i noTransistor) (h i)))
 
 -- ---- each call keeps it
 
@@ -125,7 +135,12 @@ free-card b g e =
     let p = freeCard (b .cards) in
     let below : p < length (b .cards) = rw (g .cards-long) (leb-false cardsMost p e) in
     let empty : getD (b .cards) p noCard .issue ≡ 0 = eqb-true _ 0 (first-passes (isCard 0) noCard (b .cards) below) in
-    record { below = below; away = λ i h q. g .transistor i h .card-given (sym (g .transistor i h .card-there) ∙ ap (λ (j : ℕ). getD (b .cards) j noCard .issue) q ∙ empty) }
+    record {
+      below = below;
+      away =
+          λ i h q. g .transistor i h .card-given
+          (sym (g .transistor i h .card-there) ∙ ap (λ (j : ℕ). getD (b .cards) j noCard .issue) q ∙ empty);
+    }
 
 invariant-loaded : {b : Board} (name bytes : List ℕ) → Invariant b → Invariant (loadedOf b name bytes .board)
 unfolding loadedOf
@@ -170,7 +185,12 @@ at {A} key d n l i most long e = go (eqb n 0) refl e
     go false p q =
         let f = found-is most (first (λ (a : A). eqb (key a) n) l) i q in
         let k : first (λ (a : A). eqb (key a) n) l < length l = rw long (f .1) in
-        record { given = eqb-false n 0 p; below = rw (f .0) k; is = f .0; issue-is = rw (f .0) (eqb-true _ n (first-passes (λ (a : A). eqb (key a) n) d l k)) }
+        record {
+          given = eqb-false n 0 p;
+          below = rw (f .0) k;
+          is = f .0;
+          issue-is = rw (f .0) (eqb-true _ n (first-passes (λ (a : A). eqb (key a) n) d l k));
+        }
 
 abbrev pub AtCard : ℕ → List Card → ℕ → Type 0
 AtCard n cards i = At (λ (c : Card). c .issue) noCard n cards i
@@ -232,7 +252,14 @@ invariant-placed {b} card nodes seven g = go _ refl
           transistor =
               λ j. each-set (λ (t : Transistor). (t .issue ≡ 0 → ⊥) → TransistorInvariant (b .cards) (voltsOf b) t)
               (b .transistors) (freeTransistor (b .transistors)) j _ noTransistor
-              (λ h. record { place-there = subst (λ (k : ℕ). i < k) (g .cards-long) (a .below); card-there = refl; card-given = λ z. a .given (sym (a .issue-is) ∙ z); wired = on-nodes nodes (p .on); long = length-map nodes natAbs ∙ seven; quiet = p .quiet })
+              (λ h. record {
+                place-there = subst (λ (k : ℕ). i < k) (g .cards-long) (a .below);
+                card-there = refl;
+                card-given = λ z. a .given (sym (a .issue-is) ∙ z);
+                wired = on-nodes nodes (p .on);
+                long = length-map nodes natAbs ∙ seven;
+                quiet = p .quiet;
+              })
               (g .transistor j);
           ready = g .ready;
           balanced = refl;
@@ -259,13 +286,24 @@ invariant-moved {b} n v g = go _ refl
         }
       where
         still : (k j : ℕ) → (getD (b .transistors) j noTransistor .issue ≡ 0 → ⊥) → k ≡ natAbs n →
-            anyOf (placeOverloads (b .cards) (map lowered (set (b .volts) (natAbs n) (raised v)))) (b .transistors) ≡ false →
+            anyOf (placeOverloads (b .cards) (map lowered (set (b .volts) (natAbs n) (raised v)))) (b .transistors)
+            ≡ false →
             TransistorInvariant (b .cards) (voltsOf b) (getD (b .transistors) j noTransistor) →
-            TransistorInvariant (b .cards) (map lowered (set (b .volts) k (raised v))) (getD (b .transistors) j noTransistor)
+            TransistorInvariant (b .cards) (map lowered (set (b .volts) k (raised v)))
+            (getD (b .transistors) j noTransistor)
         still k j h at quiet s =
             let t = getD (b .transistors) j noTransistor in
-            let each = none-of _ (b .transistors) noTransistor quiet j (stands (λ (u : Transistor). u .issue) noTransistor (b .transistors) j refl h) in
-            record { place-there = s .place-there; card-there = s .card-there; card-given = s .card-given; wired = s .wired; long = s .long; quiet = rw at (standing-quiet (b .cards) _ t h each) }
+            let each =
+            none-of _ (b .transistors) noTransistor quiet j
+            (stands (λ (u : Transistor). u .issue) noTransistor (b .transistors) j refl h) in
+            record {
+              place-there = s .place-there;
+              card-there = s .card-there;
+              card-given = s .card-given;
+              wired = s .wired;
+              long = s .long;
+              quiet = rw at (standing-quiet (b .cards) _ t h each);
+            }
 
 invariant-lifted : {b : Board} (n : ℤ) → Invariant b → Invariant (liftedOf b n .board)
 unfolding liftedOf
@@ -290,7 +328,9 @@ invariant-lifted {b} n g = go _ refl
 pub unused-away : (b : Board) → Invariant b → (n p : ℕ) → AtCard n (b .cards) p →
     anyOf (standsOn n) (b .transistors) ≡ false → Away b p
 unused-away b g n p a unused i h q =
-    not-on n (getD (b .transistors) i noTransistor) h (none-of _ (b .transistors) noTransistor unused i (stands (λ (u : Transistor). u .issue) noTransistor (b .transistors) i refl h))
+    not-on n (getD (b .transistors) i noTransistor) h
+    (none-of _ (b .transistors) noTransistor unused i
+    (stands (λ (u : Transistor). u .issue) noTransistor (b .transistors) i refl h))
     (sym (g .transistor i h .card-there) ∙ ap (λ (j : ℕ). getD (b .cards) j noCard .issue) q ∙ a .issue-is)
 
 invariant-withdrawn : {b : Board} (n : ℤ) → Invariant b → Invariant (withdrawnOf b n .board)

@@ -1,4 +1,5 @@
--- Lists by their places: what holds of each element, the first place that passes a test, sums place by place, and tables of a function.
+-- Lists by their places: what holds of each element, the first place that passes a test, sums place by place, and
+-- tables of a function.
 use mathlib.Core.Path.{_≡_, refl, ap}
 use mathlib.Core.Bool.{Bool, true, false, cond, _||_}
 use mathlib.Core.List.{List, [], _∷_, map}

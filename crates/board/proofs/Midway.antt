@@ -1,4 +1,5 @@
--- Totals half way: the first i places at the new voltages, the others at the old ones. And totals with another transistor at one place.
+-- Totals half way: the first i places at the new voltages, the others at the old ones. And totals with another
+-- transistor at one place.
 use mathlib.Core.Path.{_≡_, refl, sym, ap, _∙_, subst}
 use mathlib.Core.List.{List, [], _∷_, map}
 use Prim.Native.Nat.{ℕ, zero, suc, _+_, _*_, _≤_, _<_, zero-le}
@@ -33,7 +34,10 @@ midway f g (suc i) (a ∷ l) = f a +ℤ midway f g i l
 
 swap-first : (x y s : ℤ) → y +ℤ s ≡ ((x +ℤ s) +ℤ negℤ x) +ℤ y
 swap-first x y s =
-    +ℤ-comm y s ∙ ap (λ (z : ℤ). z +ℤ y) (sym (ap (λ (z : ℤ). z +ℤ negℤ x) (+ℤ-comm x s) ∙ +ℤ-assoc s x (negℤ x) ∙ ap (λ (z : ℤ). s +ℤ z) (+ℤ-invr x) ∙ +ℤ-idr s))
+    +ℤ-comm y s
+    ∙ ap (λ (z : ℤ). z +ℤ y)
+    (sym
+    (ap (λ (z : ℤ). z +ℤ negℤ x) (+ℤ-comm x s) ∙ +ℤ-assoc s x (negℤ x) ∙ ap (λ (z : ℤ). s +ℤ z) (+ℤ-invr x) ∙ +ℤ-idr s))
 
 swap-later : (a m x y : ℤ) → a +ℤ ((m +ℤ x) +ℤ y) ≡ ((a +ℤ m) +ℤ x) +ℤ y
 swap-later a m x y = simp +ℤ-assoc
@@ -45,12 +49,15 @@ module _ {A : Type 0} (f g : A → ℤ) (d : A) where
   midway-more i [] h = absurd (omega arith)
   midway-more zero (a ∷ l) h = swap-first (g a) (f a) (sumOver g l)
   midway-more (suc i) (a ∷ l) h =
-      ap (λ (z : ℤ). f a +ℤ z) (midway-more i l (omega arith)) ∙ swap-later (f a) (midway f g i l) (negℤ (g (getD l i d))) (f (getD l i d))
+      ap (λ (z : ℤ). f a +ℤ z) (midway-more i l (omega arith))
+      ∙ swap-later (f a) (midway f g i l) (negℤ (g (getD l i d))) (f (getD l i d))
 
   midway-same : (i : ℕ) (l : List A) → i < length l → g (getD l i d) ≡ f (getD l i d) →
       midway f g (suc i) l ≡ midway f g i l
   midway-same i l h e =
-      midway-more i l h ∙ ap (λ (z : ℤ). (midway f g i l +ℤ negℤ z) +ℤ f (getD l i d)) e ∙ -ℤ-+ℤ-cancel (midway f g i l) (f (getD l i d))
+      midway-more i l h
+      ∙ ap (λ (z : ℤ). (midway f g i l +ℤ negℤ z) +ℤ f (getD l i d)) e
+      ∙ -ℤ-+ℤ-cancel (midway f g i l) (f (getD l i d))
 
 -- another element at one place
 sum-set : {A : Type 0} (f : A → ℤ) (d : A) (l : List A) (i : ℕ) (a : A) → i < length l →
@@ -59,7 +66,8 @@ unfolding sumOver
 sum-set f d [] i a h = absurd (omega arith)
 sum-set f d (b ∷ l) zero a h = swap-first (f b) (f a) (sumOver f l)
 sum-set f d (b ∷ l) (suc i) a h =
-    ap (λ (z : ℤ). f b +ℤ z) (sum-set f d l i a (omega arith)) ∙ swap-later (f b) (sumOver f l) (negℤ (f (getD l i d))) (f a)
+    ap (λ (z : ℤ). f b +ℤ z) (sum-set f d l i a (omega arith))
+    ∙ swap-later (f b) (sumOver f l) (negℤ (f (getD l i d))) (f a)
 
 midway-all : {A : Type 0} (f g : A → ℤ) (i : ℕ) (l : List A) → length l ≡ i → midway f g i l ≡ sumOver f l
 unfolding midway sumOver
@@ -113,7 +121,8 @@ totals-room cards ts volts h =
     go : (n : ℕ) → (n < nodesMost) ⊎ (nodesMost ≤ n) → natAbs (getD (totalsOf cards ts volts) n (pos 0)) ≤ totalMost
     go n (inl b) =
         let s = small-sum (placeGives cards volts n) flowMost (small-place cards volts n) ts in
-        rw (totals-at cards ts volts n b) (subst (λ (k : ℕ). natAbs (sumOver (placeGives cards volts n) ts) ≤ k * flowMost) h s)
+        rw (totals-at cards ts volts n b)
+        (subst (λ (k : ℕ). natAbs (sumOver (placeGives cards volts n) ts) ≤ k * flowMost) h s)
     go n (inr b) =
         rw (List·getD-eq-default (totalsOf cards ts volts) (pos 0) {n = n} (rw (totals-count cards ts volts) b))
         zero-le
@@ -139,13 +148,19 @@ module _ {cards : List Card} {ts : List Transistor} {was volts : List ℕ} where
     where
       go : (n : ℕ) → (n < nodesMost) ⊎ (nodesMost ≤ n) → natAbs (getD l n (pos 0)) ≤ totalMost
       go n (inl b) =
-          let s = midway-small (placeGives cards (map lowered volts) n) (placeGives cards (map lowered was) n) flowMost (small-place cards (map lowered volts) n) (small-place cards (map lowered was) n) i ts in
-          rw (m .at n b) (subst (λ (k : ℕ). natAbs (midway (placeGives cards (map lowered volts) n) (placeGives cards (map lowered was) n) i ts) ≤ k * flowMost) h s)
+          let s =
+          midway-small (placeGives cards (map lowered volts) n) (placeGives cards (map lowered was) n) flowMost
+          (small-place cards (map lowered volts) n) (small-place cards (map lowered was) n) i ts in
+          rw (m .at n b)
+          (subst
+          (λ (k : ℕ). natAbs (midway (placeGives cards (map lowered volts) n) (placeGives cards (map lowered was) n) i ts) ≤ k
+          * flowMost) h s)
       go n (inr b) = rw (List·getD-eq-default l (pos 0) {n = n} (rw (m .long) b)) zero-le
 
   -- a place that gives what it gave
   pub midway-passes : {l : List ℤ} (i : ℕ) → i < length ts →
-      ((n : ℕ) → placeGives cards (map lowered was) n (getD ts i noTransistor) ≡ placeGives cards (map lowered volts) n (getD ts i noTransistor)) →
+      ((n : ℕ) → placeGives cards (map lowered was) n (getD ts i noTransistor) ≡ placeGives cards (map lowered volts) n
+      (getD ts i noTransistor)) →
       Midway cards ts was volts i l → Midway cards ts was volts (i + 1) l
   midway-passes i h same m =
       record {
@@ -169,7 +184,8 @@ module _ {cards : List Card} {ts : List Transistor} {was volts : List ℕ} where
 
 -- ---- another transistor at one place
 
-module _ (cards : List Card) (ts : List Transistor) (volts : List ℤ) (i : ℕ) (t : Transistor) (below : i < length ts) {totals l : List ℤ} {f : ℕ → ℤ} (e : totals ≡ totalsOf cards ts volts) (more : More nodesMost totals l f) where
+module _ (cards : List Card) (ts : List Transistor) (volts : List ℤ) (i : ℕ) (t : Transistor) (below : i < length ts)
+    {totals l : List ℤ} {f : ℕ → ℤ} (e : totals ≡ totalsOf cards ts volts) (more : More nodesMost totals l f) where
   before-at : (n : ℕ) → n < nodesMost → getD totals n (pos 0) ≡ sumOver (placeGives cards volts n) ts
   before-at n h = ap (λ (x : List ℤ). getD x n (pos 0)) e ∙ totals-at cards ts volts n h
 
@@ -178,6 +194,8 @@ module _ (cards : List Card) (ts : List Transistor) (volts : List ℤ) (i : ℕ)
       l ≡ totalsOf cards (set ts i t) volts
   totals-changed is =
       are-totals cards (set ts i t) volts l (more .long)
-      (λ n h. more .at n h ∙ ap (λ (z : ℤ). z +ℤ f n) (before-at n h) ∙ ap (λ (z : ℤ). sumOver (placeGives cards volts n) ts +ℤ z) (is n)
+      (λ n h. more .at n h
+      ∙ ap (λ (z : ℤ). z +ℤ f n) (before-at n h)
+      ∙ ap (λ (z : ℤ). sumOver (placeGives cards volts n) ts +ℤ z) (is n)
       ∙ sym (+ℤ-assoc (sumOver (placeGives cards volts n) ts) _ _)
       ∙ sym (sum-set (placeGives cards volts n) noTransistor ts i t below))

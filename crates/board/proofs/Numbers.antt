@@ -1,4 +1,5 @@
--- Issue numbers over any calls: never given twice; who keeps a number keeps its card; and lifting the one just placed brings every total back.
+-- Issue numbers over any calls: never given twice; who keeps a number keeps its card; and lifting the one just placed
+-- brings every total back.
 use mathlib.Core.Path.{_≡_, refl, sym, ap, _∙_, subst}
 use mathlib.Core.Bool.{Bool, true, false, cond, not}
 use mathlib.Core.List.{List, [], _∷_}
@@ -18,9 +19,11 @@ use Rattle.board.specs.Counts.{roles, issuesMost}
 use Rattle.board.specs.Verdict.{Found, none, some, issueOf, liftVerdict, nodeVerdict}
 use Rattle.refusal.specs.Order.{Verdict, no, yes}
 use Rattle.board.specs.Desk as desk
-use Rattle.board.specs.Desk.{Held, Standing, Desk, Call, load, place, move, lift, withdraw, lookUp, node, firstWith, ifTrue, standsAs, without, keepIf, total, step, after}
+use Rattle.board.specs.Desk.{Held, Standing, Desk, Call, load, place, move, lift, withdraw, lookUp, node}
+use Rattle.board.specs.Desk.{firstWith, ifTrue, standsAs, without, keepIf, total, step, after}
 use Rattle.board.specs.Model as board
-use Rattle.board.specs.Model.{loadedOf, placedOf, movedOf, liftedOf, withdrawnOf, lookedOf, showedOf, answered, boardAfter}
+use Rattle.board.specs.Model.{loadedOf, placedOf, movedOf, liftedOf, withdrawnOf, lookedOf, showedOf, answered}
+use Rattle.board.specs.Model.{boardAfter}
 use Rattle.board.specs.Stands.{replyOf}
 use Rattle.board.proofs.Integers.{clash}
 use Rattle.board.proofs.Perms.{count, more}
@@ -136,7 +139,8 @@ find-none-left p (a ∷ rest) e = go (p a) e (λ h. find-none-left p rest h)
 
 -- the one with number k is still found where another is taken away, and is gone where it is itself taken away
 find-without : {A : Type 0} (key : A → ℕ) (k m : ℕ) (l : List A) →
-    firstWith (λ (a : A). eqb (key a) k) (without key m l) ≡ cond (eqb m k) none (firstWith (λ (a : A). eqb (key a) k) l)
+    firstWith (λ (a : A). eqb (key a) k) (without key m l) ≡ cond (eqb m k) none
+    (firstWith (λ (a : A). eqb (key a) k) l)
 unfolding without firstWith
 find-without key k m [] = go (eqb m k)
   where
@@ -147,8 +151,10 @@ find-without {A = A} key k m (a ∷ rest) =
     go (eqb (key a) m) (eqb (key a) k) (eqb m k) refl refl refl (find-without key k m rest)
   where
     go : (t u w : Bool) → eqb (key a) m ≡ t → eqb (key a) k ≡ u → eqb m k ≡ w →
-        firstWith (λ (b : A). eqb (key b) k) (without key m rest) ≡ cond w none (firstWith (λ (b : A). eqb (key b) k) rest) →
-        firstWith (λ (b : A). eqb (key b) k) (keepIf (not t) a (without key m rest)) ≡ cond w none (ifTrue u a (firstWith (λ (b : A). eqb (key b) k) rest))
+        firstWith (λ (b : A). eqb (key b) k) (without key m rest) ≡ cond w none
+        (firstWith (λ (b : A). eqb (key b) k) rest) →
+        firstWith (λ (b : A). eqb (key b) k) (keepIf (not t) a (without key m rest)) ≡ cond w none
+        (ifTrue u a (firstWith (λ (b : A). eqb (key b) k) rest))
     go true true true p q r h = h
     go true true false p q r h = absurd (eqb-false m k r (sym (eqb-true (key a) m p) ∙ eqb-true (key a) k q))
     go true false true p q r h = h
@@ -243,11 +249,19 @@ pub record Undone (d e : Desk) : Type 0 where
 
 -- what stands first in the list is found, and taken away again
 take-back : (d : Desk) → Orderly d → (t : Standing) (later : ℕ) → t .issue ≡ d .next → d .next ≤ issuesMost →
-    Undone d (desk.lifted (record { cards = d .cards; standing = t ∷ d .standing; volts = d .volts; next = later }) (desk.mayLift (record { cards = d .cards; standing = t ∷ d .standing; volts = d .volts; next = later }) (pos (d .next))) .desk)
+    Undone d
+    (desk.lifted (record { cards = d .cards; standing = t ∷ d .standing; volts = d .volts; next = later })
+    (desk.mayLift (record { cards = d .cards; standing = t ∷ d .standing; volts = d .volts; next = later })
+    (pos (d .next))) .desk)
 unfolding firstWith liftVerdict without
 take-back d o t later e h =
     rw (issue-kept (d .next) h, eq-eqb (t .issue) (d .next) e)
-    (record { standing = rw (eq-eqb (t .issue) (t .issue) refl, e) (without-none (λ (u : Standing). u .issue) (d .next) (d .standing) (o .standing .below (d .next) (le-refl _))); volts = refl })
+    (record {
+      standing =
+          rw (eq-eqb (t .issue) (t .issue) refl, e)
+          (without-none (λ (u : Standing). u .issue) (d .next) (d .standing) (o .standing .below (d .next) (le-refl _)));
+      volts = refl;
+    })
 
 -- on the desk: what was placed is found, and taken away again
 undo : (d : Desk) → Orderly d → (card : ℤ) (nodes : List ℤ) (seven : length nodes ≡ roles) (n : ℕ) →
@@ -261,7 +275,9 @@ undo d o card nodes seven n e = go (desk.mayPlace d card nodes) refl e
     go (no f) p r = clash (cc)
     go (yes h) p r =
         let same : d .next ≡ n = cc in
-        rw (← same) (take-back d o _ _ refl (ltb-false issuesMost (d .next) (places (desk.heldAs (issueOf card) (d .cards)) p .number)))
+        rw (← same)
+        (take-back d o _ _ refl
+        (ltb-false issuesMost (d .next) (places (desk.heldAs (issueOf card) (d .cards)) p .number)))
 
 total-same : {d e : Desk} → Undone d e → (i : ℕ) → total e i ≡ total d i
 unfolding total
@@ -281,7 +297,10 @@ lift-undoes-place calls card nodes seven n e =
     let later = lift (pos n) ∷ place card nodes seven ∷ calls in
     let a = totals-long (invariant-after later) in
     let b = totals-long (invariant-after calls) in
-    ext-getD (pos 0) (boardAfter later .totals) (boardAfter calls .totals) (a ∙ sym b) (λ i h. totals-are-sums later i (subst (λ (k : ℕ). i < k) a h) ∙ back i ∙ sym (totals-are-sums calls i (subst (λ (k : ℕ). i < k) a h)))
+    ext-getD (pos 0) (boardAfter later .totals) (boardAfter calls .totals) (a ∙ sym b)
+    (λ i h. totals-are-sums later i (subst (λ (k : ℕ). i < k) a h)
+    ∙ back i
+    ∙ sym (totals-are-sums calls i (subst (λ (k : ℕ). i < k) a h)))
   where
     told : step (after calls) (place card nodes seven) .reply ≡ desk.issued n
     told = sym (follows calls (place card nodes seven) .reply) ∙ ap replyOf e

@@ -10,7 +10,9 @@ use borrow.Author.Tests.{eqb-true, ne-eqb}
 use Rattle.card.specs.declared.WorkedCard.{WorkedCard}
 use Rattle.refusal.specs.Order.{Verdict, no, yes}
 use Rattle.board.specs.Verdict.{nodeVerdict}
-use Rattle.board.specs.Desk.{Held, Standing, Desk, Call, load, place, move, lift, withdraw, lookUp, node, without, keepIf, loaded, placed, moved, lifted, withdrawn, looked, showed, mayLoad, mayPlace, mayMove, mayLift, mayWithdraw, mayLookUp, step, freshDesk, after}
+use Rattle.board.specs.Desk.{Held, Standing, Desk, Call, load, place, move, lift, withdraw, lookUp, node}
+use Rattle.board.specs.Desk.{without, keepIf, loaded, placed, moved, lifted, withdrawn, looked, showed, mayLoad}
+use Rattle.board.specs.Desk.{mayPlace, mayMove, mayLift, mayWithdraw, mayLookUp, step, freshDesk, after}
 use Rattle.board.proofs.Perms.{count, more}
 
 -- things whose keys are their numbers: each number at most once, and below next
@@ -27,7 +29,8 @@ module _ {A : Type 0} (key : A → ℕ) where
     where
       go : (t u : Bool) → eqb (key a) n ≡ u →
           count (λ (a : A). eqb (key a) n) (without key k rest) ≤ count (λ (a : A). eqb (key a) n) rest →
-          count (λ (a : A). eqb (key a) n) (keepIf t a (without key k rest)) ≤ more u (count (λ (a : A). eqb (key a) n) rest)
+          count (λ (a : A). eqb (key a) n) (keepIf t a (without key k rest)) ≤ more u
+          (count (λ (a : A). eqb (key a) n) rest)
       go true true e h = rw e (omega arith)
       go true false e h = rw e h
       go false true e h = omega arith

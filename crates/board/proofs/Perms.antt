@@ -1,4 +1,5 @@
--- What does not depend on a list's order: sums, searches that at most one element answers, lengths, and what is left without a key.
+-- What does not depend on a list's order: sums, searches that at most one element answers, lengths, and what is left
+-- without a key.
 use mathlib.Core.Path.{_≡_, refl, sym, ap, _∙_, subst}
 use mathlib.Core.Bool.{Bool, true, false, cond, not, _||_}
 use mathlib.Core.List.{List, [], _∷_}

@@ -1,4 +1,5 @@
--- Places and what stands on them: a place whose key is 0 is empty, and the others, in order, are the list that the desk knows.
+-- Places and what stands on them: a place whose key is 0 is empty, and the others, in order, are the list that the
+-- desk knows.
 use mathlib.Core.Path.{_≡_, refl, sym, ap, _∙_, subst}
 use mathlib.Core.Bool.{Bool, true, false, cond, not, _||_}
 use mathlib.Core.List.{List, [], _∷_}
@@ -58,7 +59,8 @@ module _ {A B : Type 0} (key : A → ℕ) (f : A → B) where
     where
       go : (t : Bool) →
           leb (length rest) (first (λ (b : A). eqb (key b) 0) rest) ≡ leb (length rest) (length (occupied key f rest)) →
-          leb (suc (length rest)) (cond t 0 (suc (first (λ (b : A). eqb (key b) 0) rest))) ≡ leb (suc (length rest)) (length (keepIf (not t) (f a) (occupied key f rest)))
+          leb (suc (length rest)) (cond t 0 (suc (first (λ (b : A). eqb (key b) 0) rest))) ≡ leb (suc (length rest))
+          (length (keepIf (not t) (f a) (occupied key f rest)))
       go true e =
           let h = few rest in
           lt-leb (suc (length rest)) 0 (omega arith)
@@ -76,8 +78,10 @@ module _ {A B : Type 0} (key : A → ℕ) (f : A → B) where
   join (a ∷ rest) x n h = go (eqb (key a) 0) refl h (λ k. join rest x n k)
     where
       go : (t : Bool) → eqb (key a) 0 ≡ t → cond t 0 (suc (first (λ (b : A). eqb (key b) 0) rest)) < suc (length rest) →
-          (first (λ (b : A). eqb (key b) 0) rest < length rest → Perm (occupied key f (set rest (first (λ (b : A). eqb (key b) 0) rest) x)) (f x ∷ occupied key f rest)) →
-          Perm (occupied key f (set (a ∷ rest) (cond t 0 (suc (first (λ (b : A). eqb (key b) 0) rest))) x)) (f x ∷ keepIf (not t) (f a) (occupied key f rest))
+          (first (λ (b : A). eqb (key b) 0) rest < length rest → Perm
+          (occupied key f (set rest (first (λ (b : A). eqb (key b) 0) rest) x)) (f x ∷ occupied key f rest)) →
+          Perm (occupied key f (set (a ∷ rest) (cond t 0 (suc (first (λ (b : A). eqb (key b) 0) rest))) x))
+          (f x ∷ keepIf (not t) (f a) (occupied key f rest))
       go true e h next = rw (ne-eqb (key x) 0 n) (perm-self _)
       go false e h next = rw e (then (keep (next (omega arith))) swap)
 
@@ -114,7 +118,8 @@ mapFound g none = none
 mapFound g (some a) = some (g a)
 
 -- elements that know their key
-module _ {A B : Type 0} (key : A → ℕ) (f : A → B) (id : B → ℕ) (knows : (a : A) → id (f a) ≡ key a) (n : ℕ) (there : n ≡ 0 → ⊥) where
+module _ {A B : Type 0} (key : A → ℕ) (f : A → B) (id : B → ℕ) (knows : (a : A) → id (f a) ≡ key a) (n : ℕ)
+    (there : n ≡ 0 → ⊥) where
   -- an empty place has another key
   other : (a : A) → eqb (key a) 0 ≡ true → eqb (key a) n ≡ false
   other a e = let h = eqb-true (key a) 0 e in ne-eqb (key a) n (λ z. there (sym z ∙ h))
@@ -127,19 +132,22 @@ module _ {A B : Type 0} (key : A → ℕ) (f : A → B) (id : B → ℕ) (knows 
     where
       go : (t : Bool) → eqb (key a) 0 ≡ t →
           count (λ (b : B). eqb (id b) n) (occupied key f rest) ≡ count (λ (a : A). eqb (key a) n) rest →
-          count (λ (b : B). eqb (id b) n) (keepIf (not t) (f a) (occupied key f rest)) ≡ more (eqb (key a) n) (count (λ (a : A). eqb (key a) n) rest)
+          count (λ (b : B). eqb (id b) n) (keepIf (not t) (f a) (occupied key f rest)) ≡ more (eqb (key a) n)
+          (count (λ (a : A). eqb (key a) n) rest)
       go true e h = rw (other a e) h
       go false e h = rw (knows a, h)
 
   -- the one with the key, by its place
   pub find : (d : A) (l : List A) →
-      firstWith (λ (b : B). eqb (id b) n) (occupied key f l) ≡ mapFound (λ (i : ℕ). f (getD l i d)) (foundAt (length l) (first (λ (a : A). eqb (key a) n) l))
+      firstWith (λ (b : B). eqb (id b) n) (occupied key f l) ≡ mapFound (λ (i : ℕ). f (getD l i d))
+      (foundAt (length l) (first (λ (a : A). eqb (key a) n) l))
   unfolding occupied first firstWith
   find d [] = refl
   find d (a ∷ rest) = go (eqb (key a) 0) (eqb (key a) n) refl refl (find d rest)
     where
       shift : (i : ℕ) (t : Bool) →
-          mapFound (λ (j : ℕ). f (getD rest j d)) (cond t (some i) none) ≡ mapFound (λ (j : ℕ). f (getD (a ∷ rest) j d)) (cond t (some (suc i)) none)
+          mapFound (λ (j : ℕ). f (getD rest j d)) (cond t (some i) none) ≡ mapFound
+          (λ (j : ℕ). f (getD (a ∷ rest) j d)) (cond t (some (suc i)) none)
       shift i true = refl
       shift i false = refl
 
@@ -149,8 +157,11 @@ module _ {A B : Type 0} (key : A → ℕ) (f : A → B) (id : B → ℕ) (knows 
           rw (leb·suc-suc (suc i) (length rest)) (shift i (ltb i (length rest)))
 
       go : (t u : Bool) → eqb (key a) 0 ≡ t → eqb (key a) n ≡ u →
-          firstWith (λ (b : B). eqb (id b) n) (occupied key f rest) ≡ mapFound (λ (i : ℕ). f (getD rest i d)) (foundAt (length rest) (first (λ (a : A). eqb (key a) n) rest)) →
-          firstWith (λ (b : B). eqb (id b) n) (keepIf (not t) (f a) (occupied key f rest)) ≡ mapFound (λ (i : ℕ). f (getD (a ∷ rest) i d)) (foundAt (suc (length rest)) (cond u 0 (suc (first (λ (a : A). eqb (key a) n) rest))))
+          firstWith (λ (b : B). eqb (id b) n) (occupied key f rest) ≡ mapFound (λ (i : ℕ). f (getD rest i d))
+          (foundAt (length rest) (first (λ (a : A). eqb (key a) n) rest)) →
+          firstWith (λ (b : B). eqb (id b) n) (keepIf (not t) (f a) (occupied key f rest)) ≡ mapFound
+          (λ (i : ℕ). f (getD (a ∷ rest) i d))
+          (foundAt (suc (length rest)) (cond u 0 (suc (first (λ (a : A). eqb (key a) n) rest))))
       go true true p q h = let z : _≡_ {A = Bool} true false = sym q ∙ other a p in absurd (subst T z tt)
       go true false p q h = h ∙ later
       go false true p q h = rw (knows a, q, lt-ltb 0 (suc (length rest)) (omega arith))
@@ -177,8 +188,10 @@ module _ {A B : Type 0} (key : A → ℕ) (f : A → B) (id : B → ℕ) (knows 
   leave e z (a ∷ rest) h = go (eqb (key a) 0) (eqb (key a) n) refl refl h (λ k. leave e z rest k)
     where
       go : (t u : Bool) → eqb (key a) 0 ≡ t → eqb (key a) n ≡ u → more u (count (λ (a : A). eqb (key a) n) rest) ≤ 1 →
-          (count (λ (a : A). eqb (key a) n) rest ≤ 1 → occupied key f (set rest (first (λ (a : A). eqb (key a) n) rest) e) ≡ without id n (occupied key f rest)) →
-          occupied key f (set (a ∷ rest) (cond u 0 (suc (first (λ (a : A). eqb (key a) n) rest))) e) ≡ without id n (keepIf (not t) (f a) (occupied key f rest))
+          (count (λ (a : A). eqb (key a) n) rest ≤ 1 → occupied key f
+          (set rest (first (λ (a : A). eqb (key a) n) rest) e) ≡ without id n (occupied key f rest)) →
+          occupied key f (set (a ∷ rest) (cond u 0 (suc (first (λ (a : A). eqb (key a) n) rest))) e) ≡ without id n
+          (keepIf (not t) (f a) (occupied key f rest))
       go true true p q k next = let z : _≡_ {A = Bool} true false = sym q ∙ other a p in absurd (subst T z tt)
       go false true p q k next = rw (eq-eqb (key e) 0 z, knows a, q) (sym (untouched rest (omega arith)))
       go true false p q k next = rw p (next k)

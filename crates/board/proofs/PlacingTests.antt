@@ -8,7 +8,8 @@ use lib.ListN.{getD}
 use lib.IntN.{ℤ, pos, natAbs}
 use borrow.Author.Tests.{le-leb, lt-leb, lt-ltb, le-ltb}
 use Rattle.refusal.specs.declared.Refusal.{Refusal}
-use Rattle.refusal.specs.declared.Refusal.the-variants.{NoRoom, Unknown, OutOfRange, SplitCollector, Overload, NumbersUsedUp}
+use Rattle.refusal.specs.declared.Refusal.the-variants.{NoRoom, Unknown, OutOfRange, SplitCollector, Overload}
+use Rattle.refusal.specs.declared.Refusal.the-variants.{NumbersUsedUp}
 use Rattle.card.specs.declared.WorkedCard.{WorkedCard}
 use Rattle.branch.specs.Rows.{C1, C4}
 use Rattle.branch.specs.Ticks.{seatOf}
@@ -111,14 +112,20 @@ then-lastly none worked over nodes noRoom used = refl
 then-lastly (some a) worked over nodes noRoom used = rw (off-same nodes) (go (someOff nodes) refl)
   where
     chain : (s r u : Bool) →
-        refuseIf s SplitCollector (refuseIf r NoRoom (refuseIf u NumbersUsedUp (refuseIf (over a) Overload (yes a)))) ≡ lastly (refuseIf s SplitCollector (refuseIf r NoRoom (refuseIf u NumbersUsedUp (yes a)))) over
+        refuseIf s SplitCollector (refuseIf r NoRoom (refuseIf u NumbersUsedUp (refuseIf (over a) Overload (yes a))))
+        ≡ lastly (refuseIf s SplitCollector (refuseIf r NoRoom (refuseIf u NumbersUsedUp (yes a)))) over
     chain true r u = refl
     chain false true u = refl
     chain false false true = refl
     chain false false false = refl
 
     go : (t : Bool) → someOff nodes ≡ t →
-        refuseIf t OutOfRange (refuseIf (worked a .direct && apart nodes) SplitCollector (refuseIf noRoom NoRoom (refuseIf used NumbersUsedUp (refuseIf (over a) Overload (yes a))))) ≡ lastly (refuseIf t OutOfRange (refuseIf (worked a .direct && apartOn (map nodeOf nodes)) SplitCollector (refuseIf noRoom NoRoom (refuseIf used NumbersUsedUp (yes a))))) over
+        refuseIf t OutOfRange
+        (refuseIf (worked a .direct && apart nodes) SplitCollector
+        (refuseIf noRoom NoRoom (refuseIf used NumbersUsedUp (refuseIf (over a) Overload (yes a))))) ≡ lastly
+        (refuseIf t OutOfRange
+        (refuseIf (worked a .direct && apartOn (map nodeOf nodes)) SplitCollector
+        (refuseIf noRoom NoRoom (refuseIf used NumbersUsedUp (yes a))))) over
     go true e = refl
     go false e =
         rw (on-same nodes e, size-at nodes (seatOf C4), size-at nodes (seatOf C1))

@@ -8,7 +8,8 @@ use Rattle.board.specs.declared.Board.{Board}
 use Rattle.board.specs.declared.Answered.{Answered}
 use Rattle.board.specs.Counts.{roles}
 use Rattle.board.specs.Desk.{Call, load, place, move, lift, withdraw, lookUp, node}
-use Rattle.board.specs.Model.{freshBoard, loadedOf, placedOf, movedOf, liftedOf, withdrawnOf, lookedOf, showedOf, answered, boardAfter, Reached}
+use Rattle.board.specs.Model.{freshBoard, loadedOf, placedOf, movedOf, liftedOf, withdrawnOf, lookedOf}
+use Rattle.board.specs.Model.{showedOf, answered, boardAfter, Reached}
 
 -- the answer, and that its board is reached
 abbrev pub Gives : Answered → Answered → Type 0

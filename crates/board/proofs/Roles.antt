@@ -1,4 +1,5 @@
--- The branches of a transistor by its roles: once the roles hand what they have to their nodes, each node has what the rows give it.
+-- The branches of a transistor by its roles: once the roles hand what they have to their nodes, each node has what
+-- the rows give it.
 use mathlib.Core.Path.{_≡_, refl, sym, ap, _∙_}
 use mathlib.Core.Bool.{Bool, true, false, cond}
 use mathlib.Core.List.{List, [], _∷_, map}
@@ -71,7 +72,8 @@ module _ (nodes : List ℕ) (n : ℕ) where
     where
       go : (t : Bool) → eqb r k ≡ t →
           (r < k → spread nodes (λ (j : ℕ). atNode r j x) k n ≡ atNode (getD nodes r 0) n x) →
-          spread nodes (λ (j : ℕ). atNode r j x) k n +ℤ atNode (getD nodes k 0) n (cond t x (pos 0)) ≡ atNode (getD nodes r 0) n x
+          spread nodes (λ (j : ℕ). atNode r j x) k n +ℤ atNode (getD nodes k 0) n (cond t x (pos 0)) ≡ atNode
+          (getD nodes r 0) n x
       go true e next = let same = eqb-true r k e in rw (spread-away r x k (omega arith), same) (+ℤ-idl _)
       go false e next =
           let other = eqb-false r k e in rw (next (omega arith), nothing-at (eqb (getD nodes k 0) n)) (+ℤ-idr _)
@@ -93,7 +95,12 @@ module _ (nodes : List ℕ) (n : ℕ) where
   spread-branches froms tos ticks u v zero h j = spread-nothing roles
   spread-branches froms tos ticks u v (suc k) h j =
       spread-both (endsGive froms tos ticks k) (ends (getD froms k 0) (getD tos k 0) (getD ticks k (pos 0))) roles
-      ∙ rw (spread-branches froms tos ticks u v k (omega arith) (omega arith), spread-ends (getD froms k 0) (getD tos k 0) (getD ticks k (pos 0)) (u .wired k) (v .wired k), getD-map (λ (r : ℕ). getD nodes r 0) froms k 0 0 (omega arith), getD-map (λ (r : ℕ). getD nodes r 0) tos k 0 0 (omega arith))
+      ∙ rw (
+        spread-branches froms tos ticks u v k (omega arith) (omega arith),
+        spread-ends (getD froms k 0) (getD tos k 0) (getD ticks k (pos 0)) (u .wired k) (v .wired k),
+        getD-map (λ (r : ℕ). getD nodes r 0) froms k 0 0 (omega arith),
+        getD-map (λ (r : ℕ). getD nodes r 0) tos k 0 0 (omega arith),
+      )
 
 -- ---- the branches by their nodes
 
@@ -108,7 +115,8 @@ ends-turned froms tos ticks zero n = refl
 ends-turned froms tos ticks (suc k) n =
     let x = getD ticks k (pos 0) in
     ap (λ (z : ℤ). z +ℤ ends (getD tos k 0) (getD froms k 0) x n) (ends-turned froms tos ticks k n)
-    ∙ ap (λ (z : ℤ). negℤ (endsGive froms tos ticks k n) +ℤ z) (turned-ends (atNode (getD froms k 0) n x) (atNode (getD tos k 0) n x))
+    ∙ ap (λ (z : ℤ). negℤ (endsGive froms tos ticks k n) +ℤ z)
+    (turned-ends (atNode (getD froms k 0) n x) (atNode (getD tos k 0) n x))
     ∙ sym (negℤ-+ℤ (endsGive froms tos ticks k n) (ends (getD froms k 0) (getD tos k 0) x n))
 
 -- the first branch before the others
@@ -117,19 +125,22 @@ ends-first : (f t : ℕ) (froms tos : List ℕ) (x : ℤ) (ticks : List ℤ) (k 
 unfolding endsGive
 ends-first f t froms tos x ticks zero n = +ℤ-idl (ends f t x n) ∙ sym (+ℤ-idr (ends f t x n))
 ends-first f t froms tos x ticks (suc k) n =
-    ap (λ (z : ℤ). z +ℤ ends (getD froms k 0) (getD tos k 0) (getD ticks k (pos 0)) n) (ends-first f t froms tos x ticks k n)
+    ap (λ (z : ℤ). z +ℤ ends (getD froms k 0) (getD tos k 0) (getD ticks k (pos 0)) n)
+    (ends-first f t froms tos x ticks k n)
     ∙ +ℤ-assoc (ends f t x n) (endsGive froms tos ticks k n) _
 
 -- so that branches between the ends of rows give what the rows give
 module _ (nodes : List ℕ) (n : ℕ) where
   ends-are-rows : (rows : List Row) (ticks : List ℤ) → length ticks ≡ length rows →
-      endsGive (nodesOf nodes n (fromsOf rows)) (nodesOf nodes n (tosOf rows)) ticks (length rows) n ≡ rowsGive rows nodes ticks n
+      endsGive (nodesOf nodes n (fromsOf rows)) (nodesOf nodes n (tosOf rows)) ticks (length rows) n ≡ rowsGive rows
+      nodes ticks n
   unfolding endsGive rowsGive
   ends-are-rows [] ticks h = refl
   ends-are-rows (r ∷ rows) [] h = absurd (omega arith)
   ends-are-rows (r ∷ rows) (x ∷ ticks) h =
       ends-first _ _ (nodesOf nodes n (fromsOf rows)) (nodesOf nodes n (tosOf rows)) x ticks (length rows) n
-      ∙ ap (λ (z : ℤ). ends (getD nodes (seatOf (r .from)) 0) (getD nodes (seatOf (r .to)) 0) x n +ℤ z) (ends-are-rows rows ticks (omega arith))
+      ∙ ap (λ (z : ℤ). ends (getD nodes (seatOf (r .from)) 0) (getD nodes (seatOf (r .to)) 0) x n +ℤ z)
+      (ends-are-rows rows ticks (omega arith))
 
 -- ---- and by their roles
 
@@ -160,7 +171,10 @@ wired-tos rows = wired-by (λ (r : Row). r .to) rows
 -- any rows
 module _ (rows : List Row) (nodes : List ℕ) (ticks : List ℤ) (n : ℕ) (h : length ticks ≡ length rows) where
   by-roles : (from to : Row → Role) →
-      spread nodes (endsGive (map (λ (r : Row). seatOf (from r)) rows) (map (λ (r : Row). seatOf (to r)) rows) ticks (length rows)) roles n ≡ endsGive (nodesOf nodes n (map (λ (r : Row). seatOf (from r)) rows)) (nodesOf nodes n (map (λ (r : Row). seatOf (to r)) rows)) ticks (length rows) n
+      spread nodes
+      (endsGive (map (λ (r : Row). seatOf (from r)) rows) (map (λ (r : Row). seatOf (to r)) rows) ticks (length rows))
+      roles n ≡ endsGive (nodesOf nodes n (map (λ (r : Row). seatOf (from r)) rows))
+      (nodesOf nodes n (map (λ (r : Row). seatOf (to r)) rows)) ticks (length rows) n
   by-roles from to =
       spread-branches nodes n _ _ ticks (wired-by from rows) (wired-by to rows) (length rows)
       (le-of-eq (sym (length-map rows _))) (le-of-eq (sym (length-map rows _)))
@@ -184,7 +198,8 @@ nothing-yet (suc k) (suc r) = nothing-yet k r
 pub room-nothing : Room roles 0 (replicate roles (pos 0))
 room-nothing = record { long = refl; within = λ r. rw (nothing-yet roles r) (lit≤ tt) }
 
-module _ (froms tos : List ℕ) (ticks a : List ℤ) (more : More roles (replicate roles (pos 0)) a (endsGive froms tos ticks branches)) where
+module _ (froms tos : List ℕ) (ticks a : List ℤ)
+    (more : More roles (replicate roles (pos 0)) a (endsGive froms tos ticks branches)) where
   pub amounts-within : Within tickLimit ticks → Within flowMost a
   amounts-within w = record { within = room-more room-nothing more (ends-small froms tos ticks w branches) .within }
 

@@ -1,4 +1,5 @@
--- Going through the places of a list one after the other: what is known once i of them are passed. For elements of any kind.
+-- Going through the places of a list one after the other: what is known once i of them are passed. For elements of
+-- any kind.
 use mathlib.Core.Path.{_≡_, refl, sym, ap, _∙_}
 use mathlib.Core.Bool.{Bool, true, false, cond, _||_}
 use mathlib.Core.List.{List, [], _∷_, map}
@@ -112,7 +113,8 @@ place-is most i h = go (ltb i most) refl
 
 -- the highest issue of a name among the places from i - 1 on, by that among those from i on
 pub highest-more : (name : List ℕ) (l : List Card) (i : ℕ) → 0 < i → i ≤ length l →
-    highestAt name (drop (i - 1) l) ≡ larger (cond (same (getD l (i - 1) noCard .name) name) (getD l (i - 1) noCard .issue) 0) (highestAt name (drop i l))
+    highestAt name (drop (i - 1) l) ≡ larger
+    (cond (same (getD l (i - 1) noCard .name) name) (getD l (i - 1) noCard .issue) 0) (highestAt name (drop i l))
 unfolding highestAt
 highest-more name l zero z h = absurd (omega arith)
 highest-more name l (suc i) z h =

@@ -1,4 +1,5 @@
--- What the stored totals are on every board that calls leave: sums over what stands, zero in all, small, and the same for the same transistors.
+-- What the stored totals are on every board that calls leave: sums over what stands, zero in all, small, and the same
+-- for the same transistors.
 use mathlib.Core.Path.{_≡_, refl, sym, ap, _∙_, subst}
 use mathlib.Core.Bool.{Bool, true, false, cond}
 use mathlib.Core.List.{List, [], _∷_, map}
@@ -20,8 +21,10 @@ use Rattle.board.specs.declared.Card.{Card}
 use Rattle.board.specs.declared.Transistor.{Transistor}
 use Rattle.board.specs.declared.Board.{Board}
 use Rattle.board.specs.Counts.{nodesMost}
-use Rattle.board.specs.Desk.{Standing, Call, rolesAt, isOver, overloads, atNode, rowsGive, flow, sumOver, total, after}
-use Rattle.board.specs.Model.{noTransistor, workedAt, placeGives, tabulate, totalsOf, voltsOf, boardAfter, Reached}
+use Rattle.board.specs.Desk.{Standing, Call, rolesAt, isOver, overloads, atNode, rowsGive, flow, sumOver, total}
+use Rattle.board.specs.Desk.{after}
+use Rattle.board.specs.Model.{noTransistor, workedAt, placeGives, tabulate, totalsOf, voltsOf, boardAfter}
+use Rattle.board.specs.Model.{Reached}
 use Rattle.board.specs.Perm.{Perm}
 use Rattle.board.specs.Stands.{standingOf, standingIn}
 use Rattle.board.specs.inner.Sizes.{flowMost}
@@ -49,7 +52,8 @@ not-over (Ticks k) e = clash (cc)
 not-over (Injection k) e = clash (cc)
 
 pub none-overloads : {b : Board} → Reached b → (i : ℕ) → (getD (b .transistors) i noTransistor .issue ≡ 0 → ⊥) →
-    outcomeOf (workedAt (b .cards) (getD (b .transistors) i noTransistor .«card_place»)) (rolesAt (voltsOf b) (getD (b .transistors) i noTransistor .nodes)) .over ≡ Within
+    outcomeOf (workedAt (b .cards) (getD (b .transistors) i noTransistor .«card_place»))
+    (rolesAt (voltsOf b) (getD (b .transistors) i noTransistor .nodes)) .over ≡ Within
 unfolding overloads
 none-overloads r i h = not-over _ (invariant r .transistor i h .quiet)
 
@@ -96,8 +100,12 @@ unfolding rowsGive
 sum-rows [] nodes ticks h = sum-zeros _ nodesMost (λ n. refl)
 sum-rows (r ∷ rs) nodes [] h = sum-zeros _ nodesMost (λ n. refl)
 sum-rows (r ∷ rs) nodes (x ∷ xs) h =
-    sum-both (λ (n : ℕ). atNode (getD nodes (seatOf (r .from)) 0) n x -ℤ atNode (getD nodes (seatOf (r .to)) 0) n x) (λ (n : ℕ). rowsGive rs nodes xs n) nodesMost
-    ∙ rw (sum-ends (getD nodes (seatOf (r .from)) 0) (getD nodes (seatOf (r .to)) 0) nodesMost x (h _) (h _), sum-rows rs nodes xs h)
+    sum-both (λ (n : ℕ). atNode (getD nodes (seatOf (r .from)) 0) n x -ℤ atNode (getD nodes (seatOf (r .to)) 0) n x)
+    (λ (n : ℕ). rowsGive rs nodes xs n) nodesMost
+    ∙ rw (
+      sum-ends (getD nodes (seatOf (r .from)) 0) (getD nodes (seatOf (r .to)) 0) nodesMost x (h _) (h _),
+      sum-rows rs nodes xs h,
+    )
 
 sum-flow : (c : WorkedCard) (nodes : List ℕ) (volts : List ℤ) → ((k : ℕ) → getD nodes k 0 < nodesMost) →
     sumAll (tabulate (λ (n : ℕ). flow c nodes volts n) nodesMost) ≡ pos 0
@@ -111,12 +119,15 @@ unfolding placeGives
 sum-place cards volts t h = go (eqb (t .issue) 0) refl
   where
     go : (u : Bool) → eqb (t .issue) 0 ≡ u →
-        sumAll (tabulate (λ (n : ℕ). cond u (pos 0) (flow (workedAt cards (t .«card_place»)) (t .nodes) volts n)) nodesMost) ≡ pos 0
+        sumAll
+        (tabulate (λ (n : ℕ). cond u (pos 0) (flow (workedAt cards (t .«card_place»)) (t .nodes) volts n)) nodesMost)
+        ≡ pos 0
     go true e = sum-zeros (λ (n : ℕ). pos 0) nodesMost (λ n. refl)
     go false e = sum-flow (workedAt cards (t .«card_place»)) (t .nodes) volts (h (eqb-false (t .issue) 0 e))
 
 sum-places : (cards : List Card) (volts : List ℤ) (ts : List Transistor) →
-    ((i : ℕ) → (getD ts i noTransistor .issue ≡ 0 → ⊥) → (k : ℕ) → getD (getD ts i noTransistor .nodes) k 0 < nodesMost) →
+    ((i : ℕ) → (getD ts i noTransistor .issue ≡ 0 → ⊥) → (k : ℕ) → getD (getD ts i noTransistor .nodes) k 0 < nodesMost)
+    →
     sumAll (tabulate (λ (n : ℕ). sumOver (placeGives cards volts n) ts) nodesMost) ≡ pos 0
 unfolding sumOver
 sum-places cards volts [] h = sum-zeros _ nodesMost (λ n. refl)
@@ -150,18 +161,27 @@ sum-map f g (a ∷ rest) = ap (λ (z : ℤ). f (g a) +ℤ z) (sum-map f g rest)
 
 -- a node's sum, by what each counts by
 sum-fitted : (b : Board) (n : ℕ) →
-    sumOver (placeGives (b .cards) (voltsOf b) n) (b .transistors) ≡ sumOver (λ (f : Fitted). flow (f .worked) (f .nodes) (voltsOf b) n) (fittedIn b)
+    sumOver (placeGives (b .cards) (voltsOf b) n) (b .transistors) ≡ sumOver
+    (λ (f : Fitted). flow (f .worked) (f .nodes) (voltsOf b) n) (fittedIn b)
 unfolding placeGives
 sum-fitted b n =
-    sym (sum-occupied (λ (t : Transistor). t .issue) (standingOf (b .cards)) (λ (t : Standing). flow (t .worked) (t .nodes) (voltsOf b) n) (b .transistors))
-    ∙ sym (sum-map (λ (f : Fitted). flow (f .worked) (f .nodes) (voltsOf b) n) fittedOf (standingIn (b .cards) (b .transistors)))
+    sym
+    (sum-occupied (λ (t : Transistor). t .issue) (standingOf (b .cards))
+    (λ (t : Standing). flow (t .worked) (t .nodes) (voltsOf b) n) (b .transistors))
+    ∙ sym
+    (sum-map (λ (f : Fitted). flow (f .worked) (f .nodes) (voltsOf b) n) fittedOf
+    (standingIn (b .cards) (b .transistors)))
 
 pub same-standing-same-totals : {b c : Board} → Reached b → Reached c → Perm (fittedIn b) (fittedIn c) →
     voltsOf b ≡ voltsOf c → b .totals ≡ c .totals
 unfolding totalsOf
 same-standing-same-totals {b} {c} r s p e =
     invariant r .balanced
-    ∙ tabulate-same _ _ nodesMost (λ n h. sum-fitted b n ∙ perm-sum (λ (f : Fitted). flow (f .worked) (f .nodes) (voltsOf b) n) p ∙ ap (λ (v : List ℤ). sumOver (λ (f : Fitted). flow (f .worked) (f .nodes) v n) (fittedIn c)) e ∙ sym (sum-fitted c n))
+    ∙ tabulate-same _ _ nodesMost
+    (λ n h. sum-fitted b n
+    ∙ perm-sum (λ (f : Fitted). flow (f .worked) (f .nodes) (voltsOf b) n) p
+    ∙ ap (λ (v : List ℤ). sumOver (λ (f : Fitted). flow (f .worked) (f .nodes) v n) (fittedIn c)) e
+    ∙ sym (sum-fitted c n))
     ∙ sym (invariant s .balanced)
 
 -- ---- sizes: a row counts at most once at a node
@@ -208,6 +228,14 @@ pub totals-are-small : {b : Board} → Reached b → (n : ℕ) → n < nodesMost
 unfolding totalsOf
 totals-are-small {b} r n h =
     let g = invariant r in
-    let s = small-sum (placeGives (b .cards) (voltsOf b) n) flowMost (small-place (b .cards) (voltsOf b) n) (b .transistors) in
-    let k = subst (λ (l : ℕ). natAbs (sumOver (placeGives (b .cards) (voltsOf b) n) (b .transistors)) ≤ l * flowMost) (g .transistors-long) s in
-    rw (g .balanced, tabulate-at (λ (m : ℕ). sumOver (placeGives (b .cards) (voltsOf b) m) (b .transistors)) nodesMost n (pos 0) h) (omega arith)
+    let s =
+    small-sum (placeGives (b .cards) (voltsOf b) n) flowMost (small-place (b .cards) (voltsOf b) n)
+    (b .transistors) in
+    let k =
+    subst (λ (l : ℕ). natAbs (sumOver (placeGives (b .cards) (voltsOf b) n) (b .transistors)) ≤ l * flowMost)
+    (g .transistors-long) s in
+    rw (
+      g .balanced,
+      tabulate-at (λ (m : ℕ). sumOver (placeGives (b .cards) (voltsOf b) m) (b .transistors)) nodesMost n (pos 0) h,
+    )
+    (omega arith)

@@ -15,7 +15,8 @@ use Rattle.name.specs.Name.{asked}
 use lib.Dec.{leb, ltb}
 use borrow.Author.Tests.{leb-false}
 use Rattle.board.specs.Counts.{nodesMost}
-use Rattle.board.specs.Verdict.{Found, none, some, judgedCard, loadVerdict, placeVerdict, moveVerdict, liftVerdict, withdrawVerdict, nodeVerdict, offNode, someOff, apart}
+use Rattle.board.specs.Verdict.{Found, none, some, judgedCard, loadVerdict, placeVerdict, moveVerdict}
+use Rattle.board.specs.Verdict.{liftVerdict, withdrawVerdict, nodeVerdict, offNode, someOff, apart}
 use Rattle.refusal.specs.Order.{Verdict, yes, refuseIf, andThen}
 use Rattle.branch.specs.Currents.{offVolts}
 use Rattle.board.proofs.Integers.{clash}
@@ -39,7 +40,8 @@ loads name {bytes} {noRoom} {used} {c} e =
     let q = passes (not (asked name)) _ _ p .1 in go (judgeOf bytes) refl q
   where
     go : (j : Judged) → judgeOf bytes ≡ j →
-        andThen (judgedCard j) (λ (d : WorkedCard). refuseIf noRoom NoRoom (refuseIf used NumbersUsedUp (yes d))) ≡ yes c →
+        andThen (judgedCard j) (λ (d : WorkedCard). refuseIf noRoom NoRoom (refuseIf used NumbersUsedUp (yes d)))
+        ≡ yes c →
         Loads bytes noRoom used c
     go (judged.Refused f) j h = clash (cc)
     go (judged.Card d) j h =
@@ -56,7 +58,8 @@ pub record Places {A : Type 0} (found : Found A) (worked : A → WorkedCard) (ov
   pub quiet : over a ≡ false
 
 pub places :
-    {A : Type 0} (found : Found A) {worked : A → WorkedCard} {over : A → Bool} {nodes : List ℤ} {noRoom used : Bool} {a : A} →
+    {A : Type 0} (found : Found A) {worked : A → WorkedCard} {over : A → Bool} {nodes : List ℤ} {noRoom used : Bool}
+    {a : A} →
     placeVerdict found worked over nodes noRoom used ≡ yes a → Places found worked over nodes noRoom used a
 unfolding placeVerdict
 places none e = clash (cc)
@@ -67,7 +70,14 @@ places (some b) {worked} {over} {nodes} {noRoom} {used} {a} e =
     let s = passes used _ _ (r .1) in
     let t = passes (over b) _ _ (s .1) in
     let same : b ≡ a = cc in
-    record { there = ap some same; on = p .0; joined = rw (← same) (q .0); room = r .0; number = s .0; quiet = rw (← same) (t .0) }
+    record {
+      there = ap some same;
+      on = p .0;
+      joined = rw (← same) (q .0);
+      room = r .0;
+      number = s .0;
+      quiet = rw (← same) (t .0);
+    }
 
 pub record Moves (n v : ℤ) (over : Bool) (k : ℕ) : Type 0 where
   pub at : k ≡ natAbs n

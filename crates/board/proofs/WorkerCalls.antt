@@ -14,7 +14,8 @@ use Rattle.board.specs.declared.Transistor.{Transistor}
 use Rattle.board.specs.declared.Board.{Board}
 use Rattle.board.specs.Counts.{nodesMost, transistorsMost}
 use Rattle.board.specs.Desk.{rolesAt, overloads, flow, anyOf}
-use Rattle.board.specs.Model.{noTransistor, emptyTransistor, workedAt, placeGives, placeOverloads, totalsOf, voltsOf}
+use Rattle.board.specs.Model.{noTransistor, emptyTransistor, workedAt, placeGives, placeOverloads, totalsOf}
+use Rattle.board.specs.Model.{voltsOf}
 use Rattle.board.specs.inner.Parts.{More, Room, names, standsAt}
 use Rattle.board.specs.inner.Settle.{Volts, HasCard, Settling}
 use Rattle.board.specs.inner.Sizes.{totalMost, workedMost}
@@ -35,14 +36,23 @@ module _ {b : Board} (g : Invariant b) where
       HasCard (b .cards) (getD (b .transistors) i noTransistor)
   has-card i h =
       let s = g .transistor i h in
-      record { place-there = s .place-there; ready = g .ready (getD (b .transistors) i noTransistor .«card_place») (λ z. s .card-given (sym (s .card-there) ∙ z)); wired = s .wired; long = s .long }
+      record {
+        place-there = s .place-there;
+        ready =
+            g .ready (getD (b .transistors) i noTransistor .«card_place»)
+            (λ z. s .card-given (sym (s .card-there) ∙ z));
+        wired = s .wired;
+        long = s .long;
+      }
 
   quiet-now : (i : ℕ) → placeOverloads (b .cards) (voltsOf b) (getD (b .transistors) i noTransistor) ≡ false
   unfolding placeOverloads
   quiet-now i = go (eqb (getD (b .transistors) i noTransistor .issue) 0) refl
     where
       go : (t : Bool) → eqb (getD (b .transistors) i noTransistor .issue) 0 ≡ t →
-          cond t false (overloads (workedAt (b .cards) (getD (b .transistors) i noTransistor .«card_place»)) (getD (b .transistors) i noTransistor .nodes) (voltsOf b)) ≡ false
+          cond t false
+          (overloads (workedAt (b .cards) (getD (b .transistors) i noTransistor .«card_place»))
+          (getD (b .transistors) i noTransistor .nodes) (voltsOf b)) ≡ false
       go true e = refl
       go false e = g .transistor i (eqb-false _ _ e) .quiet
 
@@ -106,7 +116,8 @@ module _ (cards : List Card) (volts : List ℕ) (n v : ℕ) (t : Transistor) (h 
   gives-as-before m = go (eqb (t .issue) 0) refl
     where
       go : (u : Bool) → eqb (t .issue) 0 ≡ u →
-          cond u (pos 0) (flow (workedAt cards (t .«card_place»)) (t .nodes) (map lowered volts) m) ≡ cond u (pos 0) (flow (workedAt cards (t .«card_place»)) (t .nodes) (map lowered (set volts n v)) m)
+          cond u (pos 0) (flow (workedAt cards (t .«card_place»)) (t .nodes) (map lowered volts) m) ≡ cond u (pos 0)
+          (flow (workedAt cards (t .«card_place»)) (t .nodes) (map lowered (set volts n v)) m)
       go true e = refl
       go false e = rw (roles-same volts n v (t .nodes) (not-named (eqb-false _ _ e)))
 
@@ -115,7 +126,8 @@ module _ (cards : List Card) (volts : List ℕ) (n v : ℕ) (t : Transistor) (h 
   overloads-as-before = go (eqb (t .issue) 0) refl
     where
       go : (u : Bool) → eqb (t .issue) 0 ≡ u →
-          cond u false (overloads (workedAt cards (t .«card_place»)) (t .nodes) (map lowered (set volts n v))) ≡ cond u false (overloads (workedAt cards (t .«card_place»)) (t .nodes) (map lowered volts))
+          cond u false (overloads (workedAt cards (t .«card_place»)) (t .nodes) (map lowered (set volts n v))) ≡ cond
+          u false (overloads (workedAt cards (t .«card_place»)) (t .nodes) (map lowered volts))
       go true e = refl
       go false e = rw (roles-same volts n v (t .nodes) (not-named (eqb-false _ _ e)))
 

@@ -1,4 +1,5 @@
--- How many there are: a transistor's roles and branches, the board's nodes, cards and transistors, and the issue numbers.
+-- How many there are: a transistor's roles and branches, the board's nodes, cards and transistors, and the issue
+-- numbers.
 use mathlib.Core.Path.{_≡_, refl}
 use mathlib.Core.Bool.{Bool}
 use Prim.Native.Nat.{ℕ}

@@ -1,4 +1,5 @@
--- The desk by its own bookkeeping: the cards held, the transistors standing, each with the very card it was placed with, the voltages and the next issue number.
+-- The desk by its own bookkeeping: the cards held, the transistors standing, each with the very card it was placed
+-- with, the voltages and the next issue number.
 -- No place, no array and no stored total is known here.
 use mathlib.Core.Path.{_≡_}
 use mathlib.Core.Bool.{Bool, true, false, cond, not, _||_}
@@ -16,7 +17,8 @@ use Rattle.branch.specs.Rows.{Row, rowsFor}
 use Rattle.branch.specs.Ticks.{seatOf}
 use Rattle.branch.specs.Outcome.{outcomeOf}
 use Rattle.board.specs.Counts.{roles, nodesMost, cardsMost, transistorsMost, issuesMost}
-use Rattle.board.specs.Verdict.{Found, none, some, issueOf, loadVerdict, placeVerdict, moveVerdict, liftVerdict, withdrawVerdict, lookVerdict, nodeVerdict}
+use Rattle.board.specs.Verdict.{Found, none, some, issueOf, loadVerdict, placeVerdict, moveVerdict, liftVerdict}
+use Rattle.board.specs.Verdict.{withdrawVerdict, lookVerdict, nodeVerdict}
 use Rattle.refusal.specs.Order.{Verdict, no, yes}
 
 pub record Held : Type 0 where
@@ -78,7 +80,8 @@ unfoldable pub rowsGive : List Row → List ℕ → List ℤ → ℕ → ℤ
 rowsGive [] nodes ticks n = pos 0
 rowsGive (r ∷ rs) nodes [] n = pos 0
 rowsGive (r ∷ rs) nodes (x ∷ xs) n =
-    (atNode (getD nodes (seatOf (r .from)) 0) n x -ℤ atNode (getD nodes (seatOf (r .to)) 0) n x) +ℤ rowsGive rs nodes xs n
+    (atNode (getD nodes (seatOf (r .from)) 0) n x -ℤ atNode (getD nodes (seatOf (r .to)) 0) n x)
+    +ℤ rowsGive rs nodes xs n
 
 -- what a transistor adds to node n
 unfoldable pub flow : WorkedCard → List ℕ → List ℤ → ℕ → ℤ
@@ -215,7 +218,9 @@ mayLoad d name bytes = loadVerdict name bytes (leb cardsMost (length (d .cards))
 
 abbrev pub mayPlace : Desk → ℤ → List ℤ → Verdict Held
 mayPlace d card nodes =
-    placeVerdict (heldAs (issueOf card) (d .cards)) (λ (h : Held). h .worked) (λ (h : Held). overloads (h .worked) (map natAbs nodes) (d .volts)) nodes (leb transistorsMost (length (d .standing))) (usedUp (d .next))
+    placeVerdict (heldAs (issueOf card) (d .cards)) (λ (h : Held). h .worked)
+    (λ (h : Held). overloads (h .worked) (map natAbs nodes) (d .volts)) nodes
+    (leb transistorsMost (length (d .standing))) (usedUp (d .next))
 
 abbrev pub mayMove : Desk → ℤ → ℤ → Verdict ℕ
 mayMove d n v = moveVerdict n v (someOverloads d (set (d .volts) (natAbs n) v))

@@ -17,9 +17,11 @@ use Rattle.board.specs.declared.Board.{Board}
 use Rattle.board.specs.declared.Answer.the-variants.{Issue, Done, Node, Refused}
 use Rattle.board.specs.declared.Answered.{Answered}
 use Rattle.board.specs.Counts.{roles, nodesMost, cardsMost, transistorsMost}
-use Rattle.board.specs.Verdict.{Found, none, some, issueOf, loadVerdict, placeVerdict, moveVerdict, liftVerdict, withdrawVerdict, lookVerdict, nodeVerdict}
+use Rattle.board.specs.Verdict.{Found, none, some, issueOf, loadVerdict, placeVerdict, moveVerdict, liftVerdict}
+use Rattle.board.specs.Verdict.{withdrawVerdict, lookVerdict, nodeVerdict}
 use Rattle.refusal.specs.Order.{Verdict, no, yes}
-use Rattle.board.specs.Desk.{Call, load, place, move, lift, withdraw, lookUp, node, overloads, flow, sumOver, anyOf, larger, usedUp}
+use Rattle.board.specs.Desk.{Call, load, place, move, lift, withdraw, lookUp, node, overloads, flow, sumOver}
+use Rattle.board.specs.Desk.{anyOf, larger, usedUp}
 
 -- ---- places
 
@@ -125,7 +127,13 @@ withCards b cards next =
 abbrev pub loaded : Board → List ℕ → Verdict WorkedCard → Answered
 loaded b name (no f) = refuse b f
 loaded b name (yes c) =
-    record { board = withCards b (set (b .cards) (freeCard (b .cards)) (record { issue = b .next; name = padded name; ready = readyOf c })) (b .next + 1); answer = Issue (b .next) }
+    record {
+      board =
+          withCards b
+          (set (b .cards) (freeCard (b .cards)) (record { issue = b .next; name = padded name; ready = readyOf c }))
+          (b .next + 1);
+      answer = Issue (b .next);
+    }
 
 abbrev pub mayLoad : Board → List ℕ → List ℕ → Verdict WorkedCard
 mayLoad b name bytes = loadVerdict name bytes (leb cardsMost (freeCard (b .cards))) (usedUp (b .next))
@@ -135,7 +143,8 @@ loadedOf b name bytes = loaded b name (mayLoad b name bytes)
 
 abbrev pub withTransistor : Board → ℕ → List ℤ → List Transistor
 withTransistor b i nodes =
-    set (b .transistors) (freeTransistor (b .transistors)) (record { issue = b .next; card = getD (b .cards) i noCard .issue; «card_place» = i; nodes = map natAbs nodes })
+    set (b .transistors) (freeTransistor (b .transistors))
+    (record { issue = b .next; card = getD (b .cards) i noCard .issue; «card_place» = i; nodes = map natAbs nodes })
 
 abbrev pub placed : Board → List ℤ → Verdict ℕ → Answered
 placed b nodes (no f) = refuse b f
@@ -144,7 +153,9 @@ placed b nodes (yes i) =
 
 abbrev pub mayPlace : Board → ℤ → List ℤ → Verdict ℕ
 mayPlace b card nodes =
-    placeVerdict (cardPlace (issueOf card) (b .cards)) (workedAt (b .cards)) (λ (i : ℕ). overloads (workedAt (b .cards) i) (map natAbs nodes) (voltsOf b)) nodes (leb transistorsMost (freeTransistor (b .transistors))) (usedUp (b .next))
+    placeVerdict (cardPlace (issueOf card) (b .cards)) (workedAt (b .cards))
+    (λ (i : ℕ). overloads (workedAt (b .cards) i) (map natAbs nodes) (voltsOf b)) nodes
+    (leb transistorsMost (freeTransistor (b .transistors))) (usedUp (b .next))
 
 unfoldable pub placedOf : Board → ℤ → List ℤ → Answered
 placedOf b card nodes = placed b nodes (mayPlace b card nodes)

@@ -1,4 +1,5 @@
--- When a board of places stands for a desk: the same cards and transistors in some order, the same voltages, the same next number.
+-- When a board of places stands for a desk: the same cards and transistors in some order, the same voltages, the same
+-- next number.
 use mathlib.Core.Path.{_≡_}
 use mathlib.Core.Bool.{not}
 use mathlib.Core.List.{List, [], _∷_}

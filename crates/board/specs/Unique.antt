@@ -6,9 +6,11 @@ use lib.IntN.{ℤ}
 use Rattle.refusal.specs.Unique.{unique-by-equation}
 use Rattle.board.specs.declared.Board.{Board}
 use Rattle.board.specs.declared.Answered.{Answered}
-use Rattle.board.specs.Model.{freshBoard, loadedOf, placedOf, movedOf, liftedOf, withdrawnOf, lookedOf, showedOf, Reached}
+use Rattle.board.specs.Model.{freshBoard, loadedOf, placedOf, movedOf, liftedOf, withdrawnOf, lookedOf}
+use Rattle.board.specs.Model.{showedOf, Reached}
 
--- what a method promises of its result, both clauses: the answer and board of its definition, and that calls leave that board
+-- what a method promises of its result, both clauses: the answer and board of its definition, and that calls leave
+-- that board
 abbrev pub Allows : Answered → Answered → Type 0
 Allows e r = (r ≡ e) × Reached (r .board)
 

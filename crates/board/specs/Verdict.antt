@@ -1,4 +1,5 @@
--- Which refusal a call gets, each in the order of its rule: one test a clause, from plain facts about whatever keeps the desk.
+-- Which refusal a call gets, each in the order of its rule: one test a clause, from plain facts about whatever keeps
+-- the desk.
 use mathlib.Core.Bool.{Bool, false, cond, _&&_, _||_, not}
 use mathlib.Core.List.{List, [], _∷_}
 use Prim.Native.Nat.{ℕ}
@@ -6,7 +7,8 @@ use lib.Dec.{eqb, leb}
 use lib.ListN.{getD}
 use lib.IntN.{ℤ, pos, negsuc, natAbs}
 use lib.Signed.{leZ, ltZ}
-use Rattle.refusal.specs.declared.Refusal.the-variants.{Malformed, BadName, NameNotHeld, NoRoom, Unknown, OutOfRange, SplitCollector, Overload, CardInUse, NumbersUsedUp}
+use Rattle.refusal.specs.declared.Refusal.the-variants.{Malformed, BadName, NameNotHeld, NoRoom, Unknown, OutOfRange}
+use Rattle.refusal.specs.declared.Refusal.the-variants.{SplitCollector, Overload, CardInUse, NumbersUsedUp}
 use Rattle.refusal.specs.Order.{Verdict, no, yes, refuseIf, andThen}
 use Rattle.name.specs.Name.{asked}
 use Rattle.card.specs.declared.WorkedCard.{WorkedCard}

@@ -1,4 +1,5 @@
--- Words of inner contracts: what the board's own functions ask and give. No promise to a caller of the board names them.
+-- Words of inner contracts: what the board's own functions ask and give. No promise to a caller of the board names
+-- them.
 pub mod Sizes
 pub mod Parts
 pub mod Settle

@@ -1,4 +1,5 @@
--- Words for what the board's inner functions give: a caller's number as the board holds it, a place or none, and totals with something more at each node.
+-- Words for what the board's inner functions give: a caller's number as the board holds it, a place or none, and
+-- totals with something more at each node.
 use mathlib.Core.Path.{_≡_}
 use mathlib.Core.Bool.{Bool, false, cond}
 use mathlib.Core.List.{List, map}

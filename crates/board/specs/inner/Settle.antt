@@ -1,4 +1,5 @@
--- What the worker asks: a card, nodes and voltages that can be worked, and for a move totals that are right at the old voltages.
+-- What the worker asks: a card, nodes and voltages that can be worked, and for a move totals that are right at the
+-- old voltages.
 use mathlib.Core.Path.{_≡_}
 use mathlib.Core.Bool.{true, false}
 use mathlib.Core.List.{List, map}
@@ -33,13 +34,15 @@ pub record HasCard (cards : List Card) (t : Transistor) : Type 0 where
   pub wired : (k : ℕ) → getD (t .nodes) k 0 < nodesMost
   pub long : length (t .nodes) ≡ roles
 
--- From the old voltages to the new ones: a transistor that does not name the node n gives what it gave, and does not overload.
+-- From the old voltages to the new ones: a transistor that does not name the node n gives what it gave, and does not
+-- overload.
 pub record Settling (cards : List Card) (ts : List Transistor) (was volts : List ℕ) (n : ℕ) (totals : List ℤ) : Type 0 where
   pub was-are : Volts was
   pub volts-are : Volts volts
   pub has-card : (i : ℕ) → standsAt n (getD ts i noTransistor) ≡ true → HasCard cards (getD ts i noTransistor)
   pub same : (i : ℕ) → standsAt n (getD ts i noTransistor) ≡ false → (m : ℕ) →
-      placeGives cards (map lowered was) m (getD ts i noTransistor) ≡ placeGives cards (map lowered volts) m (getD ts i noTransistor)
+      placeGives cards (map lowered was) m (getD ts i noTransistor) ≡ placeGives cards (map lowered volts) m
+      (getD ts i noTransistor)
   pub quiet : (i : ℕ) → standsAt n (getD ts i noTransistor) ≡ false →
       placeOverloads cards (map lowered volts) (getD ts i noTransistor) ≡ false
   pub balanced : totals ≡ totalsOf cards ts (map lowered was)

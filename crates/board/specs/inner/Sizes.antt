@@ -1,4 +1,5 @@
--- How large a node's total is at most: at rest, while one transistor is worked, and while its roles hand out what they have.
+-- How large a node's total is at most: at rest, while one transistor is worked, and while its roles hand out what
+-- they have.
 use Prim.Native.Nat.{ℕ, _+_, _*_}
 use Rattle.branch.specs.Outcome.{tickLimit}
 use Rattle.board.specs.Counts.{roles, branches, transistorsMost}

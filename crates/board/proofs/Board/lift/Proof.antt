@@ -37,14 +37,17 @@ number : (c : tie.After-issue-of) → c .issue-of .result ≡ issueOf (c .before
 number c = c .issue-of .ensures ∙ ap issueOf (toZ-ofZ w64 (c .before .args .transistor) (c .before .fits .transistor))
 
 place-is : (c : tie.After-transistor-at) →
-    c .transistor-at .result ≡ placeOr transistorsMost (transistorPlace (issueOf (c .before .before .before .args .transistor)) (c .before .before .before .args .t1 .transistors))
+    c .transistor-at .result ≡ placeOr transistorsMost
+    (transistorPlace (issueOf (c .before .before .before .args .transistor))
+    (c .before .before .before .args .t1 .transistors))
 place-is c =
     c .transistor-at .ensures
     ∙ ap (λ (n : ℕ). placeOr transistorsMost (transistorPlace n (c .before .before .before .args .t1 .transistors)))
     (number (c .before .before))
 
 there : (c : tie.Else1) →
-    transistorPlace (issueOf (start c .args .transistor)) (start c .args .t1 .transistors) ≡ some (c .before .transistor-at .result)
+    transistorPlace (issueOf (start c .args .transistor)) (start c .args .t1 .transistors) ≡ some
+    (c .before .transistor-at .result)
 there c =
     let e = place-is (c .before) in
     is-there transistorsMost _ (subst (λ (k : ℕ). k < transistorsMost) e (c .if1 .left)) ∙ ap some (sym e)
@@ -53,20 +56,25 @@ returns : tie.Need-returns
 returns c =
     let s = start-from-then1 (c .before) in
     after-lift (s .pre) _
-    (c .refused .ensures ∙ lift-unknown _ (s .args .transistor) (no-transistor-there (issueOf (s .args .transistor)) (s .args .t1 .transistors) (subst (λ (k : ℕ). transistorsMost ≤ k) (place-is (c .before .before)) (c .before .if1 .taken))))
+    (c .refused .ensures
+    ∙ lift-unknown _ (s .args .transistor)
+    (no-transistor-there (issueOf (s .args .transistor)) (s .args .t1 .transistors)
+    (subst (λ (k : ℕ). transistorsMost ≤ k) (place-is (c .before .before)) (c .before .if1 .taken))))
 
 mul-c : tie.Need-mul-c
 mul-c c =
     let h =
     place-below
-    (getD (start (c .before .before) .args .t1 .transistors) (c .before .before .before .transistor-at .result) noTransistor)
+    (getD (start (c .before .before) .args .t1 .transistors) (c .before .before .before .transistor-at .result)
+    noTransistor)
     (c .card-place-of .ensures) in
     omega arith
 
 element-copy-out-c : tie.Need-element-copy-out-c
 element-copy-out-c c =
     place-below
-    (getD (start (c .before .before) .args .t1 .transistors) (c .before .before .before .transistor-at .result) noTransistor)
+    (getD (start (c .before .before) .args .t1 .transistors) (c .before .before .before .transistor-at .result)
+    noTransistor)
     (c .card-place-of .ensures)
 
 take-out-requires : tie.Need-take-out-requires
@@ -80,7 +88,9 @@ returns-2 : tie.Need-returns-2
 returns-2 c =
     let s = else1 (after-totals2 (c .before)) in
     after-lift (start s .pre) _
-    (lifts-it (start s .pre) (start s .args .transistor) _ (there s) _ (after-table (after-totals2 (c .before)) .before .before .card-place-of .ensures) (c .no-transistor .ensures) (c .before .take-out .ensures))
+    (lifts-it (start s .pre) (start s .args .transistor) _ (there s) _
+    (after-table (after-totals2 (c .before)) .before .before .card-place-of .ensures) (c .no-transistor .ensures)
+    (c .before .take-out .ensures))
 
 pub lift-spec : {M : Type 1} → statement M
 lift-spec =

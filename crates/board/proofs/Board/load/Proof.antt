@@ -11,7 +11,8 @@ use Rattle.card.specs.Record.{rightLength}
 use Rattle.card.proofs.Sure.{judged-is-worked}
 use Rattle.board.specs.Counts.{cardsMost}
 use Rattle.board.proofs.Reaches.{after-load}
-use Rattle.board.proofs.Answers.{load-malformed, load-bad-name, load-judged, load-no-room, load-used-up, loads-it}
+use Rattle.board.proofs.Answers.{load-malformed, load-bad-name, load-judged, load-no-room, load-used-up}
+use Rattle.board.proofs.Answers.{loads-it}
 use Rattle.board.proofs.Board.load.Statement.{statement}
 use Rattle.board.proofs.Board.load.Tie as tie
 
@@ -50,22 +51,33 @@ is-card c = sym (c .before .before .judge .ensures) ∙ c .judged2 .given .1
 returns : tie.Need-returns
 returns c =
     after-load (start-from-then1 (c .before) .pre) _ _
-    (c .refused .ensures ∙ load-malformed _ _ _ (sym (c .before .before .right-length .ensures) ∙ not-true _ (c .before .if1 .taken)))
+    (c .refused .ensures
+    ∙ load-malformed _ _ _ (sym (c .before .before .right-length .ensures) ∙ not-true _ (c .before .if1 .taken)))
 
 returns-2 : tie.Need-returns-2
 returns-2 c =
     after-load (start (c .before .before .before) .pre) _ _
-    (c .refused2 .ensures ∙ load-bad-name _ _ _ (long (c .before .before .before)) (sym (c .before .before .is-asked .ensures) ∙ not-true _ (c .before .if2 .taken)))
+    (c .refused2 .ensures
+    ∙ load-bad-name _ _ _ (long (c .before .before .before))
+    (sym (c .before .before .is-asked .ensures) ∙ not-true _ (c .before .if2 .taken)))
 
 returns-3 : tie.Need-returns-3
 returns-3 c =
     after-load (start (else1 (after-judged2 (c .before) .before)) .pre) _ _
-    (c .refused4 .ensures ∙ load-no-room _ _ _ (long (else1 (after-judged2 (c .before) .before))) (is-name (after-judged2 (c .before) .before .before .before)) _ (is-card (after-judged2 (c .before))) (subst (λ (k : ℕ). cardsMost ≤ k) (c .before .before .find-card .ensures) (c .before .if3 .taken)))
+    (c .refused4 .ensures
+    ∙ load-no-room _ _ _ (long (else1 (after-judged2 (c .before) .before)))
+    (is-name (after-judged2 (c .before) .before .before .before)) _ (is-card (after-judged2 (c .before)))
+    (subst (λ (k : ℕ). cardsMost ≤ k) (c .before .before .find-card .ensures) (c .before .if3 .taken)))
 
 returns-4 : tie.Need-returns-4
 returns-4 c =
     after-load (start (else1 (after-judged2-from-else3 (c .before .before) .before)) .pre) _ _
-    (c .refused5 .ensures ∙ load-used-up _ _ _ (long (else1 (after-judged2-from-else3 (c .before .before) .before))) (is-name (after-judged2-from-else3 (c .before .before) .before .before .before)) _ (is-card (after-judged2-from-else3 (c .before .before))) (subst (λ (k : ℕ). k < cardsMost) (c .before .before .before .find-card .ensures) (c .before .before .if3 .left)) (c .before .if4 .taken))
+    (c .refused5 .ensures
+    ∙ load-used-up _ _ _ (long (else1 (after-judged2-from-else3 (c .before .before) .before)))
+    (is-name (after-judged2-from-else3 (c .before .before) .before .before .before)) _
+    (is-card (after-judged2-from-else3 (c .before .before)))
+    (subst (λ (k : ℕ). k < cardsMost) (c .before .before .before .find-card .ensures) (c .before .before .if3 .left))
+    (c .before .if4 .taken))
 
 prepare-requires : tie.Need-prepare-requires
 prepare-requires c κs = judged-is-worked _ _ (is-card (after-judged2-from-else3 (c .before .before)))
@@ -73,12 +85,18 @@ prepare-requires c κs = judged-is-worked _ _ (is-card (after-judged2-from-else3
 returns-5 : tie.Need-returns-5
 returns-5 c =
     after-load (start (after-judge c .before .before .before) .pre) _ _
-    (c .refused3 .ensures ∙ load-judged _ _ _ (long (after-judge c .before .before .before)) (is-name (after-judge c .before)) _ (sym ((after-judge c .judge .ensures)) ∙ (c .before .before .judged .given .1)))
+    (c .refused3 .ensures
+    ∙ load-judged _ _ _ (long (after-judge c .before .before .before)) (is-name (after-judge c .before)) _
+    (sym ((after-judge c .judge .ensures)) ∙ (c .before .before .judged .given .1)))
 
 returns-6 : tie.Need-returns-6
 returns-6 c =
     after-load (start (else1 (after-judged2-from-else3 (c .before .before .before) .before)) .pre) _ _
-    (loads-it _ _ _ (long (else1 (after-judged2-from-else3 (c .before .before .before) .before))) (is-name (after-judged2-from-else3 (c .before .before .before) .before .before .before)) _ (is-card (after-judged2-from-else3 (c .before .before .before))) _ _ _ ((after-find-card c .find-card .ensures)) (c .before .before .before .if3 .left) (c .before .before .if4 .left) (c .before .pad .ensures) (c .prepare .ensures))
+    (loads-it _ _ _ (long (else1 (after-judged2-from-else3 (c .before .before .before) .before)))
+    (is-name (after-judged2-from-else3 (c .before .before .before) .before .before .before)) _
+    (is-card (after-judged2-from-else3 (c .before .before .before))) _ _ _ ((after-find-card c .find-card .ensures))
+    (c .before .before .before .if3 .left) (c .before .before .if4 .left) (c .before .pad .ensures)
+    (c .prepare .ensures))
 
 pub load-spec : {M : Type 1} → statement M
 load-spec =

@@ -23,7 +23,8 @@ is-name : (c : tie.Else1) → asked (c .before .before .before .args .name .now)
 is-name c = sym (c .before .is-asked .ensures) ∙ not-false _ (c .if1 .left)
 
 highest-is : (c : tie.After-highest) →
-    c .highest .result ≡ highestAt (padded (else1 c .before .before .before .args .name .now)) (else1 c .before .before .before .args .self .cards)
+    c .highest .result ≡ highestAt (padded (else1 c .before .before .before .args .name .now))
+    (else1 c .before .before .before .args .self .cards)
 highest-is c =
     c .highest .ensures
     ∙ ap (λ (l : List ℕ). highestAt l (else1 c .before .before .before .args .self .cards))
@@ -32,12 +33,15 @@ highest-is c =
 returns : tie.Need-returns
 returns c =
     after-look (start c .pre) _
-    (c .refused .ensures ∙ look-malformed _ _ (sym (c .before .before .is-asked .ensures) ∙ not-true _ (c .before .if1 .taken)))
+    (c .refused .ensures
+    ∙ look-malformed _ _ (sym (c .before .before .is-asked .ensures) ∙ not-true _ (c .before .if1 .taken)))
 
 returns-2 : tie.Need-returns-2
 returns-2 c =
     after-look (else1 (c .before .before) .before .before .before .pre) _
-    (c .refused2 .ensures ∙ look-not-held _ _ (is-name (else1 (c .before .before))) (sym (highest-is (c .before .before)) ∙ (c .before .if2 .taken)))
+    (c .refused2 .ensures
+    ∙ look-not-held _ _ (is-name (else1 (c .before .before)))
+    (sym (highest-is (c .before .before)) ∙ (c .before .if2 .taken)))
 
 returns-3 : tie.Need-returns-3
 returns-3 c =

@@ -41,12 +41,19 @@ returns : tie.Need-returns
 returns c =
     let s = c .before .before .before in
     after-move (s .pre) _ _
-    (c .refused .ensures ∙ move-off-node _ (s .args .node) (s .args .microvolts) (subst (λ (k : ℕ). nodesMost ≤ k) (number (c .before .before)) (c .before .if1 .taken)))
+    (c .refused .ensures
+    ∙ move-off-node _ (s .args .node) (s .args .microvolts)
+    (subst (λ (k : ℕ). nodesMost ≤ k) (number (c .before .before)) (c .before .if1 .taken)))
 
 returns-2 : tie.Need-returns-2
 returns-2 c =
     let s = (else1 c .before .before) in
-    after-move (s .pre) _ _ (c .refused2 .ensures ∙ move-too-far _ (s .args .node) (s .args .microvolts) (subst (λ (k : ℕ). k < nodesMost) (number (else1 c .before)) (else1 c .if1 .left)) (level-off (toZ-ofZ w64 (s .args .microvolts) (s .fits .microvolts)) (c .before .before .before .raise .ensures) (c .before .enum-told .given .1)))
+    after-move (s .pre) _ _
+    (c .refused2 .ensures
+    ∙ move-too-far _ (s .args .node) (s .args .microvolts)
+    (subst (λ (k : ℕ). k < nodesMost) (number (else1 c .before)) (else1 c .if1 .left))
+    (level-off (toZ-ofZ w64 (s .args .microvolts) (s .fits .microvolts)) (c .before .before .before .raise .ensures)
+    (c .before .enum-told .given .1)))
 
 settle-requires : tie.Need-settle-requires
 settle-requires c κs =
@@ -60,13 +67,22 @@ returns-3 : tie.Need-returns-3
 returns-3 c =
     let s = after-known-told (after-totals (c .before .before)) .before .before in
     after-move (start s .pre) _ _
-    (c .refused3 .ensures ∙ move-over (start s .pre) (start s .args .node) (start s .args .microvolts) _ _ (number (at-match-keys1 (after-totals (c .before .before)) .before .before .before)) (at-match-keys1 (after-totals (c .before .before)) .before .before .if1 .left) (level (after-known-told (after-totals (c .before .before)))) _ (c .before .before .settle .ensures .0) (c .before .if2 .taken))
+    (c .refused3 .ensures
+    ∙ move-over (start s .pre) (start s .args .node) (start s .args .microvolts) _ _
+    (number (at-match-keys1 (after-totals (c .before .before)) .before .before .before))
+    (at-match-keys1 (after-totals (c .before .before)) .before .before .if1 .left)
+    (level (after-known-told (after-totals (c .before .before)))) _ (c .before .before .settle .ensures .0)
+    (c .before .if2 .taken))
 
 returns-4 : tie.Need-returns-4
 returns-4 c =
     let s = after-known-told (after-totals (c .before)) .before .before in
     after-move (start s .pre) _ _
-    (moves-it (start s .pre) (start s .args .node) (start s .args .microvolts) _ _ (number (at-match-keys1 (after-totals (c .before)) .before .before .before)) (at-match-keys1 (after-totals (c .before)) .before .before .if1 .left) (level (after-known-told (after-totals (c .before)))) _ (c .before .settle .ensures .0) (c .if2 .left) (c .before .settle .ensures .1))
+    (moves-it (start s .pre) (start s .args .node) (start s .args .microvolts) _ _
+    (number (at-match-keys1 (after-totals (c .before)) .before .before .before))
+    (at-match-keys1 (after-totals (c .before)) .before .before .if1 .left)
+    (level (after-known-told (after-totals (c .before)))) _ (c .before .settle .ensures .0) (c .if2 .left)
+    (c .before .settle .ensures .1))
 
 pub move-to-spec : {M : Type 1} → statement M
 move-to-spec =

@@ -8,7 +8,8 @@ use mir.ValLaws.{toZ-ofZ}
 use Rattle.board.specs.Counts.{roles}
 use Rattle.board.specs.Verdict.{issueOf}
 use Rattle.board.proofs.Reaches.{after-place}
-use Rattle.board.proofs.Changes.{Tested, tested-by, place-stops, free-below, number-below, place-below, place-works, place-over, places-it}
+use Rattle.board.proofs.Changes.{Tested, tested-by, place-stops, free-below, number-below, place-below}
+use Rattle.board.proofs.Changes.{place-works, place-over, places-it}
 use Rattle.board.proofs.Board.place.Statement.{statement}
 use Rattle.board.proofs.Board.place.Tie as tie
 

@@ -22,11 +22,15 @@ returns : tie.Need-returns
 returns c =
     let s = c .before .before .before in
     after-node (s .pre) (s .args .node)
-    (c .refused .ensures ∙ show-off (s .args .self) (s .args .node) (subst (λ (k : ℕ). nodesMost ≤ k) (number (c .before .before)) (c .before .if1 .taken)))
+    (c .refused .ensures
+    ∙ show-off (s .args .self) (s .args .node)
+    (subst (λ (k : ℕ). nodesMost ≤ k) (number (c .before .before)) (c .before .if1 .taken)))
 
 returns-2 : tie.Need-returns-2
 returns-2 c =
-    after-node (else1 c .before .before .pre) (else1 c .before .before .args .node) (shows-it (else1 c .before .before .args .self) (else1 c .before .before .args .node) _ _ _ (number (else1 c .before)) (else1 c .if1 .left)
+    after-node (else1 c .before .before .pre) (else1 c .before .before .args .node)
+    (shows-it (else1 c .before .before .args .self) (else1 c .before .before .args .node) _ _ _
+    (number (else1 c .before)) (else1 c .if1 .left)
     (toZ-ofZ w64 (c .lowered-of .result) (search needs) ∙ c .lowered-of .ensures) (search needs))
 
 pub read-node-spec : {M : Type 1} → statement M

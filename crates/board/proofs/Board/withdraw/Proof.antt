@@ -37,7 +37,8 @@ number : (c : tie.After-issue-of) → c .issue-of .result ≡ issueOf (c .before
 number c = c .issue-of .ensures ∙ ap issueOf (toZ-ofZ w64 (c .before .args .card) (c .before .fits .card))
 
 place-is : (c : tie.After-card-at) →
-    c .card-at .result ≡ placeOr cardsMost (cardPlace (issueOf (c .before .before .before .args .card)) (c .before .before .before .args .self .cards))
+    c .card-at .result ≡ placeOr cardsMost
+    (cardPlace (issueOf (c .before .before .before .args .card)) (c .before .before .before .args .self .cards))
 place-is c =
     c .card-at .ensures
     ∙ ap (λ (n : ℕ). placeOr cardsMost (cardPlace n (c .before .before .before .args .self .cards)))
@@ -50,7 +51,8 @@ there c =
     is-there cardsMost _ (subst (λ (k : ℕ). k < cardsMost) e (c .if1 .left)) ∙ ap some (sym e)
 
 on-it : (c : tie.After-any-on) →
-    c .any-on .result ≡ anyOf (standsOn (issueOf (start (c .before .before) .args .card))) (start (c .before .before) .args .self .transistors)
+    c .any-on .result ≡ anyOf (standsOn (issueOf (start (c .before .before) .args .card)))
+    (start (c .before .before) .args .self .transistors)
 on-it c =
     c .any-on .ensures
     ∙ ap (λ (n : ℕ). anyOf (standsOn n) (start (c .before .before) .args .self .transistors))
@@ -60,19 +62,29 @@ returns : tie.Need-returns
 returns c =
     let s = start-from-then1 (c .before) in
     after-withdraw (s .pre) _
-    (c .refused .ensures ∙ withdraw-unknown _ (s .args .card) (no-card-there (issueOf (s .args .card)) (s .args .self .cards) (subst (λ (k : ℕ). cardsMost ≤ k) (place-is (c .before .before)) (c .before .if1 .taken))))
+    (c .refused .ensures
+    ∙ withdraw-unknown _ (s .args .card)
+    (no-card-there (issueOf (s .args .card)) (s .args .self .cards)
+    (subst (λ (k : ℕ). cardsMost ≤ k) (place-is (c .before .before)) (c .before .if1 .taken))))
 
 returns-2 : tie.Need-returns-2
 returns-2 c =
     after-withdraw (after-issue-of (c .before .before .before) .before .pre) _
-    (c .refused2 .ensures ∙ withdraw-in-use _ (after-issue-of (c .before .before .before) .before .args .card) _ (there (else1-from-after-refused2 c)) (sym (on-it (c .before .before)) ∙ (c .before .if2 .taken)))
+    (c .refused2 .ensures
+    ∙ withdraw-in-use _ (after-issue-of (c .before .before .before) .before .args .card) _
+    (there (else1-from-after-refused2 c)) (sym (on-it (c .before .before)) ∙ (c .before .if2 .taken)))
 
 returns-3 : tie.Need-returns-3
 returns-3 c =
     let board = (after-issue-of (c .before .before .before) .before .args .self) in
     after-withdraw (after-issue-of (c .before .before .before) .before .pre) _
-    (ap (λ (x : Card). record { board = withCards board (set (board .cards) ((else1 c .before .card-at .result)) x) (board .next); answer = Done }) (c .no-card .ensures)
-    ∙ withdraws-it _ (after-issue-of (c .before .before .before) .before .args .card) _ (there (else1 c)) (sym (on-it (c .before .before)) ∙ (c .before .if2 .left)))
+    (ap
+    (λ (x : Card). record {
+      board = withCards board (set (board .cards) ((else1 c .before .card-at .result)) x) (board .next);
+      answer = Done;
+    }) (c .no-card .ensures)
+    ∙ withdraws-it _ (after-issue-of (c .before .before .before) .before .args .card) _ (there (else1 c))
+    (sym (on-it (c .before .before)) ∙ (c .before .if2 .left)))
 
 pub withdraw-spec : {M : Type 1} → statement M
 withdraw-spec =

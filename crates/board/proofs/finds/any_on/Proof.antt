@@ -32,12 +32,15 @@ loop-holds c = (search needs, at-start)
 returns : tie.Need-returns Inv-loop μ-loop
 returns c =
     let h = long (at-loop-from-then1 c .before) in
-    any-here noTransistor (omega arith) (sym (c .before .is-on .ensures) ∙ c .if1 .taken) (at-loop-from-then1 c .loop .inv .1)
+    any-here noTransistor (omega arith) (sym (c .before .is-on .ensures) ∙ c .if1 .taken)
+    (at-loop-from-then1 c .loop .inv .1)
 
 loop-again : tie.Need-loop-again Inv-loop μ-loop
 loop-again c =
-    let h = long (at-loop c .before) in
-    (omega arith, goes-on noTransistor (omega arith) (sym (c .before .is-on .ensures) ∙ c .if1 .left) (at-loop c .loop .inv .1))
+    let h = long (at-loop c .before) in (
+      omega arith,
+      goes-on noTransistor (omega arith) (sym (c .before .is-on .ensures) ∙ c .if1 .left) (at-loop c .loop .inv .1),
+    )
 
 returns-2 : tie.Need-returns-2 Inv-loop μ-loop
 returns-2 c =

@@ -43,7 +43,8 @@ loop-again c =
 returns-2 : tie.Need-returns-2 Inv-loop μ-loop
 returns-2 c =
     let h = long (c .before .before) in
-    let e : c .before .loop .i ≡ transistorsMost = omega arith in rw (← e) (first-nowhere (omega arith) (c .before .loop .inv .1))
+    let e : c .before .loop .i ≡ transistorsMost = omega arith in
+    rw (← e) (first-nowhere (omega arith) (c .before .loop .inv .1))
 
 pub find-transistor-spec : {M : Type 1} → statement M
 find-transistor-spec =

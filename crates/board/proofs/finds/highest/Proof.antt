@@ -32,7 +32,9 @@ loop-again c =
     let s = at-loop c .before in
     let h = long s in
     let k = at-loop c .loop .i in
-    let e : highestAt (s .args .name .now) (drop (k - 1) (s .args .t1)) ≡ _ = highest-more (s .args .name .now) (s .args .t1) k (omega arith) (omega arith) in (omega arith, cc)
+    let e : highestAt (s .args .name .now) (drop (k - 1) (s .args .t1)) ≡ _ =
+    highest-more (s .args .name .now) (s .args .t1) k (omega arith) (omega arith) in
+    (omega arith, cc)
 
 returns : tie.Need-returns Inv-loop μ-loop
 returns c = let e : c .before .loop .i ≡ 0 = omega arith in rw e at (c .before .loop .inv .1)

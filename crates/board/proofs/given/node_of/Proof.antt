@@ -9,13 +9,15 @@ returns : tie.Need-returns
 returns c =
     let m = c .before .before in
     let s = m .before .before .before in
-    node-is _ _ (is-up (s .args .n) (s .fits .n) _ (m .before .before .open .ensures) _ (m .i .given .1)) (c .if1 .taken)
+    node-is _ _ (is-up (s .args .n) (s .fits .n) _ (m .before .before .open .ensures) _ (m .i .given .1))
+    (c .if1 .taken)
 
 returns-2 : tie.Need-returns-2
 returns-2 c =
     let m = c .before .before in
     let s = m .before .before .before in
-    node-above _ _ (is-up (s .args .n) (s .fits .n) _ (m .before .before .open .ensures) _ (m .i .given .1)) (c .if1 .left)
+    node-above _ _ (is-up (s .args .n) (s .fits .n) _ (m .before .before .open .ensures) _ (m .i .given .1))
+    (c .if1 .left)
 
 returns-3 : tie.Need-returns-3
 returns-3 c =

@@ -28,7 +28,8 @@ loop-again : tie.Need-loop-again Inv-loop μ-loop
 loop-again c =
     let l = c .before .before .before in
     let h = long (l .before) in
-    let e : held (getD (l .before .args .t1) (l .loop .k) (pos 0)) ≡ getD (l .before .args .t1) (l .loop .k) (pos 0) = search needs in
+    let e : held (getD (l .before .args .t1) (l .loop .k) (pos 0)) ≡ getD (l .before .args .t1) (l .loop .k) (pos 0) =
+    search needs in
     (omega arith, filled-more _ (omega arith) (c .node-of .ensures ∙ ap nodeOf e) (l .loop .inv .1))
 
 returns : tie.Need-returns Inv-loop μ-loop

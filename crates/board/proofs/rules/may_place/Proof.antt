@@ -37,14 +37,16 @@ on : (c : tie.Else2) → anyOf (leb nodesMost) (start c .args .on) ≡ false
 on c = sym (c .before .any-off .ensures) ∙ c .if2 .left
 
 joined : (c : tie.Else3) →
-    workedAt (start (c .before .before .before) .args .t1) (else1 (c .before) .before .card-at .result) .direct && apartOn (start (c .before .before .before) .args .on) ≡ false
+    workedAt (start (c .before .before .before) .args .t1) (else1 (c .before) .before .card-at .result) .direct
+    && apartOn (start (c .before .before .before) .args .on) ≡ false
 joined c = sym (c .before .is-split .ensures) ∙ c .if3 .left
 
 returns : tie.Need-returns
 returns c =
     let s = c .before .before in
     stop-unknown (s .args .t1) (s .args .ts) (s .args .next) (s .args .n) (s .args .on)
-    (no-card-there (s .args .n) (s .args .t1) (subst (λ (k : ℕ). cardsMost ≤ k) (c .before .card-at .ensures) (c .if1 .taken)))
+    (no-card-there (s .args .n) (s .args .t1)
+    (subst (λ (k : ℕ). cardsMost ≤ k) (c .before .card-at .ensures) (c .if1 .taken)))
 
 returns-2 : tie.Need-returns-2
 returns-2 c =

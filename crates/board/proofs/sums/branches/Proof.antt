@@ -23,7 +23,8 @@ abbrev at-loop : tie.After-x Inv-loop μ-loop → tie.At-loop Inv-loop μ-loop
 at-loop c = c .before .before .before .before
 
 x-is : (c : tie.After-x Inv-loop μ-loop) →
-    held (getD (at-loop c .before .args .ticks .now) (at-loop c .loop .k) (pos 0)) ≡ getD (at-loop c .before .args .ticks .now) (at-loop c .loop .k) (pos 0)
+    held (getD (at-loop c .before .args .ticks .now) (at-loop c .loop .k) (pos 0)) ≡ getD
+    (at-loop c .before .args .ticks .now) (at-loop c .loop .k) (pos 0)
 x-is c = let b = at-loop c .before .pre .3 .within (at-loop c .loop .k) in held-is _ (omega arith)
 
 loop-holds : tie.Need-loop-holds Inv-loop μ-loop
@@ -36,8 +37,10 @@ branch-requires c κs =
     ((at-loop (c .before) .loop .inv .1))
 
 loop-again : tie.Need-loop-again Inv-loop μ-loop
-loop-again c =
-    (omega arith, ends-more _ _ _ _ _ ((at-loop (c .before .before) .loop .inv .1)) (x-is (c .before .before)) (c .branch .ensures))
+loop-again c = (
+  omega arith,
+  ends-more _ _ _ _ _ ((at-loop (c .before .before) .loop .inv .1)) (x-is (c .before .before)) (c .branch .ensures),
+)
 
 returns : tie.Need-returns Inv-loop μ-loop
 returns c = let e : (c .before .loop .k) ≡ branches = omega arith in rw e at (c .before .loop .inv .1)

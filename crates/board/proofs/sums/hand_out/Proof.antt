@@ -26,7 +26,8 @@ abbrev start : tie.After-x Inv-loop μ-loop → tie.Start Inv-loop μ-loop
 start c = c .before .before .before .before
 
 x-is : (c : tie.After-x Inv-loop μ-loop) →
-    held (getD (start c .args .a .now) (c .before .before .before .loop .k) (pos 0)) ≡ getD (start c .args .a .now) (c .before .before .before .loop .k) (pos 0)
+    held (getD (start c .args .a .now) (c .before .before .before .loop .k) (pos 0)) ≡ getD (start c .args .a .now)
+    (c .before .before .before .loop .k) (pos 0)
 x-is c = let b = (start c .pre .2 .within) (c .before .before .before .loop .k) in held-is _ (omega arith)
 
 loop-holds : tie.Need-loop-holds Inv-loop μ-loop
@@ -39,8 +40,11 @@ add-requires c κs =
     (omega arith) (x-is (c .before)) (at-loop c .loop .inv .1)
 
 loop-again : tie.Need-loop-again Inv-loop μ-loop
-loop-again c =
-    (omega arith, spread-more _ (λ (r : ℕ). getD (start (c .before .before) .args .a .now) r (pos 0)) _ _ (at-loop (c .before) .loop .inv .1) (x-is (c .before .before)) (c .add .ensures))
+loop-again c = (
+  omega arith,
+  spread-more _ (λ (r : ℕ). getD (start (c .before .before) .args .a .now) r (pos 0)) _ _
+      (at-loop (c .before) .loop .inv .1) (x-is (c .before .before)) (c .add .ensures),
+)
 
 returns : tie.Need-returns Inv-loop μ-loop
 returns c = let e : (c .before .loop .k) ≡ roles = omega arith in rw e at (c .before .loop .inv .1)

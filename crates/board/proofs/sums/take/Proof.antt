@@ -17,8 +17,12 @@ abbrev after-from : tie.After-hand-out → tie.After-from
 after-from c = c .before .before .before .before
 
 branches-requires : tie.Need-branches-requires
-branches-requires c κs =
-    (subst (Wired roles) (sym (c .before .before .before .to-roles .ensures)) (wired-tos (rowsFor false)), subst (Wired roles) (sym (after-from-roles c .from-roles .ensures)) (wired-froms (rowsFor false)), room-nothing, (after-from-roles c .before .pre .2))
+branches-requires c κs = (
+  subst (Wired roles) (sym (c .before .before .before .to-roles .ensures)) (wired-tos (rowsFor false)),
+  subst (Wired roles) (sym (after-from-roles c .from-roles .ensures)) (wired-froms (rowsFor false)),
+  room-nothing,
+  (after-from-roles c .before .pre .2),
+)
 
 hand-out-requires : tie.Need-hand-out-requires
 hand-out-requires c κs =
@@ -28,7 +32,10 @@ hand-out-requires c κs =
 returns : tie.Need-returns
 returns c =
     amounts-out _ _ _ _
-    (rw ((after-from-roles (after-from c) .from-roles .ensures), (after-from c .before .before .before .to-roles .ensures)) at (c .before .before .before .branches .ensures))
+    (rw (
+      (after-from-roles (after-from c) .from-roles .ensures),
+      (after-from c .before .before .before .to-roles .ensures),
+    ) at (c .before .before .before .branches .ensures))
     _ (c .hand-out .ensures)
 
 pub take-spec : {M : Type 1} → statement M

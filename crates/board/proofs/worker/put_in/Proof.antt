@@ -16,8 +16,12 @@ abbrev after-work : tie.After-put → tie.After-work
 after-work c = c .before .before .before .before
 
 put-requires : tie.Need-put-requires
-put-requires c κs =
-    (record { wired = (start c .pre .0 .wired) }, (start c .pre .1), subst (λ (o : Outcome). Within tickLimit (o .ticks)) (sym (c .before .before .before .work .ensures)) (ticks-within _ _))
+put-requires c κs = (
+  record { wired = (start c .pre .0 .wired) },
+  (start c .pre .1),
+  subst (λ (o : Outcome). Within tickLimit (o .ticks)) (sym (c .before .before .before .work .ensures))
+      (ticks-within _ _),
+)
 
 returns : tie.Need-returns
 returns c =

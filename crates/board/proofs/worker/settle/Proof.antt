@@ -1,4 +1,5 @@
--- `settle` goes through the places; when i are passed, the totals are half way, and it is told whether one of those overloads.
+-- `settle` goes through the places; when i are passed, the totals are half way, and it is told whether one of those
+-- overloads.
 use mathlib.Core.Path.{_≡_, sym, _∙_}
 use mathlib.Core.Bool.{true}
 use mathlib.Core.List.{map}
@@ -14,7 +15,8 @@ use Rattle.board.specs.inner.Parts.{standsAt}
 use Rattle.board.specs.inner.Settle.{HasCard}
 use Rattle.board.proofs.Scans.{AnyAmong, among-none, among-more, among-quiet, among-all}
 use Rattle.board.proofs.Amounts.{room-more, room-less}
-use Rattle.board.proofs.Currents.{takes-small, named-stands, place-below, workable-card, card-gives, card-takes, card-overloads}
+use Rattle.board.proofs.Currents.{takes-small, named-stands, place-below, workable-card, card-gives}
+use Rattle.board.proofs.Currents.{card-takes, card-overloads}
 use Rattle.board.proofs.Midway.{Midway, midway-start, midway-end, midway-room, midway-passes, midway-works}
 use Rattle.board.proofs.worker.settle.Statement.{statement}
 use Rattle.board.proofs.worker.settle.Tie as tie
@@ -45,7 +47,8 @@ long c = search needs
 
 -- a place that is worked names the node, and so stands, and has its card
 named : (c : tie.Then1 Inv-loop μ-loop) →
-    standsAt (at-loop-from-then1 c .before .before .args .n) (getD (at-loop-from-then1 c .before .before .args .t3) (at-loop-from-then1 c .loop .i) noTransistor) ≡ true
+    standsAt (at-loop-from-then1 c .before .before .args .n)
+    (getD (at-loop-from-then1 c .before .before .args .t3) (at-loop-from-then1 c .loop .i) noTransistor) ≡ true
 named c = sym (c .before .is-at .ensures) ∙ c .if1 .taken
 
 stands : (c : tie.Then1 Inv-loop μ-loop) →
@@ -56,7 +59,8 @@ stands c =
     (getD (at-loop-from-then1 c .before .before .args .t3) (at-loop-from-then1 c .loop .i) noTransistor) (named c)
 
 has-card : (c : tie.Then1 Inv-loop μ-loop) →
-    HasCard (at-loop-from-then1 c .before .before .args .t2) (getD (at-loop-from-then1 c .before .before .args .t3) (at-loop-from-then1 c .loop .i) noTransistor)
+    HasCard (at-loop-from-then1 c .before .before .args .t2)
+    (getD (at-loop-from-then1 c .before .before .args .t3) (at-loop-from-then1 c .loop .i) noTransistor)
 has-card c = (at-loop-from-then1 c .before .before .pre .has-card) (at-loop-from-then1 c .loop .i) (named c)
 
 loop-holds : tie.Need-loop-holds Inv-loop μ-loop
@@ -66,7 +70,8 @@ mul-c : tie.Need-mul-c Inv-loop μ-loop
 mul-c c =
     let b =
     place-below
-    (getD (at-loop-from-then1 (c .before) .before .before .args .t3) (at-loop-from-then1 (c .before) .loop .i) noTransistor)
+    (getD (at-loop-from-then1 (c .before) .before .before .args .t3) (at-loop-from-then1 (c .before) .loop .i)
+    noTransistor)
     (c .card-place-of .ensures) in
     omega arith
 
@@ -74,7 +79,8 @@ array-copy-out-c : tie.Need-array-copy-out-c Inv-loop μ-loop
 array-copy-out-c c =
     let b =
     place-below
-    (getD (at-loop-from-then1 (c .before) .before .before .args .t3) (at-loop-from-then1 (c .before) .loop .i) noTransistor)
+    (getD (at-loop-from-then1 (c .before) .before .before .args .t3) (at-loop-from-then1 (c .before) .loop .i)
+    noTransistor)
     (c .card-place-of .ensures) in
     omega arith
 

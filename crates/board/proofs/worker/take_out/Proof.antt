@@ -16,8 +16,12 @@ abbrev start : tie.After-ticks2 → tie.Start
 start c = c .before .before .before .before
 
 take-requires : tie.Need-take-requires
-take-requires c κs =
-    (record { wired = (start c .pre .0 .wired) }, (start c .pre .1), subst (λ (o : Outcome). Within tickLimit (o .ticks)) (sym (c .before .before .before .work .ensures)) (ticks-within _ _))
+take-requires c κs = (
+  record { wired = (start c .pre .0 .wired) },
+  (start c .pre .1),
+  subst (λ (o : Outcome). Within tickLimit (o .ticks)) (sym (c .before .before .before .work .ensures))
+      (ticks-within _ _),
+)
 
 returns : tie.Need-returns
 returns c = takes-flow _ _ _ (rw (after-work c .work .ensures) at (c .take .ensures))

@@ -19,14 +19,25 @@ role-volts-requires c κs = (record { wired = c .pre .wired }, c .pre .long)
 work-out-requires : tie.Need-work-out-requires
 work-out-requires c κs =
     let p = (c .before .before .before .pre) in
-    record { table-is = p .table-is; ready = p .ready; raised = subst Raised (sym (c .before .before .role-volts .ensures)) (record { seven = length-map (c .before .before .before .args .nodes .now) _ ∙ p .long; near = roles-near _ (p .volts-are) (c .before .before .before .args .nodes .now) }) }
+    record {
+      table-is = p .table-is;
+      ready = p .ready;
+      raised =
+          subst Raised (sym (c .before .before .role-volts .ensures))
+          (record {
+            seven = length-map (c .before .before .before .args .nodes .now) _ ∙ p .long;
+            near = roles-near _ (p .volts-are) (c .before .before .before .args .nodes .now);
+          });
+    }
 
 returns : tie.Need-returns
 returns c =
     let p = (start c .pre) in
     c .work-out .ensures
-    ∙ ap (λ (v : List ℕ). outcomeOf (start c .args .c .ready .card) (map lowered v)) (c .before .before .before .role-volts .ensures)
-    ∙ ap (outcomeOf (start c .args .c .ready .card)) (roles-lowered _ (p .volts-are) (start c .args .nodes .now) (p .wired))
+    ∙ ap (λ (v : List ℕ). outcomeOf (start c .args .c .ready .card) (map lowered v))
+    (c .before .before .before .role-volts .ensures)
+    ∙ ap (outcomeOf (start c .args .c .ready .card))
+    (roles-lowered _ (p .volts-are) (start c .args .nodes .now) (p .wired))
 
 pub work-spec : {M : Type 1} → statement M
 work-spec = tie.close (tie.spec role-volts-requires work-out-requires returns)
