@@ -137,8 +137,10 @@ module _ {b : Board} (g : Invariant b) (n v : ℕ) (near : v ≤ 2 * reach) wher
       record {
         was-are = volts-invariant g;
         volts-are =
-            record
-            { long = length-set (b .volts) n v ∙ g .volts-long; near = λ k. each-set (λ (x : ℕ). x ≤ 2 * reach) (b .volts) n k v 0 near (g .near k) };
+            record {
+              long = length-set (b .volts) n v ∙ g .volts-long;
+              near = λ k. each-set (λ (x : ℕ). x ≤ 2 * reach) (b .volts) n k v 0 near (g .near k);
+            };
         has-card = λ j e. has-card g j (named-stands n (getD (b .transistors) j noTransistor) e);
         same = λ j e m. gives-as-before (b .cards) (b .volts) n v (getD (b .transistors) j noTransistor) e m;
         quiet =

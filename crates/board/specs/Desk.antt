@@ -140,8 +140,12 @@ loaded d name (yes c) =
     record {
       reply = issued (d .next);
       desk =
-          record
-          { cards = record { issue = d .next; name = padded name; worked = c } ∷ d .cards; standing = d .standing; volts = d .volts; next = suc (d .next) };
+          record {
+            cards = record { issue = d .next; name = padded name; worked = c } ∷ d .cards;
+            standing = d .standing;
+            volts = d .volts;
+            next = suc (d .next);
+          };
     }
 
 -- a new transistor, which keeps the card as it is now
@@ -151,8 +155,13 @@ placed d nodes (yes h) =
     record {
       reply = issued (d .next);
       desk =
-          record
-          { cards = d .cards; standing = record { issue = d .next; card = h .issue; worked = h .worked; nodes = map natAbs nodes } ∷ d .standing; volts = d .volts; next = suc (d .next) };
+          record {
+            cards = d .cards;
+            standing =
+                record { issue = d .next; card = h .issue; worked = h .worked; nodes = map natAbs nodes } ∷ d .standing;
+            volts = d .volts;
+            next = suc (d .next);
+          };
     }
 
 abbrev pub moved : Desk → ℤ → Verdict ℕ → Step
