@@ -30,7 +30,7 @@ branch-fits : flowMost + 2 * tickLimit < 2 ^ 63
 branch-fits = lit< tt
 
 -- a total with a role's amount more
-pub amount-fits : handedMost + flowMost < 2 ^ 63
+amount-fits : handedMost + flowMost < 2 ^ 63
 amount-fits = lit< tt
 
 -- ---- more at one node
@@ -62,13 +62,13 @@ module _ (l : List ℤ) (f t : ℕ) (x : ℤ) (p : Fair l f t x) where
   long = p .2 .long
 
   x-is : held x ≡ x
-  x-is = let b = p .3 in held-is x (omega arith)
+  x-is = let b = p .3 in held-is x (omega (arith, branch-fits))
 
   from-is : held (getD l f (pos 0)) ≡ getD l f (pos 0)
-  from-is = let b = p .2 .within f in held-is (getD l f (pos 0)) (omega arith)
+  from-is = let b = p .2 .within f in held-is (getD l f (pos 0)) (omega (arith, branch-fits))
 
   small-sum : natAbs (getD l f (pos 0) +ℤ x) < 2 ^ 63
-  small-sum = let a = p .2 .within f in let b = p .3 in omega (arith, abs-add (getD l f (pos 0)) x)
+  small-sum = let a = p .2 .within f in let b = p .3 in omega (arith, branch-fits, abs-add (getD l f (pos 0)) x)
 
   pub room-from : SFits w64 (held (getD l f (pos 0)) +ℤ held x)
   room-from = rw (from-is, x-is) (fits _ small-sum)
@@ -90,13 +90,13 @@ module _ (l : List ℤ) (f t : ℕ) (x : ℤ) (p : Fair l f t x) where
       let d = abs-at f t x in rw (once-at t) (omega (arith, abs-add (getD l t (pos 0)) (atNode f t x)))
 
   to-is : held (getD once t (pos 0)) ≡ getD once t (pos 0)
-  to-is = let b = small-once in held-is (getD once t (pos 0)) (omega arith)
+  to-is = let b = small-once in held-is (getD once t (pos 0)) (omega (arith, branch-fits))
 
   small-less : natAbs (getD once t (pos 0) -ℤ x) < 2 ^ 63
   small-less =
       let a = small-once in
       let b = p .3 in
-      let d = abs-neg x in omega (arith, abs-add (getD once t (pos 0)) (negℤ x))
+      let d = abs-neg x in omega (arith, branch-fits, abs-add (getD once t (pos 0)) (negℤ x))
 
   pub room-to : SFits w64 (held (getD once t (pos 0)) -ℤ held x)
   room-to =
@@ -186,13 +186,13 @@ module _ (froms tos : List ℕ) (ticks : List ℤ) where
 
 module _ (l : List ℤ) (n : ℕ) (x : ℤ) (p : (n < nodesMost) × Room nodesMost handedMost l × (natAbs x ≤ flowMost)) where
   amount-is : held x ≡ x
-  amount-is = let b = p .2 in held-is x (omega arith)
+  amount-is = let b = p .2 in held-is x (omega (arith, amount-fits))
 
   total-is : held (getD l n (pos 0)) ≡ getD l n (pos 0)
-  total-is = let b = p .1 .within n in held-is (getD l n (pos 0)) (omega arith)
+  total-is = let b = p .1 .within n in held-is (getD l n (pos 0)) (omega (arith, amount-fits))
 
   small-total : natAbs (getD l n (pos 0) +ℤ x) < 2 ^ 63
-  small-total = let a = p .1 .within n in let b = p .2 in omega (arith, abs-add (getD l n (pos 0)) x)
+  small-total = let a = p .1 .within n in let b = p .2 in omega (arith, amount-fits, abs-add (getD l n (pos 0)) x)
 
   pub room-add : SFits w64 (held (getD l n (pos 0)) +ℤ held x)
   room-add = rw (total-is, amount-is) (fits _ small-total)
