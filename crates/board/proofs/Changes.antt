@@ -103,7 +103,8 @@ module _ {b : Board} (reached : Reached b) (z v : ℤ) (n x : ℕ) (ne : n ≡ n
 
   module _ (over : Bool)
       (oe : over ≡ anyOf (placeOverloads (b .cards) (map lowered (set (b .volts) n x))) (b .transistors)) where
-    over-is : over ≡ anyOf (placeOverloads (b .cards) (map lowered (set (b .volts) (natAbs z) (raised v)))) (b .transistors)
+    over-is :
+        over ≡ anyOf (placeOverloads (b .cards) (map lowered (set (b .volts) (natAbs z) (raised v)))) (b .transistors)
     over-is = oe ∙ ap (λ (l : List ℕ). anyOf (placeOverloads (b .cards) (map lowered l)) (b .transistors)) same-volts
 
     pub move-over : over ≡ true → refuse b Overload ≡ movedOf b z v

@@ -86,7 +86,7 @@ module _ (nodes : List ℕ) (n : ℕ) where
 
   -- the nodes of roles
   abbrev nodesOf : List ℕ → List ℕ
-  nodesOf roles = map (λ (r : ℕ). getD nodes r 0) roles
+  nodesOf rs = map (λ (r : ℕ). getD nodes r 0) rs
 
   spread-branches : (froms tos : List ℕ) (ticks : List ℤ) → Wired roles froms → Wired roles tos → (k : ℕ) →
       k ≤ length froms → k ≤ length tos →
@@ -132,8 +132,8 @@ ends-first f t froms tos x ticks (suc k) n =
 -- so that branches between the ends of rows give what the rows give
 module _ (nodes : List ℕ) (n : ℕ) where
   ends-are-rows : (rows : List Row) (ticks : List ℤ) → length ticks ≡ length rows →
-      endsGive (nodesOf nodes n (fromsOf rows)) (nodesOf nodes n (tosOf rows)) ticks (length rows) n ≡ rowsGive rows
-      nodes ticks n
+      endsGive (nodesOf nodes n (fromsOf rows)) (nodesOf nodes n (tosOf rows)) ticks (length rows) n
+      ≡ rowsGive rows nodes ticks n
   unfolding endsGive rowsGive
   ends-are-rows [] ticks h = refl
   ends-are-rows (r ∷ rows) [] h = absurd (omega arith)
@@ -170,19 +170,23 @@ wired-tos rows = wired-by (λ (r : Row). r .to) rows
 
 -- any rows
 module _ (rows : List Row) (nodes : List ℕ) (ticks : List ℤ) (n : ℕ) (h : length ticks ≡ length rows) where
+  abbrev rolesOf : (Row → Role) → List ℕ
+  rolesOf end = map (λ (r : Row). seatOf (end r)) rows
+
   by-roles : (from to : Row → Role) →
-      spread nodes
-      (endsGive (map (λ (r : Row). seatOf (from r)) rows) (map (λ (r : Row). seatOf (to r)) rows) ticks (length rows))
-      roles n ≡ endsGive (nodesOf nodes n (map (λ (r : Row). seatOf (from r)) rows))
-      (nodesOf nodes n (map (λ (r : Row). seatOf (to r)) rows)) ticks (length rows) n
+      spread nodes (endsGive (rolesOf from) (rolesOf to) ticks (length rows)) roles n
+      ≡ endsGive (nodesOf nodes n (rolesOf from)) (nodesOf nodes n (rolesOf to)) ticks (length rows) n
   by-roles from to =
       spread-branches nodes n _ _ ticks (wired-by from rows) (wired-by to rows) (length rows)
       (le-of-eq (sym (length-map rows _))) (le-of-eq (sym (length-map rows _)))
 
-  pub roles-are-rows : spread nodes (endsGive (fromsOf rows) (tosOf rows) ticks (length rows)) roles n ≡ rowsGive rows nodes ticks n
+  pub roles-are-rows :
+      spread nodes (endsGive (fromsOf rows) (tosOf rows) ticks (length rows)) roles n ≡ rowsGive rows nodes ticks n
   roles-are-rows = by-roles (λ (r : Row). r .from) (λ (r : Row). r .to) ∙ ends-are-rows nodes n rows ticks h
 
-  pub roles-turned : spread nodes (endsGive (tosOf rows) (fromsOf rows) ticks (length rows)) roles n ≡ negℤ (rowsGive rows nodes ticks n)
+  pub roles-turned :
+      spread nodes (endsGive (tosOf rows) (fromsOf rows) ticks (length rows)) roles n
+      ≡ negℤ (rowsGive rows nodes ticks n)
   roles-turned =
       by-roles (λ (r : Row). r .to) (λ (r : Row). r .from)
       ∙ ends-turned (nodesOf nodes n (fromsOf rows)) (nodesOf nodes n (tosOf rows)) ticks (length rows) n

@@ -49,7 +49,8 @@ loads name {bytes} {noRoom} {used} {c} e =
         let s = passes used _ _ (r .1) in
         let same : d ≡ c = cc in record { judged = j ∙ ap judged.Card same; room = r .0; number = s .0 }
 
-pub record Places {A : Type 0} (found : Found A) (worked : A → WorkedCard) (over : A → Bool) (nodes : List ℤ) (noRoom used : Bool) (a : A) : Type 0 where
+pub record Places {A : Type 0} (found : Found A) (worked : A → WorkedCard) (over : A → Bool) (nodes : List ℤ)
+    (noRoom used : Bool) (a : A) : Type 0 where
   pub there : found ≡ some a
   pub on : someOff nodes ≡ false
   pub joined : worked a .direct && apart nodes ≡ false

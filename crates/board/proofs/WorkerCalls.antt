@@ -121,7 +121,8 @@ module _ (cards : List Card) (volts : List ℕ) (n v : ℕ) (t : Transistor) (h 
       go true e = refl
       go false e = rw (roles-same volts n v (t .nodes) (not-named (eqb-false _ _ e)))
 
-  overloads-as-before : placeOverloads cards (map lowered (set volts n v)) t ≡ placeOverloads cards (map lowered volts) t
+  overloads-as-before :
+      placeOverloads cards (map lowered (set volts n v)) t ≡ placeOverloads cards (map lowered volts) t
   unfolding placeOverloads overloads
   overloads-as-before = go (eqb (t .issue) 0) refl
     where

@@ -36,7 +36,8 @@ pub record HasCard (cards : List Card) (t : Transistor) : Type 0 where
 
 -- From the old voltages to the new ones: a transistor that does not name the node n gives what it gave, and does not
 -- overload.
-pub record Settling (cards : List Card) (ts : List Transistor) (was volts : List ℕ) (n : ℕ) (totals : List ℤ) : Type 0 where
+pub record Settling (cards : List Card) (ts : List Transistor) (was volts : List ℕ) (n : ℕ) (totals : List ℤ)
+    : Type 0 where
   pub was-are : Volts was
   pub volts-are : Volts volts
   pub has-card : (i : ℕ) → standsAt n (getD ts i noTransistor) ≡ true → HasCard cards (getD ts i noTransistor)
