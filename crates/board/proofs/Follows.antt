@@ -54,10 +54,10 @@ abbrev mapVerdict : {A B : Type 0} → (A → B) → Verdict A → Verdict B
 mapVerdict g (no f) = no f
 mapVerdict g (yes a) = yes (g a)
 
-map-unless : {A B : Type 0} (g : A → B) (t : Bool) (f : Refusal) (v : Verdict A) →
+map-refuse : {A B : Type 0} (g : A → B) (t : Bool) (f : Refusal) (v : Verdict A) →
     mapVerdict g (refuseIf t f v) ≡ refuseIf t f (mapVerdict g v)
-map-unless g true f v = refl
-map-unless g false f v = refl
+map-refuse g true f v = refl
+map-refuse g false f v = refl
 
 module _ {A B : Type 0} (g : A → B) where
   map-place : (found : Found A) (worked : B → WorkedCard) (over : B → Bool) (nodes : List ℤ) (noRoom used : Bool) →
@@ -65,7 +65,7 @@ module _ {A B : Type 0} (g : A → B) where
       (placeVerdict found (λ (a : A). worked (g a)) (λ (a : A). over (g a)) nodes noRoom used)
   unfolding placeVerdict
   map-place none worked over nodes noRoom used = refl
-  map-place (some a) worked over nodes noRoom used = sym (simp map-unless)
+  map-place (some a) worked over nodes noRoom used = sym (simp map-refuse)
 
   map-lift : (found : Found A) → liftVerdict (mapFound g found) ≡ mapVerdict g (liftVerdict found)
   unfolding liftVerdict
@@ -238,10 +238,10 @@ module _ (b : Board) (d : Desk) (g : Invariant b) (o : Orderly d) (s : Stands b 
             };
           }
 
-  follow-place : (card : ℤ) (nodes : List ℤ) (seven : length nodes ≡ roles) →
-      Follow (placedOf b card nodes) (step d (place card nodes seven))
+  follow-place : (card : ℤ) (nodes : List ℤ) (sized : length nodes ≡ roles) →
+      Follow (placedOf b card nodes) (step d (place card nodes sized))
   unfolding placedOf step
-  follow-place card nodes seven =
+  follow-place card nodes sized =
       subst (λ (v : Verdict Held). Follow (placedOf b card nodes) (desk.placed d nodes v)) agree
       (go (board.mayPlace b card nodes) refl)
     where
@@ -369,7 +369,7 @@ module _ (b : Board) (d : Desk) (g : Invariant b) (o : Orderly d) (s : Stands b 
       sym (any-on b d g o s (issueOf n))
       ∙ ap (λ (k : ℕ). anyOf (λ (t : Standing). eqb (t .card) k) (d .standing)) (sym (a .issue-is)) in
       rw (card-by b d g o s (issueOf n), e)
-      (map-unless (heldAt b) (anyOf (standsOn (issueOf n)) (b .transistors)) _ _
+      (map-refuse (heldAt b) (anyOf (standsOn (issueOf n)) (b .transistors)) _ _
       ∙ ap (λ (t : Bool). refuseIf t CardInUse (yes (heldAt b i))) used)
 
   follow-withdraw : (n : ℤ) → Follow (withdrawnOf b n) (step d (withdraw n))
@@ -430,7 +430,7 @@ stands-fresh = record { cards = empty; standing = empty; volts = refl; next = re
 follow : (b : Board) (d : Desk) → Invariant b → Orderly d → Stands b d → (c : Call) → Follow (answered b c) (step d c)
 unfolding answered
 follow b d g o s (load name bytes) = follow-load b d g o s name bytes
-follow b d g o s (place card nodes seven) = follow-place b d g o s card nodes seven
+follow b d g o s (place card nodes sized) = follow-place b d g o s card nodes sized
 follow b d g o s (move n v) = follow-move b d g o s n v
 follow b d g o s (lift n) = follow-lift b d g o s n
 follow b d g o s (withdraw n) = follow-withdraw b d g o s n

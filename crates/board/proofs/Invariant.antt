@@ -237,7 +237,7 @@ not-on n t h e = eqb-false (t .card) n (rw (ne-eqb (t .issue) 0 h) at e)
 invariant-placed : {b : Board} (card : ℤ) (nodes : List ℤ) → length nodes ≡ roles → Invariant b →
     Invariant (placedOf b card nodes .board)
 unfolding placedOf
-invariant-placed {b} card nodes seven g = go _ refl
+invariant-placed {b} card nodes sized g = go _ refl
   where
     go : (v : Verdict ℕ) → mayPlace b card nodes ≡ v → Invariant (placed b nodes v .board)
     go (no f) e = g
@@ -257,7 +257,7 @@ invariant-placed {b} card nodes seven g = go _ refl
                 card-there = refl;
                 card-given = λ z. a .given (sym (a .issue-is) ∙ z);
                 wired = on-nodes nodes (p .on);
-                long = length-map nodes natAbs ∙ seven;
+                long = length-map nodes natAbs ∙ sized;
                 quiet = p .quiet;
               })
               (g .transistor j);
@@ -376,7 +376,7 @@ invariant-showed {b} n g = go (nodeVerdict n)
 invariant-answered : {b : Board} (c : Call) → Invariant b → Invariant (answered b c .board)
 unfolding answered
 invariant-answered (load name bytes) g = invariant-loaded name bytes g
-invariant-answered (place card nodes seven) g = invariant-placed card nodes seven g
+invariant-answered (place card nodes sized) g = invariant-placed card nodes sized g
 invariant-answered (move n v) g = invariant-moved n v g
 invariant-answered (lift n) g = invariant-lifted n g
 invariant-answered (withdraw n) g = invariant-withdrawn n g

@@ -44,7 +44,7 @@ withNumber (Refused f) earlier = earlier
 
 abbrev pub gives : Call → Answer → List ℕ → List ℕ
 gives (load name bytes) a earlier = withNumber a earlier
-gives (place card nodes seven) a earlier = withNumber a earlier
+gives (place card nodes sized) a earlier = withNumber a earlier
 gives (move n v) a earlier = earlier
 gives (lift n) a earlier = earlier
 gives (withdraw n) a earlier = earlier
@@ -89,7 +89,7 @@ module _ (b : Board) (l : List ℕ) (begun : 1 ≤ b .next) (f : Falls (b .next)
   falls-call : (c : Call) → Falls (answered b c .board .next) (gives c (answered b c .answer) l)
   unfolding answered movedOf liftedOf withdrawnOf lookedOf showedOf
   falls-call (load name bytes) = falls-load name bytes
-  falls-call (place card nodes seven) = falls-place card nodes
+  falls-call (place card nodes sized) = falls-place card nodes
   falls-call (move n v) = go (board.mayMove b n v)
     where
       go : (w : Verdict ℕ) → Falls (board.moved b v w .board .next) l
@@ -197,7 +197,7 @@ module _ (d : Desk) (o : Orderly d) where
       go : (v : Verdict WorkedCard) → standsAs k (desk.loaded d name v .desk .standing) ≡ some u → t ≡ u
       go (no f) r = cc
       go (yes c) r = cc
-  keeps (place card nodes seven) k t u p q = keeps-place nodes (desk.mayPlace d card nodes) k t u p q
+  keeps (place card nodes sized) k t u p q = keeps-place nodes (desk.mayPlace d card nodes) k t u p q
   keeps (move n v) k t u p q = go (desk.mayMove d n v) q
     where
       go : (w : Verdict ℕ) → standsAs k (desk.moved d v w .desk .standing) ≡ some u → t ≡ u
@@ -264,11 +264,11 @@ take-back d o t later e h =
     })
 
 -- on the desk: what was placed is found, and taken away again
-undo : (d : Desk) → Orderly d → (card : ℤ) (nodes : List ℤ) (seven : length nodes ≡ roles) (n : ℕ) →
-    step d (place card nodes seven) .reply ≡ desk.issued n →
-    Undone d (step (step d (place card nodes seven) .desk) (lift (pos n)) .desk)
+undo : (d : Desk) → Orderly d → (card : ℤ) (nodes : List ℤ) (sized : length nodes ≡ roles) (n : ℕ) →
+    step d (place card nodes sized) .reply ≡ desk.issued n →
+    Undone d (step (step d (place card nodes sized) .desk) (lift (pos n)) .desk)
 unfolding step
-undo d o card nodes seven n e = go (desk.mayPlace d card nodes) refl e
+undo d o card nodes sized n e = go (desk.mayPlace d card nodes) refl e
   where
     go : (v : Verdict Held) → desk.mayPlace d card nodes ≡ v → desk.placed d nodes v .reply ≡ desk.issued n →
         Undone d (desk.lifted (desk.placed d nodes v .desk) (desk.mayLift (desk.placed d nodes v .desk) (pos n)) .desk)
@@ -283,18 +283,18 @@ total-same : {d e : Desk} → Undone d e → (i : ℕ) → total e i ≡ total d
 unfolding total
 total-same u i = rw (u .standing, u .volts)
 
-after-undone : (calls : List Call) (card : ℤ) (nodes : List ℤ) (seven : length nodes ≡ roles) (n : ℕ) →
-    step (after calls) (place card nodes seven) .reply ≡ desk.issued n →
-    Undone (after calls) (after (lift (pos n) ∷ place card nodes seven ∷ calls))
+after-undone : (calls : List Call) (card : ℤ) (nodes : List ℤ) (sized : length nodes ≡ roles) (n : ℕ) →
+    step (after calls) (place card nodes sized) .reply ≡ desk.issued n →
+    Undone (after calls) (after (lift (pos n) ∷ place card nodes sized ∷ calls))
 unfolding after
-after-undone calls card nodes seven n e = undo (after calls) (orderly-after calls) card nodes seven n e
+after-undone calls card nodes sized n e = undo (after calls) (orderly-after calls) card nodes sized n e
 
 -- lifting the transistor that was just placed brings back every total
-pub lift-undoes-place : (calls : List Call) (card : ℤ) (nodes : List ℤ) (seven : length nodes ≡ roles) (n : ℕ) →
-    answered (boardAfter calls) (place card nodes seven) .answer ≡ Issue n →
-    boardAfter (lift (pos n) ∷ place card nodes seven ∷ calls) .totals ≡ boardAfter calls .totals
-lift-undoes-place calls card nodes seven n e =
-    let later = lift (pos n) ∷ place card nodes seven ∷ calls in
+pub lift-undoes-place : (calls : List Call) (card : ℤ) (nodes : List ℤ) (sized : length nodes ≡ roles) (n : ℕ) →
+    answered (boardAfter calls) (place card nodes sized) .answer ≡ Issue n →
+    boardAfter (lift (pos n) ∷ place card nodes sized ∷ calls) .totals ≡ boardAfter calls .totals
+lift-undoes-place calls card nodes sized n e =
+    let later = lift (pos n) ∷ place card nodes sized ∷ calls in
     let a = totals-long (invariant-after later) in
     let b = totals-long (invariant-after calls) in
     ext-getD (pos 0) (boardAfter later .totals) (boardAfter calls .totals) (a ∙ sym b)
@@ -302,8 +302,8 @@ lift-undoes-place calls card nodes seven n e =
     ∙ back i
     ∙ sym (totals-are-sums calls i (subst (λ (k : ℕ). i < k) a h)))
   where
-    told : step (after calls) (place card nodes seven) .reply ≡ desk.issued n
-    told = sym (follows calls (place card nodes seven) .reply) ∙ ap replyOf e
+    told : step (after calls) (place card nodes sized) .reply ≡ desk.issued n
+    told = sym (follows calls (place card nodes sized) .reply) ∙ ap replyOf e
 
-    back : (i : ℕ) → total (after (lift (pos n) ∷ place card nodes seven ∷ calls)) i ≡ total (after calls) i
-    back i = total-same (after-undone calls card nodes seven n told) i
+    back : (i : ℕ) → total (after (lift (pos n) ∷ place card nodes sized ∷ calls)) i ≡ total (after calls) i
+    back i = total-same (after-undone calls card nodes sized n told) i

@@ -84,7 +84,7 @@ orderly-step d (load name bytes) o = go (mayLoad d name bytes)
           cards = numbered-join _ _ refl (o .cards);
           standing = numbered-later _ (o .standing);
         }
-orderly-step d (place card nodes seven) o = go (mayPlace d card nodes)
+orderly-step d (place card nodes sized) o = go (mayPlace d card nodes)
   where
     go : (v : Verdict Held) → Orderly (placed d nodes v .desk)
     go (no f) = o

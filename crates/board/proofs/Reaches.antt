@@ -35,7 +35,7 @@ module _ {b : Board} {r : Answered} (k : Reached b) where
   pub after-place : (card : ℤ) (nodes : List ℤ) → length nodes ≡ roles → r ≡ placedOf b card nodes →
       Gives r (placedOf b card nodes)
   unfolding answered
-  after-place card nodes seven e = (e, one-more (place card nodes seven) k e)
+  after-place card nodes sized e = (e, one-more (place card nodes sized) k e)
 
   pub after-move : (n v : ℤ) → r ≡ movedOf b n v → Gives r (movedOf b n v)
   unfolding answered

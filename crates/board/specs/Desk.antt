@@ -247,7 +247,7 @@ mayLookUp d name = lookVerdict name (highest (padded name) (d .cards))
 
 unfoldable pub step : Desk → Call → Step
 step d (load name bytes) = loaded d name (mayLoad d name bytes)
-step d (place card nodes seven) = placed d nodes (mayPlace d card nodes)
+step d (place card nodes sized) = placed d nodes (mayPlace d card nodes)
 step d (move n v) = moved d v (mayMove d n v)
 step d (lift n) = lifted d (mayLift d n)
 step d (withdraw n) = withdrawn d (mayWithdraw d n)

@@ -225,7 +225,7 @@ showedOf b n = showed b (nodeVerdict n)
 
 unfoldable pub answered : Board → Call → Answered
 answered b (load name bytes) = loadedOf b name bytes
-answered b (place card nodes seven) = placedOf b card nodes
+answered b (place card nodes sized) = placedOf b card nodes
 answered b (move n v) = movedOf b n v
 answered b (lift n) = liftedOf b n
 answered b (withdraw n) = withdrawnOf b n

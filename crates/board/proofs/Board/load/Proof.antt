@@ -17,9 +17,6 @@ use Rattle.board.proofs.Board.load.Statement.{statement}
 use Rattle.board.proofs.Board.load.Tie as tie
 
 -- earlier places, from later ones
-abbrev after-find-card : tie.After-prepare → tie.After-find-card
-after-find-card c = c .before .before .before .before
-
 abbrev after-judge : tie.After-refused3 → tie.After-judge
 after-judge c = c .before .before .before .before
 
@@ -63,40 +60,42 @@ returns-2 c =
 
 returns-3 : tie.Need-returns-3
 returns-3 c =
-    after-load (start (else1 (after-judged2 (c .before) .before)) .pre) _ _
+    let j = after-judged2 (c .before) in
+    let l = else1 (j .before) in
+    after-load (start l .pre) _ _
     (c .refused4 .ensures
-    ∙ load-no-room _ _ _ (long (else1 (after-judged2 (c .before) .before)))
-    (is-name (after-judged2 (c .before) .before .before .before)) _ (is-card (after-judged2 (c .before)))
+    ∙ load-no-room _ _ _ (long l) (is-name (j .before .before .before)) _ (is-card j)
     (subst (λ (k : ℕ). cardsMost ≤ k) (c .before .before .find-card .ensures) (c .before .if3 .taken)))
 
 returns-4 : tie.Need-returns-4
 returns-4 c =
-    after-load (start (else1 (after-judged2-from-else3 (c .before .before) .before)) .pre) _ _
+    let f = c .before .before in
+    let j = after-judged2-from-else3 f in
+    let l = else1 (j .before) in
+    after-load (start l .pre) _ _
     (c .refused5 .ensures
-    ∙ load-used-up _ _ _ (long (else1 (after-judged2-from-else3 (c .before .before) .before)))
-    (is-name (after-judged2-from-else3 (c .before .before) .before .before .before)) _
-    (is-card (after-judged2-from-else3 (c .before .before)))
-    (subst (λ (k : ℕ). k < cardsMost) (c .before .before .before .find-card .ensures) (c .before .before .if3 .left))
-    (c .before .if4 .taken))
+    ∙ load-used-up _ _ _ (long l) (is-name (j .before .before .before)) _ (is-card j)
+    (subst (λ (k : ℕ). k < cardsMost) (f .before .find-card .ensures) (f .if3 .left)) (c .before .if4 .taken))
 
 prepare-requires : tie.Need-prepare-requires
 prepare-requires c κs = judged-is-worked _ _ (is-card (after-judged2-from-else3 (c .before .before)))
 
 returns-5 : tie.Need-returns-5
 returns-5 c =
-    after-load (start (after-judge c .before .before .before) .pre) _ _
+    let j = after-judge c in
+    let l = j .before .before .before in
+    after-load (start l .pre) _ _
     (c .refused3 .ensures
-    ∙ load-judged _ _ _ (long (after-judge c .before .before .before)) (is-name (after-judge c .before)) _
-    (sym ((after-judge c .judge .ensures)) ∙ (c .before .before .judged .given .1)))
+    ∙ load-judged _ _ _ (long l) (is-name (j .before)) _ (sym (j .judge .ensures) ∙ c .before .before .judged .given .1))
 
 returns-6 : tie.Need-returns-6
 returns-6 c =
-    after-load (start (else1 (after-judged2-from-else3 (c .before .before .before) .before)) .pre) _ _
-    (loads-it _ _ _ (long (else1 (after-judged2-from-else3 (c .before .before .before) .before)))
-    (is-name (after-judged2-from-else3 (c .before .before .before) .before .before .before)) _
-    (is-card (after-judged2-from-else3 (c .before .before .before))) _ _ _ ((after-find-card c .find-card .ensures))
-    (c .before .before .before .if3 .left) (c .before .before .if4 .left) (c .before .pad .ensures)
-    (c .prepare .ensures))
+    let f = c .before .before .before in
+    let j = after-judged2-from-else3 f in
+    let l = else1 (j .before) in
+    after-load (start l .pre) _ _
+    (loads-it _ _ _ (long l) (is-name (j .before .before .before)) _ (is-card j) _ _ _ (f .before .find-card .ensures)
+    (f .if3 .left) (c .before .before .if4 .left) (c .before .pad .ensures) (c .prepare .ensures))
 
 pub load-spec : {M : Type 1} → statement M
 load-spec =

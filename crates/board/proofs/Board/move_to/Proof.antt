@@ -22,8 +22,8 @@ start c = c .before .before .before .before
 abbrev after-known-told : tie.After-totals → tie.After-known-told
 after-known-told c = c .before .before .before .before
 
-abbrev at-match-keys1 : tie.After-totals → tie.At-match-keys1
-at-match-keys1 c = c .before .before .before .before .before .before
+abbrev else1-from-told : tie.After-known-told → tie.Else1
+else1-from-told c = c .before .before .before .before
 
 abbrev after-totals : tie.After-settle → tie.After-totals
 after-totals c = c .before .before .before .before
@@ -57,32 +57,31 @@ returns-2 c =
 
 settle-requires : tie.Need-settle-requires
 settle-requires c κs =
-    let s = start (after-known-told (c .before .before .before) .before .before) in
-    settling-move (s .pre) (s .args .node) (s .args .microvolts) _ _
-    (number (at-match-keys1 (c .before .before .before) .before .before .before))
-    (at-match-keys1 (c .before .before .before) .before .before .if1 .left)
-    (level (after-known-told (c .before .before .before)))
+    let k = after-known-told (c .before .before .before) in
+    let f = else1-from-told k in
+    settling-move (f .before .before .pre) (f .before .before .args .node) (f .before .before .args .microvolts) _ _
+    (number (f .before)) (f .if1 .left) (level k)
 
 returns-3 : tie.Need-returns-3
 returns-3 c =
-    let s = after-known-told (after-totals (c .before .before)) .before .before in
-    after-move (start s .pre) _ _
+    let p = c .before .before in
+    let k = after-known-told (after-totals p) in
+    let f = else1-from-told k in
+    let s = f .before .before in
+    after-move (s .pre) _ _
     (c .refused3 .ensures
-    ∙ move-over (start s .pre) (start s .args .node) (start s .args .microvolts) _ _
-    (number (at-match-keys1 (after-totals (c .before .before)) .before .before .before))
-    (at-match-keys1 (after-totals (c .before .before)) .before .before .if1 .left)
-    (level (after-known-told (after-totals (c .before .before)))) _ (c .before .before .settle .ensures .0)
-    (c .before .if2 .taken))
+    ∙ move-over (s .pre) (s .args .node) (s .args .microvolts) _ _ (number (f .before)) (f .if1 .left) (level k) _
+    (p .settle .ensures .0) (c .before .if2 .taken))
 
 returns-4 : tie.Need-returns-4
 returns-4 c =
-    let s = after-known-told (after-totals (c .before)) .before .before in
-    after-move (start s .pre) _ _
-    (moves-it (start s .pre) (start s .args .node) (start s .args .microvolts) _ _
-    (number (at-match-keys1 (after-totals (c .before)) .before .before .before))
-    (at-match-keys1 (after-totals (c .before)) .before .before .if1 .left)
-    (level (after-known-told (after-totals (c .before)))) _ (c .before .settle .ensures .0) (c .if2 .left)
-    (c .before .settle .ensures .1))
+    let p = c .before in
+    let k = after-known-told (after-totals p) in
+    let f = else1-from-told k in
+    let s = f .before .before in
+    after-move (s .pre) _ _
+    (moves-it (s .pre) (s .args .node) (s .args .microvolts) _ _ (number (f .before)) (f .if1 .left) (level k) _
+    (p .settle .ensures .0) (c .if2 .left) (p .settle .ensures .1))
 
 pub move-to-spec : {M : Type 1} → statement M
 move-to-spec =
