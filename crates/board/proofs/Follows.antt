@@ -1,4 +1,5 @@
--- The board follows the desk: after any calls it stands for the desk that the same calls leave, and answers each call as the desk does.
+-- The board follows the desk: after any calls it stands for the desk that the same calls leave, and answers each call
+-- as the desk does.
 use mathlib.Core.Path.{_≡_, refl, sym, ap, _∙_, subst}
 use mathlib.Core.Bool.{Bool, true, false, cond, not}
 use mathlib.Core.List.{List, [], _∷_, map}
@@ -20,19 +21,31 @@ use Rattle.board.specs.declared.Card.{Card}
 use Rattle.board.specs.declared.Transistor.{Transistor}
 use Rattle.board.specs.declared.Board.{Board}
 use Rattle.board.specs.declared.Answered.{Answered}
-use Rattle.board.specs.Verdict.{nodesMost, cardsMost, transistorsMost, Found, none, some, Verdict, no, yes, unless, issueOf, placeVerdict, moveVerdict, liftVerdict, withdrawVerdict, nodeVerdict}
+use Rattle.board.specs.Counts.{roles, nodesMost, cardsMost, transistorsMost}
+use Rattle.board.specs.Verdict.{Found, none, some, issueOf, placeVerdict, moveVerdict, liftVerdict}
+use Rattle.board.specs.Verdict.{withdrawVerdict, nodeVerdict}
+use Rattle.refusal.specs.Order.{Verdict, no, yes, refuseIf}
 use Rattle.branch.specs.Currents.{offVolts}
 use Rattle.board.specs.Desk as desk
-use Rattle.board.specs.Desk.{Held, Standing, Desk, Step, Call, load, place, move, lift, withdraw, lookUp, node, overloads, sumOver, anyOf, firstWith, heldAs, standsAs, without, larger, highest, flow, total, someOverloads, step, freshDesk, after}
+use Rattle.board.specs.Desk.{Held, Standing, Desk, Step, Call, load, place, move, lift, withdraw, lookUp, node}
+use Rattle.board.specs.Desk.{overloads, sumOver, anyOf, firstWith, heldAs, standsAs, without, larger, highest}
+use Rattle.board.specs.Desk.{flow, total, someOverloads, step, freshDesk, after}
 use Rattle.board.specs.Model as board
-use Rattle.board.specs.Model.{first, foundAt, isCard, isTransistor, cardPlace, transistorPlace, emptyCard, noCard, emptyTransistor, noTransistor, placeGives, placeOverloads, totalsOf, freshBoard, voltsOf, freeCard, freeTransistor, standsOn, highestAt, loadedOf, placedOf, movedOf, liftedOf, withdrawnOf, lookedOf, showedOf, answered, boardAfter}
+use Rattle.board.specs.Model.{first, foundAt, isCard, isTransistor, cardPlace, transistorPlace, emptyCard}
+use Rattle.board.specs.Model.{noCard, emptyTransistor, noTransistor, placeGives, placeOverloads, totalsOf}
+use Rattle.board.specs.Model.{freshBoard, voltsOf, freeCard, freeTransistor, standsOn, highestAt, loadedOf}
+use Rattle.board.specs.Model.{placedOf, movedOf, liftedOf, withdrawnOf, lookedOf, showedOf, answered}
+use Rattle.board.specs.Model.{boardAfter}
 use Rattle.board.specs.Perm.{empty}
 use Rattle.board.specs.Stands.{occupied, heldOf, standingOf, heldIn, standingIn, Stands, replyOf}
-use Rattle.board.proofs.Perms.{perm-join, perm-length, perm-sum, perm-any, perm-count, perm-first, perm-without, perm-highest}
-use Rattle.board.proofs.Places.{sum-occupied, any-occupied, full, join, seen, mapFound, find, find-none, count-occupied, leave}
+use Rattle.board.proofs.Perms.{perm-join, perm-length, perm-sum, perm-any, perm-count, perm-first}
+use Rattle.board.proofs.Perms.{perm-without, perm-highest}
+use Rattle.board.proofs.Places.{sum-occupied, any-occupied, full, join, seen, mapFound, find, find-none}
+use Rattle.board.proofs.Places.{count-occupied, leave}
 use Rattle.board.proofs.Lists.{tabulate-at, getD-map}
 use Rattle.board.proofs.Verdicts.{loads, places, moves, lifts, withdraws, shown}
-use Rattle.board.proofs.Good.{Good, good-after, at-card, AtCard, at-transistor, AtTransistor, unused-away, worked-same, free-card}
+use Rattle.board.proofs.Invariant.{Invariant, invariant-after, at-card, AtCard, at-transistor, AtTransistor}
+use Rattle.board.proofs.Invariant.{unused-away, worked-same, free-card}
 use Rattle.board.proofs.Orderly.{Orderly, orderly-after}
 
 -- ---- verdicts on what was found by place, and on the same found by itself
@@ -41,15 +54,18 @@ abbrev mapVerdict : {A B : Type 0} → (A → B) → Verdict A → Verdict B
 mapVerdict g (no f) = no f
 mapVerdict g (yes a) = yes (g a)
 
-map-unless : {A B : Type 0} (g : A → B) (t : Bool) (f : Refusal) (v : Verdict A) → mapVerdict g (unless t f v) ≡ unless t f (mapVerdict g v)
-map-unless g true f v = refl
-map-unless g false f v = refl
+map-refuse : {A B : Type 0} (g : A → B) (t : Bool) (f : Refusal) (v : Verdict A) →
+    mapVerdict g (refuseIf t f v) ≡ refuseIf t f (mapVerdict g v)
+map-refuse g true f v = refl
+map-refuse g false f v = refl
 
 module _ {A B : Type 0} (g : A → B) where
-  map-place : (found : Found A) (worked : B → WorkedCard) (over : B → Bool) (nodes : List ℤ) (noRoom used : Bool) → placeVerdict (mapFound g found) worked over nodes noRoom used ≡ mapVerdict g (placeVerdict found (λ (a : A). worked (g a)) (λ (a : A). over (g a)) nodes noRoom used)
+  map-place : (found : Found A) (worked : B → WorkedCard) (over : B → Bool) (nodes : List ℤ) (noRoom used : Bool) →
+      placeVerdict (mapFound g found) worked over nodes noRoom used ≡ mapVerdict g
+      (placeVerdict found (λ (a : A). worked (g a)) (λ (a : A). over (g a)) nodes noRoom used)
   unfolding placeVerdict
   map-place none worked over nodes noRoom used = refl
-  map-place (some a) worked over nodes noRoom used = sym (simp map-unless)
+  map-place (some a) worked over nodes noRoom used = sym (simp map-refuse)
 
   map-lift : (found : Found A) → liftVerdict (mapFound g found) ≡ mapVerdict g (liftVerdict found)
   unfolding liftVerdict
@@ -79,11 +95,13 @@ highest-held name (c ∷ cards) = go (eqb (c .issue) 0) refl (highest-held name 
     nothing true n = zero-larger n
     nothing false n = zero-larger n
 
-    go : (t : Bool) → eqb (c .issue) 0 ≡ t → highest name (heldIn cards) ≡ highestAt name cards → highest name (desk.keepIf (not t) (heldOf c) (heldIn cards)) ≡ larger (cond (same (c .name) name) (c .issue) 0) (highestAt name cards)
+    go : (t : Bool) → eqb (c .issue) 0 ≡ t → highest name (heldIn cards) ≡ highestAt name cards →
+        highest name (desk.keepIf (not t) (heldOf c) (heldIn cards)) ≡ larger
+        (cond (same (c .name) name) (c .issue) 0) (highestAt name cards)
     go true e h = rw (eqb-true (c .issue) 0 e) (h ∙ sym (nothing (same (c .name) name) (highestAt name cards)))
     go false e h = ap (larger (cond (same (c .name) name) (c .issue) 0)) h
 
-module _ (b : Board) (d : Desk) (g : Good b) (o : Orderly d) (s : Stands b d) where
+module _ (b : Board) (d : Desk) (g : Invariant b) (o : Orderly d) (s : Stands b d) where
   cards-full : leb cardsMost (freeCard (b .cards)) ≡ leb cardsMost (length (d .cards))
   cards-full =
       let e = full (λ (c : Card). c .issue) heldOf (b .cards) in
@@ -94,32 +112,70 @@ module _ (b : Board) (d : Desk) (g : Good b) (o : Orderly d) (s : Stands b d) wh
       let e = full (λ (t : Transistor). t .issue) (standingOf (b .cards)) (b .transistors) in
       rw (← (perm-length (s .standing))) (rw (g .transistors-long) at e)
 
-  card-by : (n : ℕ) → heldAs n (d .cards) ≡ mapFound (λ (i : ℕ). heldOf (getD (b .cards) i noCard)) (cardPlace n (b .cards))
-  card-by n = sym (perm-first (λ (h : Held). eqb (h .issue) n) (subst (λ (k : ℕ). k ≤ 1) (sym (perm-count (λ (h : Held). eqb (h .issue) n) (s .cards))) (o .cards .single n)) (s .cards)) ∙ go (eqb n 0) refl
+  card-by : (n : ℕ) →
+      heldAs n (d .cards) ≡ mapFound (λ (i : ℕ). heldOf (getD (b .cards) i noCard)) (cardPlace n (b .cards))
+  card-by n =
+      sym
+      (perm-first (λ (h : Held). eqb (h .issue) n)
+      (subst (λ (k : ℕ). k ≤ 1) (sym (perm-count (λ (h : Held). eqb (h .issue) n) (s .cards))) (o .cards .single n))
+      (s .cards))
+      ∙ go (eqb n 0) refl
     where
-      go : (t : Bool) → eqb n 0 ≡ t → firstWith (λ (h : Held). eqb (h .issue) n) (heldIn (b .cards)) ≡ mapFound (λ (i : ℕ). heldOf (getD (b .cards) i noCard)) (cond t none (foundAt cardsMost (first (isCard n) (b .cards))))
-      go true e = rw (eqb-true n 0 e) (find-none (λ (c : Card). c .issue) heldOf (λ (h : Held). h .issue) (λ c. refl) (b .cards))
-      go false e = rw (← (g .cards-long)) (find (λ (c : Card). c .issue) heldOf (λ (h : Held). h .issue) (λ c. refl) n (eqb-false n 0 e) noCard (b .cards))
+      go : (t : Bool) → eqb n 0 ≡ t →
+          firstWith (λ (h : Held). eqb (h .issue) n) (heldIn (b .cards)) ≡ mapFound
+          (λ (i : ℕ). heldOf (getD (b .cards) i noCard))
+          (cond t none (foundAt cardsMost (first (isCard n) (b .cards))))
+      go true e =
+          rw (eqb-true n 0 e)
+          (find-none (λ (c : Card). c .issue) heldOf (λ (h : Held). h .issue) (λ c. refl) (b .cards))
+      go false e =
+          rw (← (g .cards-long))
+          (find (λ (c : Card). c .issue) heldOf (λ (h : Held). h .issue) (λ c. refl) n (eqb-false n 0 e) noCard
+          (b .cards))
 
-  transistor-by : (n : ℕ) → standsAs n (d .standing) ≡ mapFound (λ (i : ℕ). standingOf (b .cards) (getD (b .transistors) i noTransistor)) (transistorPlace n (b .transistors))
-  transistor-by n = sym (perm-first (λ (t : Standing). eqb (t .issue) n) (subst (λ (k : ℕ). k ≤ 1) (sym (perm-count (λ (t : Standing). eqb (t .issue) n) (s .standing))) (o .standing .single n)) (s .standing)) ∙ go (eqb n 0) refl
+  transistor-by : (n : ℕ) →
+      standsAs n (d .standing) ≡ mapFound (λ (i : ℕ). standingOf (b .cards) (getD (b .transistors) i noTransistor))
+      (transistorPlace n (b .transistors))
+  transistor-by n =
+      sym
+      (perm-first (λ (t : Standing). eqb (t .issue) n)
+      (subst (λ (k : ℕ). k ≤ 1) (sym (perm-count (λ (t : Standing). eqb (t .issue) n) (s .standing)))
+      (o .standing .single n)) (s .standing))
+      ∙ go (eqb n 0) refl
     where
-      go : (t : Bool) → eqb n 0 ≡ t → firstWith (λ (u : Standing). eqb (u .issue) n) (standingIn (b .cards) (b .transistors)) ≡ mapFound (λ (i : ℕ). standingOf (b .cards) (getD (b .transistors) i noTransistor)) (cond t none (foundAt transistorsMost (first (isTransistor n) (b .transistors))))
-      go true e = rw (eqb-true n 0 e) (find-none (λ (t : Transistor). t .issue) (standingOf (b .cards)) (λ (u : Standing). u .issue) (λ t. refl) (b .transistors))
-      go false e = rw (← (g .transistors-long)) (find (λ (t : Transistor). t .issue) (standingOf (b .cards)) (λ (u : Standing). u .issue) (λ t. refl) n (eqb-false n 0 e) noTransistor (b .transistors))
+      go : (t : Bool) → eqb n 0 ≡ t →
+          firstWith (λ (u : Standing). eqb (u .issue) n) (standingIn (b .cards) (b .transistors)) ≡ mapFound
+          (λ (i : ℕ). standingOf (b .cards) (getD (b .transistors) i noTransistor))
+          (cond t none (foundAt transistorsMost (first (isTransistor n) (b .transistors))))
+      go true e =
+          rw (eqb-true n 0 e)
+          (find-none (λ (t : Transistor). t .issue) (standingOf (b .cards)) (λ (u : Standing). u .issue) (λ t. refl)
+          (b .transistors))
+      go false e =
+          rw (← (g .transistors-long))
+          (find (λ (t : Transistor). t .issue) (standingOf (b .cards)) (λ (u : Standing). u .issue) (λ t. refl) n
+          (eqb-false n 0 e) noTransistor (b .transistors))
 
   any-standing : (volts : List ℤ) → someOverloads d volts ≡ anyOf (placeOverloads (b .cards) volts) (b .transistors)
   unfolding placeOverloads
-  any-standing volts = sym (perm-any (λ (t : Standing). overloads (t .worked) (t .nodes) volts) (s .standing)) ∙ any-occupied (λ (t : Transistor). t .issue) (standingOf (b .cards)) (λ (t : Standing). overloads (t .worked) (t .nodes) volts) (b .transistors)
+  any-standing volts =
+      sym (perm-any (λ (t : Standing). overloads (t .worked) (t .nodes) volts) (s .standing))
+      ∙ any-occupied (λ (t : Transistor). t .issue) (standingOf (b .cards))
+      (λ (t : Standing). overloads (t .worked) (t .nodes) volts) (b .transistors)
 
   any-on : (n : ℕ) → anyOf (λ (t : Standing). eqb (t .card) n) (d .standing) ≡ anyOf (standsOn n) (b .transistors)
-  any-on n = sym (perm-any (λ (t : Standing). eqb (t .card) n) (s .standing)) ∙ any-occupied (λ (t : Transistor). t .issue) (standingOf (b .cards)) (λ (t : Standing). eqb (t .card) n) (b .transistors)
+  any-on n =
+      sym (perm-any (λ (t : Standing). eqb (t .card) n) (s .standing))
+      ∙ any-occupied (λ (t : Transistor). t .issue) (standingOf (b .cards)) (λ (t : Standing). eqb (t .card) n)
+      (b .transistors)
 
   pub totals-follow : (n : ℕ) → n < nodesMost → getD (b .totals) n (pos 0) ≡ total d n
   unfolding totalsOf total placeGives
   totals-follow n h =
       ap (λ (l : List ℤ). getD l n (pos 0)) (g .balanced) ∙ tabulate-at _ nodesMost n (pos 0) h
-      ∙ sym (sum-occupied (λ (t : Transistor). t .issue) (standingOf (b .cards)) (λ (t : Standing). flow (t .worked) (t .nodes) (voltsOf b) n) (b .transistors))
+      ∙ sym
+      (sum-occupied (λ (t : Transistor). t .issue) (standingOf (b .cards))
+      (λ (t : Standing). flow (t .worked) (t .nodes) (voltsOf b) n) (b .transistors))
       ∙ perm-sum (λ (t : Standing). flow (t .worked) (t .nodes) (voltsOf b) n) (s .standing)
       ∙ ap (λ (v : List ℤ). sumOver (λ (t : Standing). flow (t .worked) (t .nodes) v n) (d .standing)) (s .volts)
 
@@ -137,27 +193,38 @@ pub record Follow (a : Answered) (t : Step) : Type 0 where
   pub reply : replyOf (a .answer) ≡ t .reply
   pub board : Stands (a .board) (t .desk)
 
-module _ (b : Board) (d : Desk) (g : Good b) (o : Orderly d) (s : Stands b d) where
-  -- other cards at a place on which nobody sits leave the transistors as they are
-  same-standing : (p : ℕ) (c : Card) → ((i : ℕ) → (getD (b .transistors) i noTransistor .issue ≡ 0 → ⊥) → getD (b .transistors) i noTransistor .seat ≡ p → ⊥) → standingIn (set (b .cards) p c) (b .transistors) ≡ standingIn (b .cards) (b .transistors)
+module _ (b : Board) (d : Desk) (g : Invariant b) (o : Orderly d) (s : Stands b d) where
+  -- other cards at a place on which nobody stands leave the transistors as they are
+  same-standing : (p : ℕ) (c : Card) →
+      ((i : ℕ) → (getD (b .transistors) i noTransistor .issue ≡ 0 → ⊥) → getD (b .transistors) i
+      noTransistor .«card_place» ≡ p → ⊥) →
+      standingIn (set (b .cards) p c) (b .transistors) ≡ standingIn (b .cards) (b .transistors)
   same-standing p c away =
-      seen (λ (t : Transistor). t .issue) (standingOf (set (b .cards) p c)) (standingOf (b .cards)) noTransistor (b .transistors)
-      (λ i h k. let t = getD (b .transistors) i noTransistor in ap (λ (w : WorkedCard). record { issue = t .issue; card = t .card; worked = w; nodes = t .nodes }) (worked-same (b .cards) p c (voltsOf b) (t .seat) (away i k)))
+      seen (λ (t : Transistor). t .issue) (standingOf (set (b .cards) p c)) (standingOf (b .cards)) noTransistor
+      (b .transistors)
+      (λ i h k. let t = getD (b .transistors) i noTransistor in
+      ap (λ (w : WorkedCard). record { issue = t .issue; card = t .card; worked = w; nodes = t .nodes })
+      (worked-same (b .cards) p c (voltsOf b) (t .«card_place») (away i k)))
 
   given : b .next ≡ 0 → ⊥
   given e = let h = o .begun in let k = s .next in omega arith
 
   follow-load : (name bytes : List ℕ) → Follow (loadedOf b name bytes) (step d (load name bytes))
   unfolding loadedOf step
-  follow-load name bytes = subst (λ (v : Verdict WorkedCard). Follow (loadedOf b name bytes) (desk.loaded d name v)) agree (go (board.mayLoad b name bytes) refl)
+  follow-load name bytes =
+      subst (λ (v : Verdict WorkedCard). Follow (loadedOf b name bytes) (desk.loaded d name v)) agree
+      (go (board.mayLoad b name bytes) refl)
     where
       agree : board.mayLoad b name bytes ≡ desk.mayLoad d name bytes
       agree = rw (cards-full b d g o s, s .next)
 
-      new : (c : WorkedCard) → heldOf (record { issue = b .next; name = padded name; ready = readyOf c }) ≡ record { issue = d .next; name = padded name; worked = c }
+      new : (c : WorkedCard) →
+          heldOf (record { issue = b .next; name = padded name; ready = readyOf c })
+          ≡ record { issue = d .next; name = padded name; worked = c }
       new c = rw (ready-card c, s .next)
 
-      go : (v : Verdict WorkedCard) → board.mayLoad b name bytes ≡ v → Follow (board.loaded b name v) (desk.loaded d name v)
+      go : (v : Verdict WorkedCard) → board.mayLoad b name bytes ≡ v →
+          Follow (board.loaded b name v) (desk.loaded d name v)
       go (no f) e = record { reply = refl; board = s }
       go (yes c) e =
           let p = free-card b g (loads name e .room) in
@@ -171,17 +238,24 @@ module _ (b : Board) (d : Desk) (g : Good b) (o : Orderly d) (s : Stands b d) wh
             };
           }
 
-  follow-place : (card : ℤ) (nodes : List ℤ) (seven : length nodes ≡ 7) → Follow (placedOf b card nodes) (step d (place card nodes seven))
+  follow-place : (card : ℤ) (nodes : List ℤ) (sized : length nodes ≡ roles) →
+      Follow (placedOf b card nodes) (step d (place card nodes sized))
   unfolding placedOf step
-  follow-place card nodes seven = subst (λ (v : Verdict Held). Follow (placedOf b card nodes) (desk.placed d nodes v)) agree (go (board.mayPlace b card nodes) refl)
+  follow-place card nodes sized =
+      subst (λ (v : Verdict Held). Follow (placedOf b card nodes) (desk.placed d nodes v)) agree
+      (go (board.mayPlace b card nodes) refl)
     where
       agree : mapVerdict (heldAt b) (board.mayPlace b card nodes) ≡ desk.mayPlace d card nodes
       agree = rw (card-by b d g o s (issueOf card), map-place (heldAt b), transistors-full b d g o s, s .next, s .volts)
 
-      new : (i : ℕ) → standingOf (b .cards) (record { issue = b .next; card = heldAt b i .issue; seat = i; nodes = map natAbs nodes }) ≡ record { issue = d .next; card = heldAt b i .issue; worked = heldAt b i .worked; nodes = map natAbs nodes }
+      new : (i : ℕ) →
+          standingOf (b .cards)
+          (record { issue = b .next; card = heldAt b i .issue; «card_place» = i; nodes = map natAbs nodes })
+          ≡ record { issue = d .next; card = heldAt b i .issue; worked = heldAt b i .worked; nodes = map natAbs nodes }
       new i = rw (s .next)
 
-      go : (v : Verdict ℕ) → board.mayPlace b card nodes ≡ v → Follow (board.placed b nodes v) (desk.placed d nodes (mapVerdict (heldAt b) v))
+      go : (v : Verdict ℕ) → board.mayPlace b card nodes ≡ v →
+          Follow (board.placed b nodes v) (desk.placed d nodes (mapVerdict (heldAt b) v))
       go (no f) e = record { reply = refl; board = s }
       go (yes i) e =
           let p = places (cardPlace (issueOf card) (b .cards)) e in
@@ -189,7 +263,11 @@ module _ (b : Board) (d : Desk) (g : Good b) (o : Orderly d) (s : Stands b d) wh
             reply = ap desk.issued (s .next);
             board = record {
               cards = s .cards;
-              standing = perm-join (join (λ (t : Transistor). t .issue) (standingOf (b .cards)) (b .transistors) _ given (rw (g .transistors-long) (leb-false _ _ (p .room)))) (new i) (s .standing);
+              standing =
+                  perm-join
+                  (join (λ (t : Transistor). t .issue) (standingOf (b .cards)) (b .transistors) _ given
+                  (rw (g .transistors-long) (leb-false _ _ (p .room))))
+                  (new i) (s .standing);
               volts = s .volts;
               next = add-one (b .next) ∙ ap suc (s .next);
             };
@@ -206,66 +284,102 @@ module _ (b : Board) (d : Desk) (g : Good b) (o : Orderly d) (s : Stands b d) wh
 
   follow-move : (n v : ℤ) → Follow (movedOf b n v) (step d (move n v))
   unfolding movedOf step
-  follow-move n v = subst (λ (w : Verdict ℕ). Follow (movedOf b n v) (desk.moved d v w)) (agree-move n v (offVolts v) refl) (go (board.mayMove b n v) refl)
+  follow-move n v =
+      subst (λ (w : Verdict ℕ). Follow (movedOf b n v) (desk.moved d v w)) (agree-move n v (offVolts v) refl)
+      (go (board.mayMove b n v) refl)
     where
       go : (w : Verdict ℕ) → board.mayMove b n v ≡ w → Follow (board.moved b v w) (desk.moved d v w)
       go (no f) e = record { reply = refl; board = s }
-      go (yes k) e = record { reply = refl; board = record { cards = s .cards; standing = s .standing; volts = moved-volts v k (moves e .near); next = s .next } }
+      go (yes k) e =
+          record {
+            reply = refl;
+            board =
+                record {
+                  cards = s .cards;
+                  standing = s .standing;
+                  volts = moved-volts v k (moves e .near);
+                  next = s .next;
+                };
+          }
 
   -- without the one that was found its place is empty
-  without-transistor : (n i : ℕ) → AtTransistor n (b .transistors) i → without (λ (t : Standing). t .issue) (standingAt b i .issue) (standingIn (b .cards) (b .transistors)) ≡ standingIn (b .cards) (set (b .transistors) i emptyTransistor)
+  without-transistor : (n i : ℕ) → AtTransistor n (b .transistors) i →
+      without (λ (t : Standing). t .issue) (standingAt b i .issue) (standingIn (b .cards) (b .transistors))
+      ≡ standingIn (b .cards) (set (b .transistors) i emptyTransistor)
   without-transistor n i a =
-      let c = count-occupied (λ (t : Transistor). t .issue) (standingOf (b .cards)) (λ (t : Standing). t .issue) (λ t. refl) n (a .given) (b .transistors) in
+      let c =
+      count-occupied (λ (t : Transistor). t .issue) (standingOf (b .cards)) (λ (t : Standing). t .issue)
+      (λ t. refl) n (a .given) (b .transistors) in
       let p = perm-count (λ (t : Standing). eqb (t .issue) n) (s .standing) in
       let q = o .standing .single n in
       ap (λ (k : ℕ). without (λ (t : Standing). t .issue) k (standingIn (b .cards) (b .transistors))) (a .issue-is)
-      ∙ sym (leave (λ (t : Transistor). t .issue) (standingOf (b .cards)) (λ (t : Standing). t .issue) (λ t. refl) n (a .given) emptyTransistor refl (b .transistors) (omega arith))
+      ∙ sym
+      (leave (λ (t : Transistor). t .issue) (standingOf (b .cards)) (λ (t : Standing). t .issue) (λ t. refl) n
+      (a .given) emptyTransistor refl (b .transistors) (omega arith))
       ∙ ap (λ (k : ℕ). standingIn (b .cards) (set (b .transistors) k emptyTransistor)) (sym (a .is))
 
-  without-card : (n i : ℕ) → AtCard n (b .cards) i → without (λ (h : Held). h .issue) (heldAt b i .issue) (heldIn (b .cards)) ≡ heldIn (set (b .cards) i emptyCard)
+  without-card : (n i : ℕ) → AtCard n (b .cards) i →
+      without (λ (h : Held). h .issue) (heldAt b i .issue) (heldIn (b .cards)) ≡ heldIn (set (b .cards) i emptyCard)
   without-card n i a =
-      let c = count-occupied (λ (t : Card). t .issue) heldOf (λ (t : Held). t .issue) (λ t. refl) n (a .given) (b .cards) in
+      let c =
+      count-occupied (λ (t : Card). t .issue) heldOf (λ (t : Held). t .issue) (λ t. refl) n (a .given) (b .cards)
+      in
       let p = perm-count (λ (t : Held). eqb (t .issue) n) (s .cards) in
       let q = o .cards .single n in
       ap (λ (k : ℕ). without (λ (t : Held). t .issue) k (heldIn (b .cards))) (a .issue-is)
-      ∙ sym (leave (λ (t : Card). t .issue) heldOf (λ (t : Held). t .issue) (λ t. refl) n (a .given) emptyCard refl (b .cards) (omega arith))
+      ∙ sym
+      (leave (λ (t : Card). t .issue) heldOf (λ (t : Held). t .issue) (λ t. refl) n (a .given) emptyCard refl
+      (b .cards) (omega arith))
       ∙ ap (λ (k : ℕ). heldIn (set (b .cards) k emptyCard)) (sym (a .is))
 
   follow-lift : (n : ℤ) → Follow (liftedOf b n) (step d (lift n))
   unfolding liftedOf step
-  follow-lift n = subst (λ (v : Verdict Standing). Follow (liftedOf b n) (desk.lifted d v)) agree (go (board.mayLift b n) refl)
+  follow-lift n =
+      subst (λ (v : Verdict Standing). Follow (liftedOf b n) (desk.lifted d v)) agree (go (board.mayLift b n) refl)
     where
       agree : mapVerdict (standingAt b) (board.mayLift b n) ≡ desk.mayLift d n
       agree = rw (transistor-by b d g o s (issueOf n), map-lift (standingAt b))
 
-      go : (v : Verdict ℕ) → board.mayLift b n ≡ v → Follow (board.lifted b v) (desk.lifted d (mapVerdict (standingAt b) v))
+      go : (v : Verdict ℕ) → board.mayLift b n ≡ v →
+          Follow (board.lifted b v) (desk.lifted d (mapVerdict (standingAt b) v))
       go (no f) e = record { reply = refl; board = s }
       go (yes i) e =
-          let a = at-transistor (issueOf n) (b .transistors) i (g .transistors-long) (lifts (transistorPlace (issueOf n) (b .transistors)) e) in
+          let a =
+          at-transistor (issueOf n) (b .transistors) i (g .transistors-long)
+          (lifts (transistorPlace (issueOf n) (b .transistors)) e) in
           record {
             reply = refl;
             board = record {
               cards = s .cards;
-              standing = rw (← (without-transistor (issueOf n) i a)) (perm-without (λ (t : Standing). t .issue) (standingAt b i .issue) (s .standing));
+              standing =
+                  rw (← (without-transistor (issueOf n) i a))
+                  (perm-without (λ (t : Standing). t .issue) (standingAt b i .issue) (s .standing));
               volts = s .volts;
               next = s .next;
             };
           }
 
-  agree-withdraw : (n : ℤ) (found : Found ℕ) → cardPlace (issueOf n) (b .cards) ≡ found → mapVerdict (heldAt b) (board.mayWithdraw b n) ≡ desk.mayWithdraw d n
+  agree-withdraw : (n : ℤ) (found : Found ℕ) → cardPlace (issueOf n) (b .cards) ≡ found →
+      mapVerdict (heldAt b) (board.mayWithdraw b n) ≡ desk.mayWithdraw d n
   unfolding withdrawVerdict
   agree-withdraw n none e = rw (card-by b d g o s (issueOf n), e)
   agree-withdraw n (some i) e =
       let a = at-card (issueOf n) (b .cards) i (g .cards-long) e in
       let used : anyOf (standsOn (issueOf n)) (b .transistors) ≡ anyOf (λ (t : Standing). eqb (t .card) (heldAt b i .issue)) (d .standing) =
-      sym (any-on b d g o s (issueOf n)) ∙ ap (λ (k : ℕ). anyOf (λ (t : Standing). eqb (t .card) k) (d .standing)) (sym (a .issue-is)) in
-      rw (card-by b d g o s (issueOf n), e) (map-unless (heldAt b) (anyOf (standsOn (issueOf n)) (b .transistors)) _ _ ∙ ap (λ (t : Bool). unless t CardInUse (yes (heldAt b i))) used)
+      sym (any-on b d g o s (issueOf n))
+      ∙ ap (λ (k : ℕ). anyOf (λ (t : Standing). eqb (t .card) k) (d .standing)) (sym (a .issue-is)) in
+      rw (card-by b d g o s (issueOf n), e)
+      (map-refuse (heldAt b) (anyOf (standsOn (issueOf n)) (b .transistors)) _ _
+      ∙ ap (λ (t : Bool). refuseIf t CardInUse (yes (heldAt b i))) used)
 
   follow-withdraw : (n : ℤ) → Follow (withdrawnOf b n) (step d (withdraw n))
   unfolding withdrawnOf step
-  follow-withdraw n = subst (λ (v : Verdict Held). Follow (withdrawnOf b n) (desk.withdrawn d v)) (agree-withdraw n (cardPlace (issueOf n) (b .cards)) refl) (go (board.mayWithdraw b n) refl)
+  follow-withdraw n =
+      subst (λ (v : Verdict Held). Follow (withdrawnOf b n) (desk.withdrawn d v))
+      (agree-withdraw n (cardPlace (issueOf n) (b .cards)) refl) (go (board.mayWithdraw b n) refl)
     where
-      go : (v : Verdict ℕ) → board.mayWithdraw b n ≡ v → Follow (board.withdrawn b v) (desk.withdrawn d (mapVerdict (heldAt b) v))
+      go : (v : Verdict ℕ) → board.mayWithdraw b n ≡ v →
+          Follow (board.withdrawn b v) (desk.withdrawn d (mapVerdict (heldAt b) v))
       go (no f) e = record { reply = refl; board = s }
       go (yes i) e =
           let w = withdraws (cardPlace (issueOf n) (b .cards)) e in
@@ -273,7 +387,9 @@ module _ (b : Board) (d : Desk) (g : Good b) (o : Orderly d) (s : Stands b d) wh
           record {
             reply = refl;
             board = record {
-              cards = rw (← (without-card (issueOf n) i a)) (perm-without (λ (t : Held). t .issue) (heldAt b i .issue) (s .cards));
+              cards =
+                  rw (← (without-card (issueOf n) i a))
+                  (perm-without (λ (t : Held). t .issue) (heldAt b i .issue) (s .cards));
               standing = rw (same-standing i emptyCard (unused-away b g (issueOf n) i a (w .unused))) (s .standing);
               volts = s .volts;
               next = s .next;
@@ -282,7 +398,8 @@ module _ (b : Board) (d : Desk) (g : Good b) (o : Orderly d) (s : Stands b d) wh
 
   follow-look : (name : List ℕ) → Follow (lookedOf b name) (step d (lookUp name))
   unfolding lookedOf step
-  follow-look name = subst (λ (v : Verdict ℕ). Follow (lookedOf b name) (desk.looked d v)) agree (go (board.mayLookUp b name))
+  follow-look name =
+      subst (λ (v : Verdict ℕ). Follow (lookedOf b name) (desk.looked d v)) agree (go (board.mayLookUp b name))
     where
       agree : board.mayLookUp b name ≡ desk.mayLookUp d name
       agree = rw (← (highest-held (padded name) (b .cards)), perm-highest (padded name) (s .cards))
@@ -299,7 +416,9 @@ module _ (b : Board) (d : Desk) (g : Good b) (o : Orderly d) (s : Stands b d) wh
       go (no f) e = record { reply = refl; board = s }
       go (yes k) e =
           let h = shown n e in
-          let v : lowered (getD (b .volts) k 0) ≡ getD (d .volts) k (pos 0) = sym (getD-map lowered (b .volts) k 0 (pos 0) (rw (g .volts-long) h)) ∙ ap (λ (l : List ℤ). getD l k (pos 0)) (s .volts) in
+          let v : lowered (getD (b .volts) k 0) ≡ getD (d .volts) k (pos 0) =
+          sym (getD-map lowered (b .volts) k 0 (pos 0) (rw (g .volts-long) h)) ∙ ap
+          (λ (l : List ℤ). getD l k (pos 0)) (s .volts) in
           let t = totals-follow b d g o s k h in record { reply = rw (v, t); board = s }
 
 -- ---- any calls
@@ -308,10 +427,10 @@ pub stands-fresh : Stands freshBoard freshDesk
 unfolding freshBoard freshDesk occupied
 stands-fresh = record { cards = empty; standing = empty; volts = refl; next = refl }
 
-follow : (b : Board) (d : Desk) → Good b → Orderly d → Stands b d → (c : Call) → Follow (answered b c) (step d c)
+follow : (b : Board) (d : Desk) → Invariant b → Orderly d → Stands b d → (c : Call) → Follow (answered b c) (step d c)
 unfolding answered
 follow b d g o s (load name bytes) = follow-load b d g o s name bytes
-follow b d g o s (place card nodes seven) = follow-place b d g o s card nodes seven
+follow b d g o s (place card nodes sized) = follow-place b d g o s card nodes sized
 follow b d g o s (move n v) = follow-move b d g o s n v
 follow b d g o s (lift n) = follow-lift b d g o s n
 follow b d g o s (withdraw n) = follow-withdraw b d g o s n
@@ -321,8 +440,10 @@ follow b d g o s (node n) = follow-node b d g o s n
 pub stands-after : (calls : List Call) → Stands (boardAfter calls) (after calls)
 unfolding boardAfter after
 stands-after [] = stands-fresh
-stands-after (c ∷ cs) = follow (boardAfter cs) (after cs) (good-after cs) (orderly-after cs) (stands-after cs) c .board
+stands-after (c ∷ cs) =
+    follow (boardAfter cs) (after cs) (invariant-after cs) (orderly-after cs) (stands-after cs) c .board
 
 -- whatever calls were made, the next one is answered, and changes the board, as the desk has it
 pub follows : (calls : List Call) (c : Call) → Follow (answered (boardAfter calls) c) (step (after calls) c)
-follows calls c = follow (boardAfter calls) (after calls) (good-after calls) (orderly-after calls) (stands-after calls) c
+follows calls c =
+    follow (boardAfter calls) (after calls) (invariant-after calls) (orderly-after calls) (stands-after calls) c

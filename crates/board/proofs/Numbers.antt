@@ -1,4 +1,5 @@
--- Issue numbers over any calls: never given twice; who keeps a number keeps its card; and lifting the one just placed brings every total back.
+-- Issue numbers over any calls: never given twice; who keeps a number keeps its card; and lifting the one just placed
+-- brings every total back.
 use mathlib.Core.Path.{_≡_, refl, sym, ap, _∙_, subst}
 use mathlib.Core.Bool.{Bool, true, false, cond, not}
 use mathlib.Core.List.{List, [], _∷_}
@@ -14,15 +15,20 @@ use Rattle.card.specs.declared.WorkedCard.{WorkedCard}
 use Rattle.board.specs.declared.Board.{Board}
 use Rattle.board.specs.declared.Answer.{Answer}
 use Rattle.board.specs.declared.Answer.the-variants.{Issue, Done, Node, Refused}
-use Rattle.board.specs.Verdict.{issuesMost, Found, none, some, Verdict, no, yes, issueOf, liftVerdict, nodeVerdict}
+use Rattle.board.specs.Counts.{roles, issuesMost}
+use Rattle.board.specs.Verdict.{Found, none, some, issueOf, liftVerdict, nodeVerdict}
+use Rattle.refusal.specs.Order.{Verdict, no, yes}
 use Rattle.board.specs.Desk as desk
-use Rattle.board.specs.Desk.{Held, Standing, Desk, Call, load, place, move, lift, withdraw, lookUp, node, firstWith, ifTrue, standsAs, without, keepIf, total, step, after}
+use Rattle.board.specs.Desk.{Held, Standing, Desk, Call, load, place, move, lift, withdraw, lookUp, node}
+use Rattle.board.specs.Desk.{firstWith, ifTrue, standsAs, without, keepIf, total, step, after}
 use Rattle.board.specs.Model as board
-use Rattle.board.specs.Model.{loadedOf, placedOf, movedOf, liftedOf, withdrawnOf, lookedOf, showedOf, answered, boardAfter}
+use Rattle.board.specs.Model.{loadedOf, placedOf, movedOf, liftedOf, withdrawnOf, lookedOf, showedOf, answered}
+use Rattle.board.specs.Model.{boardAfter}
 use Rattle.board.specs.Stands.{replyOf}
+use Rattle.board.proofs.Integers.{clash}
 use Rattle.board.proofs.Perms.{count, more}
 use Rattle.board.proofs.Verdicts.{loads, places}
-use Rattle.board.proofs.Good.{good-after, totals-long}
+use Rattle.board.proofs.Invariant.{invariant-after, totals-long}
 use Rattle.board.proofs.Orderly.{Orderly, orderly-after}
 use Rattle.board.proofs.Follows.{stands-after, follows}
 use Rattle.board.proofs.Totals.{totals-are-sums}
@@ -38,7 +44,7 @@ withNumber (Refused f) earlier = earlier
 
 abbrev pub gives : Call → Answer → List ℕ → List ℕ
 gives (load name bytes) a earlier = withNumber a earlier
-gives (place card nodes seven) a earlier = withNumber a earlier
+gives (place card nodes sized) a earlier = withNumber a earlier
 gives (move n v) a earlier = earlier
 gives (lift n) a earlier = earlier
 gives (withdraw n) a earlier = earlier
@@ -60,26 +66,30 @@ one-more {n} p q f = let h : n < n + 1 = omega arith in next h p (ltb-false issu
 
 -- on a board whose next number is 1 or more, one call more
 module _ (b : Board) (l : List ℕ) (begun : 1 ≤ b .next) (f : Falls (b .next) l) where
-  falls-load : (name bytes : List ℕ) → Falls (loadedOf b name bytes .board .next) (withNumber (loadedOf b name bytes .answer) l)
+  falls-load : (name bytes : List ℕ) →
+      Falls (loadedOf b name bytes .board .next) (withNumber (loadedOf b name bytes .answer) l)
   unfolding loadedOf
   falls-load name bytes = go (board.mayLoad b name bytes) refl
     where
-      go : (v : Verdict WorkedCard) → board.mayLoad b name bytes ≡ v → Falls (board.loaded b name v .board .next) (withNumber (board.loaded b name v .answer) l)
+      go : (v : Verdict WorkedCard) → board.mayLoad b name bytes ≡ v →
+          Falls (board.loaded b name v .board .next) (withNumber (board.loaded b name v .answer) l)
       go (no g) e = f
       go (yes c) e = one-more begun (loads name e .number) f
 
-  falls-place : (card : ℤ) (nodes : List ℤ) → Falls (placedOf b card nodes .board .next) (withNumber (placedOf b card nodes .answer) l)
+  falls-place : (card : ℤ) (nodes : List ℤ) →
+      Falls (placedOf b card nodes .board .next) (withNumber (placedOf b card nodes .answer) l)
   unfolding placedOf
   falls-place card nodes = go (board.mayPlace b card nodes) refl
     where
-      go : (v : Verdict ℕ) → board.mayPlace b card nodes ≡ v → Falls (board.placed b nodes v .board .next) (withNumber (board.placed b nodes v .answer) l)
+      go : (v : Verdict ℕ) → board.mayPlace b card nodes ≡ v →
+          Falls (board.placed b nodes v .board .next) (withNumber (board.placed b nodes v .answer) l)
       go (no g) e = f
       go (yes i) e = one-more begun (places (board.cardPlace (issueOf card) (b .cards)) e .number) f
 
   falls-call : (c : Call) → Falls (answered b c .board .next) (gives c (answered b c .answer) l)
   unfolding answered movedOf liftedOf withdrawnOf lookedOf showedOf
   falls-call (load name bytes) = falls-load name bytes
-  falls-call (place card nodes seven) = falls-place card nodes
+  falls-call (place card nodes sized) = falls-place card nodes
   falls-call (move n v) = go (board.mayMove b n v)
     where
       go : (w : Verdict ℕ) → Falls (board.moved b v w .board .next) l
@@ -122,22 +132,29 @@ unfolding count firstWith
 find-none-left p [] e = refl
 find-none-left p (a ∷ rest) e = go (p a) e (λ h. find-none-left p rest h)
   where
-    go : (t : Bool) → more t (count p rest) ≡ 0 → (count p rest ≡ 0 → firstWith p rest ≡ none) → ifTrue t a (firstWith p rest) ≡ none
+    go : (t : Bool) → more t (count p rest) ≡ 0 → (count p rest ≡ 0 → firstWith p rest ≡ none) →
+        ifTrue t a (firstWith p rest) ≡ none
     go true h n = absurd (omega arith)
     go false h n = n h
 
 -- the one with number k is still found where another is taken away, and is gone where it is itself taken away
-find-without : {A : Type 0} (key : A → ℕ) (k m : ℕ) (l : List A) → firstWith (λ (a : A). eqb (key a) k) (without key m l) ≡ cond (eqb m k) none (firstWith (λ (a : A). eqb (key a) k) l)
+find-without : {A : Type 0} (key : A → ℕ) (k m : ℕ) (l : List A) →
+    firstWith (λ (a : A). eqb (key a) k) (without key m l) ≡ cond (eqb m k) none
+    (firstWith (λ (a : A). eqb (key a) k) l)
 unfolding without firstWith
 find-without key k m [] = go (eqb m k)
   where
     go : {B : Type 0} (t : Bool) → _≡_ {A = Found B} none (cond t none none)
     go true = refl
     go false = refl
-find-without {A = A} key k m (a ∷ rest) = go (eqb (key a) m) (eqb (key a) k) (eqb m k) refl refl refl (find-without key k m rest)
+find-without {A = A} key k m (a ∷ rest) =
+    go (eqb (key a) m) (eqb (key a) k) (eqb m k) refl refl refl (find-without key k m rest)
   where
-    go : (t u w : Bool) → eqb (key a) m ≡ t → eqb (key a) k ≡ u → eqb m k ≡ w → firstWith (λ (b : A). eqb (key b) k) (without key m rest) ≡ cond w none (firstWith (λ (b : A). eqb (key b) k) rest) →
-        firstWith (λ (b : A). eqb (key b) k) (keepIf (not t) a (without key m rest)) ≡ cond w none (ifTrue u a (firstWith (λ (b : A). eqb (key b) k) rest))
+    go : (t u w : Bool) → eqb (key a) m ≡ t → eqb (key a) k ≡ u → eqb m k ≡ w →
+        firstWith (λ (b : A). eqb (key b) k) (without key m rest) ≡ cond w none
+        (firstWith (λ (b : A). eqb (key b) k) rest) →
+        firstWith (λ (b : A). eqb (key b) k) (keepIf (not t) a (without key m rest)) ≡ cond w none
+        (ifTrue u a (firstWith (λ (b : A). eqb (key b) k) rest))
     go true true true p q r h = h
     go true true false p q r h = absurd (eqb-false m k r (sym (eqb-true (key a) m p) ∙ eqb-true (key a) k q))
     go true false true p q r h = h
@@ -152,31 +169,35 @@ module _ (d : Desk) (o : Orderly d) where
   nobody : (k : ℕ) → d .next ≤ k → standsAs k (d .standing) ≡ none
   nobody k h = find-none-left (λ (t : Standing). eqb (t .issue) k) (d .standing) (o .standing .below k h)
 
-  keeps-place : (nodes : List ℤ) (v : Verdict Held) (k : ℕ) (t u : Standing) → standsAs k (d .standing) ≡ some t → standsAs k (desk.placed d nodes v .desk .standing) ≡ some u → t ≡ u
+  keeps-place : (nodes : List ℤ) (v : Verdict Held) (k : ℕ) (t u : Standing) → standsAs k (d .standing) ≡ some t →
+      standsAs k (desk.placed d nodes v .desk .standing) ≡ some u → t ≡ u
   unfolding firstWith
   keeps-place nodes (no f) k t u p q = cc
   keeps-place nodes (yes h) k t u p q = go _ (eqb (d .next) k) refl q
     where
       go : (n : Standing) (b : Bool) → eqb (d .next) k ≡ b → ifTrue b n (standsAs k (d .standing)) ≡ some u → t ≡ u
-      go n true e r = let l : d .next ≤ k = le-of-eq (eqb-true (d .next) k e) in let m = nobody k l in let z : _≡_ {A = ℕ} 0 1 = cc in absurd (omega arith)
+      go n true e r = let l : d .next ≤ k = le-of-eq (eqb-true (d .next) k e) in let m = nobody k l in clash (cc)
       go n false e r = cc
 
-  keeps-lift : (v : Verdict Standing) (k : ℕ) (t u : Standing) → standsAs k (d .standing) ≡ some t → standsAs k (desk.lifted d v .desk .standing) ≡ some u → t ≡ u
+  keeps-lift : (v : Verdict Standing) (k : ℕ) (t u : Standing) → standsAs k (d .standing) ≡ some t →
+      standsAs k (desk.lifted d v .desk .standing) ≡ some u → t ≡ u
   keeps-lift (no f) k t u p q = cc
-  keeps-lift (yes x) k t u p q = go (eqb (x .issue) k) (sym (find-without (λ (w : Standing). w .issue) k (x .issue) (d .standing)) ∙ q)
+  keeps-lift (yes x) k t u p q =
+      go (eqb (x .issue) k) (sym (find-without (λ (w : Standing). w .issue) k (x .issue) (d .standing)) ∙ q)
     where
       go : (b : Bool) → cond b none (standsAs k (d .standing)) ≡ some u → t ≡ u
-      go true r = let z : _≡_ {A = ℕ} 0 1 = cc in absurd (omega arith)
+      go true r = clash (cc)
       go false r = cc
 
-  keeps : (c : Call) (k : ℕ) (t u : Standing) → standsAs k (d .standing) ≡ some t → standsAs k (step d c .desk .standing) ≡ some u → t ≡ u
+  keeps : (c : Call) (k : ℕ) (t u : Standing) → standsAs k (d .standing) ≡ some t →
+      standsAs k (step d c .desk .standing) ≡ some u → t ≡ u
   unfolding step
   keeps (load name bytes) k t u p q = go (desk.mayLoad d name bytes) q
     where
       go : (v : Verdict WorkedCard) → standsAs k (desk.loaded d name v .desk .standing) ≡ some u → t ≡ u
       go (no f) r = cc
       go (yes c) r = cc
-  keeps (place card nodes seven) k t u p q = keeps-place nodes (desk.mayPlace d card nodes) k t u p q
+  keeps (place card nodes sized) k t u p q = keeps-place nodes (desk.mayPlace d card nodes) k t u p q
   keeps (move n v) k t u p q = go (desk.mayMove d n v) q
     where
       go : (w : Verdict ℕ) → standsAs k (desk.moved d v w .desk .standing) ≡ some u → t ≡ u
@@ -200,18 +221,22 @@ module _ (d : Desk) (o : Orderly d) where
       go (yes c) r = cc
 
 -- one who stands under the same number before and after a call is the same: same card, same nodes
-pub others-keep-their-card : (calls : List Call) (c : Call) (k : ℕ) (t u : Standing) → standsAs k (after calls .standing) ≡ some t → standsAs k (after (c ∷ calls) .standing) ≡ some u → t ≡ u
+pub others-keep-their-card : (calls : List Call) (c : Call) (k : ℕ) (t u : Standing) →
+    standsAs k (after calls .standing) ≡ some t → standsAs k (after (c ∷ calls) .standing) ≡ some u → t ≡ u
 unfolding after
 others-keep-their-card calls c k t u p q = keeps (after calls) (orderly-after calls) c k t u p q
 
 -- ---- lifting the one just placed
 
-without-none : {A : Type 0} (key : A → ℕ) (n : ℕ) (l : List A) → count (λ (a : A). eqb (key a) n) l ≡ 0 → without key n l ≡ l
+without-none : {A : Type 0} (key : A → ℕ) (n : ℕ) (l : List A) → count (λ (a : A). eqb (key a) n) l ≡ 0 →
+    without key n l ≡ l
 unfolding count without
 without-none key n [] e = refl
 without-none {A = A} key n (a ∷ rest) e = go (eqb (key a) n) e (λ h. without-none key n rest h)
   where
-    go : (t : Bool) → more t (count (λ (b : A). eqb (key b) n) rest) ≡ 0 → (count (λ (b : A). eqb (key b) n) rest ≡ 0 → without key n rest ≡ rest) → keepIf (not t) a (without key n rest) ≡ a ∷ rest
+    go : (t : Bool) → more t (count (λ (b : A). eqb (key b) n) rest) ≡ 0 →
+        (count (λ (b : A). eqb (key b) n) rest ≡ 0 → without key n rest ≡ rest) →
+        keepIf (not t) a (without key n rest) ≡ a ∷ rest
     go true h m = absurd (omega arith)
     go false h m = ap (λ (l : List A). a ∷ l) (m h)
 
@@ -224,39 +249,61 @@ pub record Undone (d e : Desk) : Type 0 where
 
 -- what stands first in the list is found, and taken away again
 take-back : (d : Desk) → Orderly d → (t : Standing) (later : ℕ) → t .issue ≡ d .next → d .next ≤ issuesMost →
-    Undone d (desk.lifted (record { cards = d .cards; standing = t ∷ d .standing; volts = d .volts; next = later }) (desk.mayLift (record { cards = d .cards; standing = t ∷ d .standing; volts = d .volts; next = later }) (pos (d .next))) .desk)
+    Undone d
+    (desk.lifted (record { cards = d .cards; standing = t ∷ d .standing; volts = d .volts; next = later })
+    (desk.mayLift (record { cards = d .cards; standing = t ∷ d .standing; volts = d .volts; next = later })
+    (pos (d .next))) .desk)
 unfolding firstWith liftVerdict without
-take-back d o t later e h = rw (issue-kept (d .next) h, eq-eqb (t .issue) (d .next) e) (record { standing = rw (eq-eqb (t .issue) (t .issue) refl, e) (without-none (λ (u : Standing). u .issue) (d .next) (d .standing) (o .standing .below (d .next) (le-refl _))); volts = refl })
+take-back d o t later e h =
+    rw (issue-kept (d .next) h, eq-eqb (t .issue) (d .next) e)
+    (record {
+      standing =
+          rw (eq-eqb (t .issue) (t .issue) refl, e)
+          (without-none (λ (u : Standing). u .issue) (d .next) (d .standing) (o .standing .below (d .next) (le-refl _)));
+      volts = refl;
+    })
 
 -- on the desk: what was placed is found, and taken away again
-undo : (d : Desk) → Orderly d → (card : ℤ) (nodes : List ℤ) (seven : length nodes ≡ 7) (n : ℕ) → step d (place card nodes seven) .reply ≡ desk.issued n → Undone d (step (step d (place card nodes seven) .desk) (lift (pos n)) .desk)
+undo : (d : Desk) → Orderly d → (card : ℤ) (nodes : List ℤ) (sized : length nodes ≡ roles) (n : ℕ) →
+    step d (place card nodes sized) .reply ≡ desk.issued n →
+    Undone d (step (step d (place card nodes sized) .desk) (lift (pos n)) .desk)
 unfolding step
-undo d o card nodes seven n e = go (desk.mayPlace d card nodes) refl e
+undo d o card nodes sized n e = go (desk.mayPlace d card nodes) refl e
   where
-    go : (v : Verdict Held) → desk.mayPlace d card nodes ≡ v → desk.placed d nodes v .reply ≡ desk.issued n → Undone d (desk.lifted (desk.placed d nodes v .desk) (desk.mayLift (desk.placed d nodes v .desk) (pos n)) .desk)
-    go (no f) p r = let z : _≡_ {A = ℕ} 0 1 = cc in absurd (omega arith)
+    go : (v : Verdict Held) → desk.mayPlace d card nodes ≡ v → desk.placed d nodes v .reply ≡ desk.issued n →
+        Undone d (desk.lifted (desk.placed d nodes v .desk) (desk.mayLift (desk.placed d nodes v .desk) (pos n)) .desk)
+    go (no f) p r = clash (cc)
     go (yes h) p r =
         let same : d .next ≡ n = cc in
-        rw (← same) (take-back d o _ _ refl (ltb-false issuesMost (d .next) (places (desk.heldAs (issueOf card) (d .cards)) p .number)))
+        rw (← same)
+        (take-back d o _ _ refl
+        (ltb-false issuesMost (d .next) (places (desk.heldAs (issueOf card) (d .cards)) p .number)))
 
 total-same : {d e : Desk} → Undone d e → (i : ℕ) → total e i ≡ total d i
 unfolding total
 total-same u i = rw (u .standing, u .volts)
 
-after-undone : (calls : List Call) (card : ℤ) (nodes : List ℤ) (seven : length nodes ≡ 7) (n : ℕ) → step (after calls) (place card nodes seven) .reply ≡ desk.issued n → Undone (after calls) (after (lift (pos n) ∷ place card nodes seven ∷ calls))
+after-undone : (calls : List Call) (card : ℤ) (nodes : List ℤ) (sized : length nodes ≡ roles) (n : ℕ) →
+    step (after calls) (place card nodes sized) .reply ≡ desk.issued n →
+    Undone (after calls) (after (lift (pos n) ∷ place card nodes sized ∷ calls))
 unfolding after
-after-undone calls card nodes seven n e = undo (after calls) (orderly-after calls) card nodes seven n e
+after-undone calls card nodes sized n e = undo (after calls) (orderly-after calls) card nodes sized n e
 
 -- lifting the transistor that was just placed brings back every total
-pub lift-undoes-place : (calls : List Call) (card : ℤ) (nodes : List ℤ) (seven : length nodes ≡ 7) (n : ℕ) → answered (boardAfter calls) (place card nodes seven) .answer ≡ Issue n → boardAfter (lift (pos n) ∷ place card nodes seven ∷ calls) .totals ≡ boardAfter calls .totals
-lift-undoes-place calls card nodes seven n e =
-    let later = lift (pos n) ∷ place card nodes seven ∷ calls in
-    let a = totals-long (good-after later) in
-    let b = totals-long (good-after calls) in
-    ext-getD (pos 0) (boardAfter later .totals) (boardAfter calls .totals) (a ∙ sym b) (λ i h. totals-are-sums later i (subst (λ (k : ℕ). i < k) a h) ∙ back i ∙ sym (totals-are-sums calls i (subst (λ (k : ℕ). i < k) a h)))
+pub lift-undoes-place : (calls : List Call) (card : ℤ) (nodes : List ℤ) (sized : length nodes ≡ roles) (n : ℕ) →
+    answered (boardAfter calls) (place card nodes sized) .answer ≡ Issue n →
+    boardAfter (lift (pos n) ∷ place card nodes sized ∷ calls) .totals ≡ boardAfter calls .totals
+lift-undoes-place calls card nodes sized n e =
+    let later = lift (pos n) ∷ place card nodes sized ∷ calls in
+    let a = totals-long (invariant-after later) in
+    let b = totals-long (invariant-after calls) in
+    ext-getD (pos 0) (boardAfter later .totals) (boardAfter calls .totals) (a ∙ sym b)
+    (λ i h. totals-are-sums later i (subst (λ (k : ℕ). i < k) a h)
+    ∙ back i
+    ∙ sym (totals-are-sums calls i (subst (λ (k : ℕ). i < k) a h)))
   where
-    told : step (after calls) (place card nodes seven) .reply ≡ desk.issued n
-    told = sym (follows calls (place card nodes seven) .reply) ∙ ap replyOf e
+    told : step (after calls) (place card nodes sized) .reply ≡ desk.issued n
+    told = sym (follows calls (place card nodes sized) .reply) ∙ ap replyOf e
 
-    back : (i : ℕ) → total (after (lift (pos n) ∷ place card nodes seven ∷ calls)) i ≡ total (after calls) i
-    back i = total-same (after-undone calls card nodes seven n told) i
+    back : (i : ℕ) → total (after (lift (pos n) ∷ place card nodes sized ∷ calls)) i ≡ total (after calls) i
+    back i = total-same (after-undone calls card nodes sized n told) i

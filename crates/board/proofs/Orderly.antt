@@ -8,8 +8,11 @@ use native.Mathlib.Omega.{arith}
 use lib.Dec.{eqb, lit≤}
 use borrow.Author.Tests.{eqb-true, ne-eqb}
 use Rattle.card.specs.declared.WorkedCard.{WorkedCard}
-use Rattle.board.specs.Verdict.{Verdict, no, yes, nodeVerdict}
-use Rattle.board.specs.Desk.{Held, Standing, Desk, Call, load, place, move, lift, withdraw, lookUp, node, without, keepIf, loaded, placed, moved, lifted, withdrawn, looked, showed, mayLoad, mayPlace, mayMove, mayLift, mayWithdraw, mayLookUp, step, freshDesk, after}
+use Rattle.refusal.specs.Order.{Verdict, no, yes}
+use Rattle.board.specs.Verdict.{nodeVerdict}
+use Rattle.board.specs.Desk.{Held, Standing, Desk, Call, load, place, move, lift, withdraw, lookUp, node}
+use Rattle.board.specs.Desk.{without, keepIf, loaded, placed, moved, lifted, withdrawn, looked, showed, mayLoad}
+use Rattle.board.specs.Desk.{mayPlace, mayMove, mayLift, mayWithdraw, mayLookUp, step, freshDesk, after}
 use Rattle.board.proofs.Perms.{count, more}
 
 -- things whose keys are their numbers: each number at most once, and below next
@@ -18,12 +21,16 @@ pub record Numbered {A : Type 0} (key : A → ℕ) (l : List A) (next : ℕ) : T
   pub below : (n : ℕ) → next ≤ n → count (λ (a : A). eqb (key a) n) l ≡ 0
 
 module _ {A : Type 0} (key : A → ℕ) where
-  fewer : (k n : ℕ) (l : List A) → count (λ (a : A). eqb (key a) n) (without key k l) ≤ count (λ (a : A). eqb (key a) n) l
+  fewer : (k n : ℕ) (l : List A) →
+      count (λ (a : A). eqb (key a) n) (without key k l) ≤ count (λ (a : A). eqb (key a) n) l
   unfolding count without
   fewer k n [] = zero-le
   fewer k n (a ∷ rest) = go (not (eqb (key a) k)) (eqb (key a) n) refl (fewer k n rest)
     where
-      go : (t u : Bool) → eqb (key a) n ≡ u → count (λ (a : A). eqb (key a) n) (without key k rest) ≤ count (λ (a : A). eqb (key a) n) rest → count (λ (a : A). eqb (key a) n) (keepIf t a (without key k rest)) ≤ more u (count (λ (a : A). eqb (key a) n) rest)
+      go : (t u : Bool) → eqb (key a) n ≡ u →
+          count (λ (a : A). eqb (key a) n) (without key k rest) ≤ count (λ (a : A). eqb (key a) n) rest →
+          count (λ (a : A). eqb (key a) n) (keepIf t a (without key k rest)) ≤ more u
+          (count (λ (a : A). eqb (key a) n) rest)
       go true true e h = rw e (omega arith)
       go true false e h = rw e h
       go false true e h = omega arith
@@ -37,9 +44,14 @@ module _ {A : Type 0} (key : A → ℕ) where
   numbered-later h = record { single = h .single; below = λ n k. h .below n (omega arith) }
 
   pub numbered-without : (k : ℕ) {l : List A} {next : ℕ} → Numbered key l next → Numbered key (without key k l) next
-  numbered-without k {l} h = record { single = λ n. le-trans (fewer k n l) (h .single n); below = λ n p. let a = fewer k n l in let b = h .below n p in omega arith }
+  numbered-without k {l} h =
+      record {
+        single = λ n. le-trans (fewer k n l) (h .single n);
+        below = λ n p. let a = fewer k n l in let b = h .below n p in omega arith;
+      }
 
-  pub numbered-join : (x : A) {l : List A} {next : ℕ} → key x ≡ next → Numbered key l next → Numbered key (x ∷ l) (suc next)
+  pub numbered-join : (x : A) {l : List A} {next : ℕ} → key x ≡ next → Numbered key l next →
+      Numbered key (x ∷ l) (suc next)
   unfolding count
   numbered-join x {l} {next} e h = record {
     single = λ n. go n (eqb (key x) n) refl;
@@ -66,12 +78,22 @@ orderly-step d (load name bytes) o = go (mayLoad d name bytes)
   where
     go : (v : Verdict WorkedCard) → Orderly (loaded d name v .desk)
     go (no f) = o
-    go (yes c) = record { begun = omega arith; cards = numbered-join _ _ refl (o .cards); standing = numbered-later _ (o .standing) }
-orderly-step d (place card nodes seven) o = go (mayPlace d card nodes)
+    go (yes c) =
+        record {
+          begun = omega arith;
+          cards = numbered-join _ _ refl (o .cards);
+          standing = numbered-later _ (o .standing);
+        }
+orderly-step d (place card nodes sized) o = go (mayPlace d card nodes)
   where
     go : (v : Verdict Held) → Orderly (placed d nodes v .desk)
     go (no f) = o
-    go (yes h) = record { begun = omega arith; cards = numbered-later _ (o .cards); standing = numbered-join _ _ refl (o .standing) }
+    go (yes h) =
+        record {
+          begun = omega arith;
+          cards = numbered-later _ (o .cards);
+          standing = numbered-join _ _ refl (o .standing);
+        }
 orderly-step d (move n v) o = go (mayMove d n v)
   where
     go : (w : Verdict ℕ) → Orderly (moved d v w .desk)

@@ -1,4 +1,5 @@
--- What does not depend on a list's order: sums, searches that at most one element answers, lengths, and what is left without a key.
+-- What does not depend on a list's order: sums, searches that at most one element answers, lengths, and what is left
+-- without a key.
 use mathlib.Core.Path.{_≡_, refl, sym, ap, _∙_, subst}
 use mathlib.Core.Bool.{Bool, true, false, cond, not, _||_}
 use mathlib.Core.List.{List, [], _∷_}
@@ -72,17 +73,20 @@ perm-count p (swap {a = a} {b = b} {xs = xs}) = more-turn (p a) (p b) (count p x
 perm-count p (then q r) = perm-count p q ∙ perm-count p r
 
 -- where at most one element passes, the first that does is the same in any order
-pub perm-first : {A : Type 0} (p : A → Bool) {xs ys : List A} → count p xs ≤ 1 → Perm xs ys → firstWith p xs ≡ firstWith p ys
+pub perm-first : {A : Type 0} (p : A → Bool) {xs ys : List A} → count p xs ≤ 1 → Perm xs ys →
+    firstWith p xs ≡ firstWith p ys
 unfolding firstWith count
 perm-first p h empty = refl
 perm-first p h (keep {a = a} {xs = xs} {ys = ys} q) = go (p a) h (λ k. perm-first p k q)
   where
-    go : (t : Bool) → more t (count p xs) ≤ 1 → (count p xs ≤ 1 → firstWith p xs ≡ firstWith p ys) → ifTrue t a (firstWith p xs) ≡ ifTrue t a (firstWith p ys)
+    go : (t : Bool) → more t (count p xs) ≤ 1 → (count p xs ≤ 1 → firstWith p xs ≡ firstWith p ys) →
+        ifTrue t a (firstWith p xs) ≡ ifTrue t a (firstWith p ys)
     go true k next = refl
     go false k next = next (omega arith)
 perm-first p h (swap {a = a} {b = b} {xs = xs}) = go (p a) (p b) h
   where
-    go : (t u : Bool) → more t (more u (count p xs)) ≤ 1 → ifTrue t a (ifTrue u b (firstWith p xs)) ≡ ifTrue u b (ifTrue t a (firstWith p xs))
+    go : (t u : Bool) → more t (more u (count p xs)) ≤ 1 →
+        ifTrue t a (ifTrue u b (firstWith p xs)) ≡ ifTrue u b (ifTrue t a (firstWith p xs))
     go true true k = absurd (omega arith)
     go true false k = refl
     go false true k = refl
@@ -90,12 +94,14 @@ perm-first p h (swap {a = a} {b = b} {xs = xs}) = go (p a) (p b) h
 perm-first p h (then q r) = perm-first p h q ∙ perm-first p (subst (λ (n : ℕ). n ≤ 1) (perm-count p q) h) r
 
 -- what is left without a key, in any order
-pub perm-without : {A : Type 0} (key : A → ℕ) (n : ℕ) {xs ys : List A} → Perm xs ys → Perm (without key n xs) (without key n ys)
+pub perm-without : {A : Type 0} (key : A → ℕ) (n : ℕ) {xs ys : List A} → Perm xs ys →
+    Perm (without key n xs) (without key n ys)
 unfolding without
 perm-without key n empty = empty
 perm-without key n (keep {a = a} {xs = xs} {ys = ys} p) = go (not (eqb (key a) n)) (perm-without key n p)
   where
-    go : (t : Bool) → Perm (without key n xs) (without key n ys) → Perm (keepIf t a (without key n xs)) (keepIf t a (without key n ys))
+    go : (t : Bool) → Perm (without key n xs) (without key n ys) →
+        Perm (keepIf t a (without key n xs)) (keepIf t a (without key n ys))
     go true q = keep q
     go false q = q
 perm-without key n (swap {a = a} {b = b} {xs = xs}) = go (not (eqb (key a) n)) (not (eqb (key b) n))
@@ -144,5 +150,6 @@ pub perm-highest : (name : List ℕ) {xs ys : List Held} → Perm xs ys → high
 unfolding highest
 perm-highest name empty = refl
 perm-highest name (keep {a = a} p) = ap (larger (cond (same (a .name) name) (a .issue) 0)) (perm-highest name p)
-perm-highest name (swap {a = a} {b = b} {xs = xs}) = larger-turn (cond (same (a .name) name) (a .issue) 0) (cond (same (b .name) name) (b .issue) 0) (highest name xs)
+perm-highest name (swap {a = a} {b = b} {xs = xs}) =
+    larger-turn (cond (same (a .name) name) (a .issue) 0) (cond (same (b .name) name) (b .issue) 0) (highest name xs)
 perm-highest name (then p q) = perm-highest name p ∙ perm-highest name q

@@ -1,51 +1,61 @@
--- What the stored totals are on every board that calls leave: sums over what stands, zero in all, small, and the same for the same transistors.
+-- What the stored totals are on every board that calls leave: sums over what stands, zero in all, small, and the same
+-- for the same transistors.
 use mathlib.Core.Path.{_≡_, refl, sym, ap, _∙_, subst}
 use mathlib.Core.Bool.{Bool, true, false, cond}
 use mathlib.Core.List.{List, [], _∷_, map}
 use Prim.Native.Nat.{ℕ, zero, suc, _+_, _-_, _*_, _^_, _≤_, _<_, zero-le}
-use native.Mathlib.Nat.{suc-mul, le-refl, le-of-eq}
+use native.Mathlib.Nat.{suc-mul}
 use native.Mathlib.Omega.{arith}
-use lib.Dec.{eqb, ltb, eqb·zero-suc, eqb·suc-zero, eqb·suc-suc}
+use lib.Dec.{eqb, eqb·zero-suc, eqb·suc-zero, eqb·suc-suc}
 use lib.ListN.{length, getD}
-use lib.IntN.{ℤ, pos, negsuc, natAbs, negℤ, _+ℤ_, _-ℤ_, +ℤ-idl, +ℤ-idr, +ℤ-invr, +ℤ-assoc, +ℤ-comm}
+use lib.IntN.{ℤ, pos, natAbs, negℤ, _+ℤ_, _-ℤ_, +ℤ-idl, +ℤ-idr, +ℤ-invr}
 use borrow.Author.Tests.{eqb-false}
 use Rattle.card.specs.declared.WorkedCard.{WorkedCard}
 use Rattle.branch.specs.declared.Over.{Over}
 use Rattle.branch.specs.declared.Over.the-variants.{Within, Ticks, Injection}
 use Rattle.branch.specs.Rows.{Row, rowsFor}
 use Rattle.branch.specs.Ticks.{seatOf}
-use Rattle.branch.specs.Outcome.{outcomeOf}
+use Rattle.branch.specs.Outcome.{tickLimit, outcomeOf}
 use Rattle.branch.proofs.Laws.{ticks-small}
 use Rattle.board.specs.declared.Card.{Card}
 use Rattle.board.specs.declared.Transistor.{Transistor}
 use Rattle.board.specs.declared.Board.{Board}
-use Rattle.board.specs.Verdict.{nodesMost}
-use Rattle.board.specs.Desk.{Standing, Call, rolesAt, isOver, overloads, atNode, rowsGive, flow, sumOver, total, after}
-use Rattle.board.specs.Model.{noTransistor, workedAt, placeGives, tabulate, totalsOf, voltsOf, boardAfter, Reached}
+use Rattle.board.specs.Counts.{nodesMost}
+use Rattle.board.specs.Desk.{Standing, Call, rolesAt, isOver, overloads, atNode, rowsGive, flow, sumOver, total}
+use Rattle.board.specs.Desk.{after}
+use Rattle.board.specs.Model.{noTransistor, workedAt, placeGives, tabulate, totalsOf, voltsOf, boardAfter}
+use Rattle.board.specs.Model.{Reached}
 use Rattle.board.specs.Perm.{Perm}
 use Rattle.board.specs.Stands.{standingOf, standingIn}
+use Rattle.board.specs.inner.Sizes.{flowMost}
+use Rattle.board.proofs.Integers.{clash, abs-add, abs-ends, turned, swap-inner}
 use Rattle.board.proofs.Perms.{perm-sum}
 use Rattle.board.proofs.Places.{sum-occupied}
 use Rattle.board.proofs.Lists.{tabulate-same, tabulate-at}
-use Rattle.board.proofs.Good.{good, good-after}
+use Rattle.board.proofs.Invariant.{invariant, invariant-after}
 use Rattle.board.proofs.Orderly.{orderly-after}
 use Rattle.board.proofs.Follows.{stands-after, totals-follow}
 
 -- ---- each total is the sum over the transistors standing
 
-pub totals-are-sums : (calls : List Call) (n : ℕ) → n < nodesMost → getD (boardAfter calls .totals) n (pos 0) ≡ total (after calls) n
-totals-are-sums calls n h = totals-follow (boardAfter calls) (after calls) (good-after calls) (orderly-after calls) (stands-after calls) n h
+pub totals-are-sums : (calls : List Call) (n : ℕ) → n < nodesMost →
+    getD (boardAfter calls .totals) n (pos 0) ≡ total (after calls) n
+totals-are-sums calls n h =
+    totals-follow (boardAfter calls) (after calls) (invariant-after calls) (orderly-after calls) (stands-after calls)
+    n h
 
 -- ---- and counts for something: whatever stands has its currents
 
 not-over : (o : Over) → isOver o ≡ false → o ≡ Within
 not-over Within e = refl
-not-over (Ticks k) e = let z : _≡_ {A = ℕ} 0 1 = cc in absurd (omega arith)
-not-over (Injection k) e = let z : _≡_ {A = ℕ} 0 1 = cc in absurd (omega arith)
+not-over (Ticks k) e = clash (cc)
+not-over (Injection k) e = clash (cc)
 
-pub none-overloads : {b : Board} → Reached b → (i : ℕ) → (getD (b .transistors) i noTransistor .issue ≡ 0 → ⊥) → outcomeOf (workedAt (b .cards) (getD (b .transistors) i noTransistor .seat)) (rolesAt (voltsOf b) (getD (b .transistors) i noTransistor .nodes)) .over ≡ Within
+pub none-overloads : {b : Board} → Reached b → (i : ℕ) → (getD (b .transistors) i noTransistor .issue ≡ 0 → ⊥) →
+    outcomeOf (workedAt (b .cards) (getD (b .transistors) i noTransistor .«card_place»))
+    (rolesAt (voltsOf b) (getD (b .transistors) i noTransistor .nodes)) .over ≡ Within
 unfolding overloads
-none-overloads r i h = not-over _ (good r .sits i h .quiet)
+none-overloads r i h = not-over _ (invariant r .transistor i h .quiet)
 
 -- ---- all of them add to zero
 
@@ -53,14 +63,14 @@ unfoldable pub sumAll : List ℤ → ℤ
 unfolding sumOver
 sumAll l = sumOver (λ (x : ℤ). x) l
 
-pub swap-inner : (a b c d : ℤ) → (a +ℤ b) +ℤ (c +ℤ d) ≡ (a +ℤ c) +ℤ (b +ℤ d)
-swap-inner a b c d = +ℤ-assoc a b (c +ℤ d) ∙ ap (λ (z : ℤ). a +ℤ z) (sym (+ℤ-assoc b c d) ∙ ap (λ (z : ℤ). z +ℤ d) (+ℤ-comm b c) ∙ +ℤ-assoc c b d) ∙ sym (+ℤ-assoc a c (b +ℤ d))
-
 -- a table of sums is summed part by part
-sum-both : (f g : ℕ → ℤ) (k : ℕ) → sumAll (tabulate (λ (n : ℕ). f n +ℤ g n) k) ≡ sumAll (tabulate f k) +ℤ sumAll (tabulate g k)
+sum-both : (f g : ℕ → ℤ) (k : ℕ) →
+    sumAll (tabulate (λ (n : ℕ). f n +ℤ g n) k) ≡ sumAll (tabulate f k) +ℤ sumAll (tabulate g k)
 unfolding tabulate sumOver sumAll
 sum-both f g zero = refl
-sum-both f g (suc k) = ap (λ (z : ℤ). (f 0 +ℤ g 0) +ℤ z) (sum-both (λ (n : ℕ). f (suc n)) (λ (n : ℕ). g (suc n)) k) ∙ swap-inner (f 0) (g 0) _ _
+sum-both f g (suc k) =
+    ap (λ (z : ℤ). (f 0 +ℤ g 0) +ℤ z) (sum-both (λ (n : ℕ). f (suc n)) (λ (n : ℕ). g (suc n)) k)
+    ∙ swap-inner (f 0) (g 0) _ _
 
 sum-zeros : (f : ℕ → ℤ) (k : ℕ) → ((n : ℕ) → f n ≡ pos 0) → sumAll (tabulate f k) ≡ pos 0
 unfolding tabulate sumOver sumAll
@@ -71,41 +81,54 @@ sum-zeros f (suc k) h = rw (h 0) (+ℤ-idl _ ∙ sum-zeros (λ (n : ℕ). f (suc
 sum-node : (m k : ℕ) (x : ℤ) → m < k → sumAll (tabulate (λ (n : ℕ). atNode m n x) k) ≡ x
 unfolding tabulate sumOver sumAll
 sum-node m zero x h = absurd (omega arith)
-sum-node zero (suc k) x h = ap (λ (z : ℤ). x +ℤ z) (sum-zeros (λ (n : ℕ). atNode 0 (suc n) x) k (λ n. rw (eqb·zero-suc n))) ∙ +ℤ-idr x
-sum-node (suc m) (suc k) x h = rw (eqb·suc-zero m) (+ℤ-idl _ ∙ ap (sumAll) (tabulate-same _ _ k (λ n p. rw (eqb·suc-suc m n))) ∙ sum-node m k x (omega arith))
+sum-node zero (suc k) x h =
+    ap (λ (z : ℤ). x +ℤ z) (sum-zeros (λ (n : ℕ). atNode 0 (suc n) x) k (λ n. rw (eqb·zero-suc n))) ∙ +ℤ-idr x
+sum-node (suc m) (suc k) x h =
+    rw (eqb·suc-zero m)
+    (+ℤ-idl _ ∙ ap (sumAll) (tabulate-same _ _ k (λ n p. rw (eqb·suc-suc m n))) ∙ sum-node m k x (omega arith))
 
 -- a branch takes from one node what it gives to another
 sum-ends : (a b k : ℕ) (x : ℤ) → a < k → b < k → sumAll (tabulate (λ (n : ℕ). atNode a n x -ℤ atNode b n x) k) ≡ pos 0
 sum-ends a b k x h j =
-    ap sumAll (tabulate-same _ _ k (λ n p. ap (λ (z : ℤ). atNode a n x +ℤ z) (turned (eqb b n) x)))
+    ap sumAll (tabulate-same _ _ k (λ n p. ap (λ (z : ℤ). atNode a n x +ℤ z) (sym (turned (eqb b n) x))))
     ∙ sum-both (λ (n : ℕ). atNode a n x) (λ (n : ℕ). atNode b n (negℤ x)) k
     ∙ rw (sum-node a k x h, sum-node b k (negℤ x) j) (+ℤ-invr x)
-  where
-    turned : (t : Bool) (x : ℤ) → negℤ (cond t x (pos 0)) ≡ cond t (negℤ x) (pos 0)
-    turned true x = refl
-    turned false x = refl
 
-sum-rows : (rows : List Row) (nodes : List ℕ) (ticks : List ℤ) → ((k : ℕ) → getD nodes k 0 < nodesMost) → sumAll (tabulate (λ (n : ℕ). rowsGive rows nodes ticks n) nodesMost) ≡ pos 0
+sum-rows : (rows : List Row) (nodes : List ℕ) (ticks : List ℤ) → ((k : ℕ) → getD nodes k 0 < nodesMost) →
+    sumAll (tabulate (λ (n : ℕ). rowsGive rows nodes ticks n) nodesMost) ≡ pos 0
 unfolding rowsGive
 sum-rows [] nodes ticks h = sum-zeros _ nodesMost (λ n. refl)
 sum-rows (r ∷ rs) nodes [] h = sum-zeros _ nodesMost (λ n. refl)
 sum-rows (r ∷ rs) nodes (x ∷ xs) h =
-    sum-both (λ (n : ℕ). atNode (getD nodes (seatOf (r .from)) 0) n x -ℤ atNode (getD nodes (seatOf (r .to)) 0) n x) (λ (n : ℕ). rowsGive rs nodes xs n) nodesMost
-    ∙ rw (sum-ends (getD nodes (seatOf (r .from)) 0) (getD nodes (seatOf (r .to)) 0) nodesMost x (h _) (h _), sum-rows rs nodes xs h)
+    sum-both (λ (n : ℕ). atNode (getD nodes (seatOf (r .from)) 0) n x -ℤ atNode (getD nodes (seatOf (r .to)) 0) n x)
+    (λ (n : ℕ). rowsGive rs nodes xs n) nodesMost
+    ∙ rw (
+      sum-ends (getD nodes (seatOf (r .from)) 0) (getD nodes (seatOf (r .to)) 0) nodesMost x (h _) (h _),
+      sum-rows rs nodes xs h,
+    )
 
-sum-flow : (c : WorkedCard) (nodes : List ℕ) (volts : List ℤ) → ((k : ℕ) → getD nodes k 0 < nodesMost) → sumAll (tabulate (λ (n : ℕ). flow c nodes volts n) nodesMost) ≡ pos 0
+sum-flow : (c : WorkedCard) (nodes : List ℕ) (volts : List ℤ) → ((k : ℕ) → getD nodes k 0 < nodesMost) →
+    sumAll (tabulate (λ (n : ℕ). flow c nodes volts n) nodesMost) ≡ pos 0
 unfolding flow
 sum-flow c nodes volts h = sum-rows (rowsFor (c .exsub)) nodes (outcomeOf c (rolesAt volts nodes) .ticks) h
 
-sum-place : (cards : List Card) (volts : List ℤ) (t : Transistor) → ((t .issue ≡ 0 → ⊥) → (k : ℕ) → getD (t .nodes) k 0 < nodesMost) → sumAll (tabulate (λ (n : ℕ). placeGives cards volts n t) nodesMost) ≡ pos 0
+sum-place : (cards : List Card) (volts : List ℤ) (t : Transistor) →
+    ((t .issue ≡ 0 → ⊥) → (k : ℕ) → getD (t .nodes) k 0 < nodesMost) →
+    sumAll (tabulate (λ (n : ℕ). placeGives cards volts n t) nodesMost) ≡ pos 0
 unfolding placeGives
 sum-place cards volts t h = go (eqb (t .issue) 0) refl
   where
-    go : (u : Bool) → eqb (t .issue) 0 ≡ u → sumAll (tabulate (λ (n : ℕ). cond u (pos 0) (flow (workedAt cards (t .seat)) (t .nodes) volts n)) nodesMost) ≡ pos 0
+    go : (u : Bool) → eqb (t .issue) 0 ≡ u →
+        sumAll
+        (tabulate (λ (n : ℕ). cond u (pos 0) (flow (workedAt cards (t .«card_place»)) (t .nodes) volts n)) nodesMost)
+        ≡ pos 0
     go true e = sum-zeros (λ (n : ℕ). pos 0) nodesMost (λ n. refl)
-    go false e = sum-flow (workedAt cards (t .seat)) (t .nodes) volts (h (eqb-false (t .issue) 0 e))
+    go false e = sum-flow (workedAt cards (t .«card_place»)) (t .nodes) volts (h (eqb-false (t .issue) 0 e))
 
-sum-places : (cards : List Card) (volts : List ℤ) (ts : List Transistor) → ((i : ℕ) → (getD ts i noTransistor .issue ≡ 0 → ⊥) → (k : ℕ) → getD (getD ts i noTransistor .nodes) k 0 < nodesMost) → sumAll (tabulate (λ (n : ℕ). sumOver (placeGives cards volts n) ts) nodesMost) ≡ pos 0
+sum-places : (cards : List Card) (volts : List ℤ) (ts : List Transistor) →
+    ((i : ℕ) → (getD ts i noTransistor .issue ≡ 0 → ⊥) → (k : ℕ) → getD (getD ts i noTransistor .nodes) k 0 < nodesMost)
+    →
+    sumAll (tabulate (λ (n : ℕ). sumOver (placeGives cards volts n) ts) nodesMost) ≡ pos 0
 unfolding sumOver
 sum-places cards volts [] h = sum-zeros _ nodesMost (λ n. refl)
 sum-places cards volts (t ∷ ts) h =
@@ -114,7 +137,9 @@ sum-places cards volts (t ∷ ts) h =
 
 pub totals-add-to-zero : {b : Board} → Reached b → sumAll (b .totals) ≡ pos 0
 unfolding totalsOf
-totals-add-to-zero {b} r = rw (good r .balanced) (sum-places (b .cards) (voltsOf b) (b .transistors) (λ i h. good r .sits i h .wired))
+totals-add-to-zero {b} r =
+    rw (invariant r .balanced)
+    (sum-places (b .cards) (voltsOf b) (b .transistors) (λ i h. invariant r .transistor i h .wired))
 
 -- ---- the same transistors on the same cards and nodes, at the same voltages
 
@@ -135,44 +160,34 @@ sum-map f g [] = refl
 sum-map f g (a ∷ rest) = ap (λ (z : ℤ). f (g a) +ℤ z) (sum-map f g rest)
 
 -- a node's sum, by what each counts by
-sum-fitted : (b : Board) (n : ℕ) → sumOver (placeGives (b .cards) (voltsOf b) n) (b .transistors) ≡ sumOver (λ (f : Fitted). flow (f .worked) (f .nodes) (voltsOf b) n) (fittedIn b)
+sum-fitted : (b : Board) (n : ℕ) →
+    sumOver (placeGives (b .cards) (voltsOf b) n) (b .transistors) ≡ sumOver
+    (λ (f : Fitted). flow (f .worked) (f .nodes) (voltsOf b) n) (fittedIn b)
 unfolding placeGives
 sum-fitted b n =
-    sym (sum-occupied (λ (t : Transistor). t .issue) (standingOf (b .cards)) (λ (t : Standing). flow (t .worked) (t .nodes) (voltsOf b) n) (b .transistors))
-    ∙ sym (sum-map (λ (f : Fitted). flow (f .worked) (f .nodes) (voltsOf b) n) fittedOf (standingIn (b .cards) (b .transistors)))
+    sym
+    (sum-occupied (λ (t : Transistor). t .issue) (standingOf (b .cards))
+    (λ (t : Standing). flow (t .worked) (t .nodes) (voltsOf b) n) (b .transistors))
+    ∙ sym
+    (sum-map (λ (f : Fitted). flow (f .worked) (f .nodes) (voltsOf b) n) fittedOf
+    (standingIn (b .cards) (b .transistors)))
 
-pub same-standing-same-totals : {b c : Board} → Reached b → Reached c → Perm (fittedIn b) (fittedIn c) → voltsOf b ≡ voltsOf c → b .totals ≡ c .totals
+pub same-standing-same-totals : {b c : Board} → Reached b → Reached c → Perm (fittedIn b) (fittedIn c) →
+    voltsOf b ≡ voltsOf c → b .totals ≡ c .totals
 unfolding totalsOf
 same-standing-same-totals {b} {c} r s p e =
-    good r .balanced
-    ∙ tabulate-same _ _ nodesMost (λ n h. sum-fitted b n ∙ perm-sum (λ (f : Fitted). flow (f .worked) (f .nodes) (voltsOf b) n) p ∙ ap (λ (v : List ℤ). sumOver (λ (f : Fitted). flow (f .worked) (f .nodes) v n) (fittedIn c)) e ∙ sym (sum-fitted c n))
-    ∙ sym (good s .balanced)
+    invariant r .balanced
+    ∙ tabulate-same _ _ nodesMost
+    (λ n h. sum-fitted b n
+    ∙ perm-sum (λ (f : Fitted). flow (f .worked) (f .nodes) (voltsOf b) n) p
+    ∙ ap (λ (v : List ℤ). sumOver (λ (f : Fitted). flow (f .worked) (f .nodes) v n) (fittedIn c)) e
+    ∙ sym (sum-fitted c n))
+    ∙ sym (invariant s .balanced)
 
 -- ---- sizes: a row counts at most once at a node
 
-abs-sub : (t : Bool) (a b : ℕ) → natAbs (cond t (negsuc (suc b - suc a)) (pos (a - suc b))) ≤ a + suc b
-abs-sub true a b = omega arith
-abs-sub false a b = omega arith
-
-pub abs-add : (x y : ℤ) → natAbs (x +ℤ y) ≤ natAbs x + natAbs y
-abs-add (pos a) (pos b) = le-refl _
-abs-add (pos a) (negsuc b) = abs-sub (ltb a (suc b)) a b
-abs-add (negsuc a) (pos b) = omega (arith, abs-sub (ltb b (suc a)) b a)
-abs-add (negsuc a) (negsuc b) = omega arith
-
-pub abs-neg : (z : ℤ) → natAbs (negℤ z) ≡ natAbs z
-abs-neg (pos zero) = refl
-abs-neg (pos (suc n)) = refl
-abs-neg (negsuc n) = refl
-
--- what a branch gives to a node is at most its ticks in size, also where both its ends are there
-pub abs-ends : (t u : Bool) (x : ℤ) → natAbs (cond t x (pos 0) -ℤ cond u x (pos 0)) ≤ natAbs x
-abs-ends true true x = rw (+ℤ-invr x) zero-le
-abs-ends true false x = rw (+ℤ-idr x) (le-refl _)
-abs-ends false true x = rw (+ℤ-idl (negℤ x)) (le-of-eq (abs-neg x))
-abs-ends false false x = zero-le
-
-small-rows : (rows : List Row) (nodes : List ℕ) (ticks : List ℤ) (n most : ℕ) → ((k : ℕ) → natAbs (getD ticks k (pos 0)) ≤ most) → natAbs (rowsGive rows nodes ticks n) ≤ length rows * most
+small-rows : (rows : List Row) (nodes : List ℕ) (ticks : List ℤ) (n most : ℕ) →
+    ((k : ℕ) → natAbs (getD ticks k (pos 0)) ≤ most) → natAbs (rowsGive rows nodes ticks n) ≤ length rows * most
 unfolding rowsGive
 small-rows [] nodes ticks n most h = zero-le
 small-rows (r ∷ rs) nodes [] n most h = zero-le
@@ -185,19 +200,23 @@ small-rows (r ∷ rs) nodes (x ∷ xs) n most h =
     let u = h 0 in
     rw (suc-mul (length rs) most) (omega arith)
 
-pub small-flow : (c : WorkedCard) (nodes : List ℕ) (volts : List ℤ) (n : ℕ) → natAbs (flow c nodes volts n) ≤ 7 * 2 ^ 53
+pub small-flow : (c : WorkedCard) (nodes : List ℕ) (volts : List ℤ) (n : ℕ) → natAbs (flow c nodes volts n) ≤ flowMost
 unfolding flow
-small-flow c nodes volts n = small-rows (rowsFor (c .exsub)) nodes (outcomeOf c (rolesAt volts nodes) .ticks) n (2 ^ 53) (ticks-small c (rolesAt volts nodes))
+small-flow c nodes volts n =
+    small-rows (rowsFor (c .exsub)) nodes (outcomeOf c (rolesAt volts nodes) .ticks) n tickLimit
+    (ticks-small c (rolesAt volts nodes))
 
-pub small-place : (cards : List Card) (volts : List ℤ) (n : ℕ) (t : Transistor) → natAbs (placeGives cards volts n t) ≤ 7 * 2 ^ 53
+pub small-place : (cards : List Card) (volts : List ℤ) (n : ℕ) (t : Transistor) →
+    natAbs (placeGives cards volts n t) ≤ flowMost
 unfolding placeGives
 small-place cards volts n t = go (eqb (t .issue) 0)
   where
-    go : (u : Bool) → natAbs (cond u (pos 0) (flow (workedAt cards (t .seat)) (t .nodes) volts n)) ≤ 7 * 2 ^ 53
+    go : (u : Bool) → natAbs (cond u (pos 0) (flow (workedAt cards (t .«card_place»)) (t .nodes) volts n)) ≤ flowMost
     go true = zero-le
-    go false = small-flow (workedAt cards (t .seat)) (t .nodes) volts n
+    go false = small-flow (workedAt cards (t .«card_place»)) (t .nodes) volts n
 
-pub small-sum : {A : Type 0} (f : A → ℤ) (most : ℕ) → ((a : A) → natAbs (f a) ≤ most) → (l : List A) → natAbs (sumOver f l) ≤ length l * most
+pub small-sum : {A : Type 0} (f : A → ℤ) (most : ℕ) → ((a : A) → natAbs (f a) ≤ most) → (l : List A) →
+    natAbs (sumOver f l) ≤ length l * most
 unfolding sumOver
 small-sum f most h [] = zero-le
 small-sum f most h (a ∷ rest) =
@@ -208,7 +227,15 @@ small-sum f most h (a ∷ rest) =
 pub totals-are-small : {b : Board} → Reached b → (n : ℕ) → n < nodesMost → natAbs (getD (b .totals) n (pos 0)) < 2 ^ 62
 unfolding totalsOf
 totals-are-small {b} r n h =
-    let g = good r in
-    let s = small-sum (placeGives (b .cards) (voltsOf b) n) (7 * 2 ^ 53) (small-place (b .cards) (voltsOf b) n) (b .transistors) in
-    let k = subst (λ (l : ℕ). natAbs (sumOver (placeGives (b .cards) (voltsOf b) n) (b .transistors)) ≤ l * (7 * 2 ^ 53)) (g .transistors-long) s in
-    rw (g .balanced, tabulate-at (λ (m : ℕ). sumOver (placeGives (b .cards) (voltsOf b) m) (b .transistors)) nodesMost n (pos 0) h) (omega arith)
+    let g = invariant r in
+    let s =
+    small-sum (placeGives (b .cards) (voltsOf b) n) flowMost (small-place (b .cards) (voltsOf b) n)
+    (b .transistors) in
+    let k =
+    subst (λ (l : ℕ). natAbs (sumOver (placeGives (b .cards) (voltsOf b) n) (b .transistors)) ≤ l * flowMost)
+    (g .transistors-long) s in
+    rw (
+      g .balanced,
+      tabulate-at (λ (m : ℕ). sumOver (placeGives (b .cards) (voltsOf b) m) (b .transistors)) nodesMost n (pos 0) h,
+    )
+    (omega arith)

@@ -1,11 +1,11 @@
 -- What a call that is taken has passed: each test of its order.
-use mathlib.Core.Path.{_≡_, refl, ap}
+use mathlib.Core.Path.{_≡_, refl, ap, _∙_}
 use mathlib.Core.Bool.{Bool, true, false, not, _&&_, _||_}
 use mathlib.Core.List.{List}
 use Prim.Native.Nat.{ℕ, _<_}
-use native.Mathlib.Omega.{arith}
 use lib.IntN.{ℤ, pos, negsuc, natAbs}
 use Rattle.refusal.specs.declared.Refusal.{Refusal}
+use Rattle.refusal.specs.declared.Refusal.the-variants.{NoRoom, NumbersUsedUp}
 use Rattle.card.specs.declared.WorkedCard.{WorkedCard}
 use Rattle.card.specs.declared.Judged.{Judged}
 use Rattle.card.specs.declared.Judged.the-variants as judged
@@ -14,37 +14,43 @@ use Rattle.card.specs.Record.{rightLength}
 use Rattle.name.specs.Name.{asked}
 use lib.Dec.{leb, ltb}
 use borrow.Author.Tests.{leb-false}
-use Rattle.board.specs.Verdict.{nodesMost, Found, none, some, Verdict, no, yes, unless, afterwards, judgedCard, loadVerdict, placeVerdict, moveVerdict, liftVerdict, withdrawVerdict, nodeVerdict, offNode, someOff, apart}
+use Rattle.board.specs.Counts.{nodesMost}
+use Rattle.board.specs.Verdict.{Found, none, some, judgedCard, loadVerdict, placeVerdict, moveVerdict}
+use Rattle.board.specs.Verdict.{liftVerdict, withdrawVerdict, nodeVerdict, offNode, someOff, apart}
+use Rattle.refusal.specs.Order.{Verdict, yes, refuseIf, andThen}
 use Rattle.branch.specs.Currents.{offVolts}
+use Rattle.board.proofs.Integers.{clash}
 
 -- a test that a taken call went through
-passes : {A : Type 0} (t : Bool) (f : Refusal) (v : Verdict A) {a : A} → unless t f v ≡ yes a → (t ≡ false) × (v ≡ yes a)
-passes true f v e = let z : _≡_ {A = ℕ} 0 1 = cc in absurd (omega arith)
+passes : {A : Type 0} (t : Bool) (f : Refusal) (v : Verdict A) {a : A} → refuseIf t f v ≡ yes a →
+    (t ≡ false) × (v ≡ yes a)
+passes true f v e = clash (cc)
 passes false f v e = (refl, e)
-
-passed-after : {A : Type 0} (v : Verdict A) (t : Bool) (f : Refusal) {a : A} → afterwards v t f ≡ yes a → (v ≡ yes a) × (t ≡ false)
-passed-after (no g) t f e = let z : _≡_ {A = ℕ} 0 1 = cc in absurd (omega arith)
-passed-after (yes b) t f e = let p = passes t f (yes b) e in (p .1, p .0)
-
-is-judged : (j : Judged) {c : WorkedCard} → judgedCard j ≡ yes c → j ≡ judged.Card c
-is-judged (judged.Refused f) e = let z : _≡_ {A = ℕ} 0 1 = cc in absurd (omega arith)
-is-judged (judged.Card d) e = cc
 
 pub record Loads (bytes : List ℕ) (noRoom used : Bool) (c : WorkedCard) : Type 0 where
   pub judged : judgeOf bytes ≡ judged.Card c
   pub room : noRoom ≡ false
   pub number : used ≡ false
 
-pub loads : (name : List ℕ) {bytes : List ℕ} {noRoom used : Bool} {c : WorkedCard} → loadVerdict name bytes noRoom used ≡ yes c → Loads bytes noRoom used c
+pub loads : (name : List ℕ) {bytes : List ℕ} {noRoom used : Bool} {c : WorkedCard} →
+    loadVerdict name bytes noRoom used ≡ yes c → Loads bytes noRoom used c
 unfolding loadVerdict
-loads name {bytes} {noRoom} {used} e =
+loads name {bytes} {noRoom} {used} {c} e =
     let p = passes (not (rightLength bytes)) _ _ e .1 in
-    let q = passes (not (asked name)) _ _ p .1 in
-    let r = passed-after _ used _ q in
-    let s = passed-after _ noRoom _ (r .0) in
-    record { judged = is-judged (judgeOf bytes) (s .0); room = s .1; number = r .1 }
+    let q = passes (not (asked name)) _ _ p .1 in go (judgeOf bytes) refl q
+  where
+    go : (j : Judged) → judgeOf bytes ≡ j →
+        andThen (judgedCard j) (λ (d : WorkedCard). refuseIf noRoom NoRoom (refuseIf used NumbersUsedUp (yes d)))
+        ≡ yes c →
+        Loads bytes noRoom used c
+    go (judged.Refused f) j h = clash (cc)
+    go (judged.Card d) j h =
+        let r = passes noRoom _ _ h in
+        let s = passes used _ _ (r .1) in
+        let same : d ≡ c = cc in record { judged = j ∙ ap judged.Card same; room = r .0; number = s .0 }
 
-pub record Places {A : Type 0} (found : Found A) (worked : A → WorkedCard) (over : A → Bool) (nodes : List ℤ) (noRoom used : Bool) (a : A) : Type 0 where
+pub record Places {A : Type 0} (found : Found A) (worked : A → WorkedCard) (over : A → Bool) (nodes : List ℤ)
+    (noRoom used : Bool) (a : A) : Type 0 where
   pub there : found ≡ some a
   pub on : someOff nodes ≡ false
   pub joined : worked a .direct && apart nodes ≡ false
@@ -52,9 +58,12 @@ pub record Places {A : Type 0} (found : Found A) (worked : A → WorkedCard) (ov
   pub number : used ≡ false
   pub quiet : over a ≡ false
 
-pub places : {A : Type 0} (found : Found A) {worked : A → WorkedCard} {over : A → Bool} {nodes : List ℤ} {noRoom used : Bool} {a : A} → placeVerdict found worked over nodes noRoom used ≡ yes a → Places found worked over nodes noRoom used a
+pub places :
+    {A : Type 0} (found : Found A) {worked : A → WorkedCard} {over : A → Bool} {nodes : List ℤ} {noRoom used : Bool}
+    {a : A} →
+    placeVerdict found worked over nodes noRoom used ≡ yes a → Places found worked over nodes noRoom used a
 unfolding placeVerdict
-places none e = let z : _≡_ {A = ℕ} 0 1 = cc in absurd (omega arith)
+places none e = clash (cc)
 places (some b) {worked} {over} {nodes} {noRoom} {used} {a} e =
     let p = passes (someOff nodes) _ _ e in
     let q = passes (worked b .direct && apart nodes) _ _ (p .1) in
@@ -62,7 +71,14 @@ places (some b) {worked} {over} {nodes} {noRoom} {used} {a} e =
     let s = passes used _ _ (r .1) in
     let t = passes (over b) _ _ (s .1) in
     let same : b ≡ a = cc in
-    record { there = ap some same; on = p .0; joined = rw (← same) (q .0); room = r .0; number = s .0; quiet = rw (← same) (t .0) }
+    record {
+      there = ap some same;
+      on = p .0;
+      joined = rw (← same) (q .0);
+      room = r .0;
+      number = s .0;
+      quiet = rw (← same) (t .0);
+    }
 
 pub record Moves (n v : ℤ) (over : Bool) (k : ℕ) : Type 0 where
   pub at : k ≡ natAbs n
@@ -79,16 +95,17 @@ moves {n} {v} {over} e =
 
 pub lifts : {A : Type 0} (found : Found A) {a : A} → liftVerdict found ≡ yes a → found ≡ some a
 unfolding liftVerdict
-lifts none e = let z : _≡_ {A = ℕ} 0 1 = cc in absurd (omega arith)
+lifts none e = clash (cc)
 lifts (some b) e = cc
 
 pub record Withdraws {A : Type 0} (found : Found A) (inUse : A → Bool) (a : A) : Type 0 where
   pub there : found ≡ some a
   pub unused : inUse a ≡ false
 
-pub withdraws : {A : Type 0} (found : Found A) {inUse : A → Bool} {a : A} → withdrawVerdict found inUse ≡ yes a → Withdraws found inUse a
+pub withdraws : {A : Type 0} (found : Found A) {inUse : A → Bool} {a : A} → withdrawVerdict found inUse ≡ yes a →
+    Withdraws found inUse a
 unfolding withdrawVerdict
-withdraws none e = let z : _≡_ {A = ℕ} 0 1 = cc in absurd (omega arith)
+withdraws none e = clash (cc)
 withdraws (some b) {inUse} {a} e =
     let p = passes (inUse b) _ _ e in
     let same : b ≡ a = cc in record { there = ap some same; unused = rw (← same) (p .0) }
@@ -98,10 +115,10 @@ pub on-node : (z : ℤ) → offNode z ≡ false → natAbs z < nodesMost
 on-node (pos n) e = go (ltb n 0) (leb nodesMost n) refl e
   where
     go : (t u : Bool) → leb nodesMost n ≡ u → t || u ≡ false → n < nodesMost
-    go true u p q = let z : _≡_ {A = ℕ} 0 1 = cc in absurd (omega arith)
-    go false true p q = let z : _≡_ {A = ℕ} 0 1 = cc in absurd (omega arith)
+    go true u p q = clash (cc)
+    go false true p q = clash (cc)
     go false false p q = leb-false nodesMost n p
-on-node (negsuc n) e = let z : _≡_ {A = ℕ} 0 1 = cc in absurd (omega arith)
+on-node (negsuc n) e = clash (cc)
 
 pub shown : (n : ℤ) {k : ℕ} → nodeVerdict n ≡ yes k → k < nodesMost
 unfolding nodeVerdict

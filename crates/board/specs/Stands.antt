@@ -1,4 +1,5 @@
--- When a board of places stands for a desk: the same cards and transistors in some order, the same voltages, the same next number.
+-- When a board of places stands for a desk: the same cards and transistors in some order, the same voltages, the same
+-- next number.
 use mathlib.Core.Path.{_≡_}
 use mathlib.Core.Bool.{not}
 use mathlib.Core.List.{List, [], _∷_}
@@ -22,7 +23,8 @@ abbrev pub heldOf : Card → Held
 heldOf c = record { issue = c .issue; name = c .name; worked = c .ready .card }
 
 abbrev pub standingOf : List Card → Transistor → Standing
-standingOf cards t = record { issue = t .issue; card = t .card; worked = workedAt cards (t .seat); nodes = t .nodes }
+standingOf cards t =
+    record { issue = t .issue; card = t .card; worked = workedAt cards (t .«card_place»); nodes = t .nodes }
 
 -- the cards and the transistors of a board
 abbrev pub heldIn : List Card → List Held

@@ -2,10 +2,10 @@
 ghost use mathlib.Core.Path.{_≡_};
 ghost use mathlib.Core.Bool.{cond};
 ghost use Rattle.name.specs.Name.{same};
-ghost use Rattle.board.specs.Verdict.{cardsMost, transistorsMost};
+ghost use Rattle.board.specs.Counts.{cardsMost, transistorsMost};
 ghost use Rattle.board.specs.Desk.{anyOf, larger};
 ghost use Rattle.board.specs.Model.{first, isCard, isTransistor, cardPlace, transistorPlace, standsOn, highestAt};
-ghost use Rattle.board.specs.Parts.{placeOr};
+ghost use Rattle.board.specs.inner.Parts.{placeOr};
 use crate::Board;
 use crate::Card;
 use crate::Transistor;

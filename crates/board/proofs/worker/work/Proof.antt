@@ -9,20 +9,35 @@ use Rattle.board.proofs.Currents.{roles-lowered, roles-near}
 use Rattle.board.proofs.worker.work.Statement.{statement}
 use Rattle.board.proofs.worker.work.Tie as tie
 
-roles-requires : tie.Need-roles-requires
-roles-requires c κs = (record { wired = c .pre .wired }, c .pre .seven)
+-- earlier places, from later ones
+abbrev start : tie.After-work-out → tie.Start
+start c = c .before .before .before .before
+
+role-volts-requires : tie.Need-role-volts-requires
+role-volts-requires c κs = (record { wired = c .pre .wired }, c .pre .long)
 
 work-out-requires : tie.Need-work-out-requires
 work-out-requires c κs =
     let p = (c .before .before .before .pre) in
-    record { table-is = p .table-is; ready = p .ready; raised = subst Raised (sym (c .before .before .roles .ensures)) (record { seven = length-map (c .before .before .before .args .nodes .now) _ ∙ p .seven; near = roles-near _ (p .volts-are) (c .before .before .before .args .nodes .now) }) }
+    record {
+      table-is = p .table-is;
+      ready = p .ready;
+      raised =
+          subst Raised (sym (c .before .before .role-volts .ensures))
+          (record {
+            seven = length-map (c .before .before .before .args .nodes .now) _ ∙ p .long;
+            near = roles-near _ (p .volts-are) (c .before .before .before .args .nodes .now);
+          });
+    }
 
 returns : tie.Need-returns
 returns c =
-    let p = (c .before .before .before .before .pre) in
+    let p = (start c .pre) in
     c .work-out .ensures
-    ∙ ap (λ (v : List ℕ). outcomeOf (c .before .before .before .before .args .c .ready .card) (map lowered v)) (c .before .before .before .roles .ensures)
-    ∙ ap (outcomeOf (c .before .before .before .before .args .c .ready .card)) (roles-lowered _ (p .volts-are) (c .before .before .before .before .args .nodes .now) (p .wired))
+    ∙ ap (λ (v : List ℕ). outcomeOf (start c .args .c .ready .card) (map lowered v))
+    (c .before .before .before .role-volts .ensures)
+    ∙ ap (outcomeOf (start c .args .c .ready .card))
+    (roles-lowered _ (p .volts-are) (start c .args .nodes .now) (p .wired))
 
 pub work-spec : {M : Type 1} → statement M
-work-spec = tie.close (tie.spec roles-requires work-out-requires returns)
+work-spec = tie.close (tie.spec role-volts-requires work-out-requires returns)

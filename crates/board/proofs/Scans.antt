@@ -1,21 +1,23 @@
--- Going through the places of a list one after the other: what is known once i of them are passed. For elements of any kind.
+-- Going through the places of a list one after the other: what is known once i of them are passed. For elements of
+-- any kind.
 use mathlib.Core.Path.{_≡_, refl, sym, ap, _∙_}
 use mathlib.Core.Bool.{Bool, true, false, cond, _||_}
-use mathlib.Core.List.{List, [], _∷_}
+use mathlib.Core.List.{List, [], _∷_, map}
 use Prim.Native.Nat.{ℕ, zero, suc, _+_, _-_, _≤_, _<_, zero-le}
 use native.Mathlib.Nat.{zero-add}
 use native.Mathlib.Numerals.{add-one}
 use native.Mathlib.Omega.{arith}
-use lib.Dec.{ltb}
-use lib.ListN.{length, getD, drop, drop-of-length-le}
-use lib.Seq.{drop-cons}
-use borrow.Author.Tests.{ltb-false}
+use lib.Dec.{eqb, ltb}
+use lib.ListN.{length, getD, set, drop, drop-of-length-le, length-set, length-map}
+use lib.Seq.{drop-cons, getD-set-same, getD-set-other, ext-getD}
+use borrow.Author.Tests.{eqb-true, eqb-false, ltb-false}
 use Rattle.name.specs.Name.{same}
 use Rattle.board.specs.declared.Card.{Card}
 use Rattle.board.specs.Verdict.{none, some}
 use Rattle.board.specs.Desk.{anyOf, larger}
 use Rattle.board.specs.Model.{first, foundAt, highestAt, noCard}
-use Rattle.board.specs.Parts.{placeOr}
+use Rattle.board.specs.inner.Parts.{placeOr}
+use Rattle.board.proofs.Lists.{getD-map}
 
 -- none of the first i passes the test, so that the first that does is looked for in the rest
 pub record Passed {A : Type 0} (p : A → Bool) (l : List A) (i : ℕ) : Type 0 where
@@ -57,16 +59,17 @@ module _ {A : Type 0} {p : A → Bool} {l : List A} where
       let a : anyOf p (drop i l) ≡ false = rw (drop-of-length-le l h) in sym (s .rest-any ∙ a)
 
 -- whether one of the first i passes the test
-pub record Heard {A : Type 0} (p : A → Bool) (l : List A) (i : ℕ) (b : Bool) : Type 0 where
+pub record AnyAmong {A : Type 0} (p : A → Bool) (l : List A) (i : ℕ) (b : Bool) : Type 0 where
   pub with-rest : anyOf p l ≡ b || anyOf p (drop i l)
 
 module _ {A : Type 0} {p : A → Bool} {l : List A} where
-  pub heard-none : Heard p l 0 false
-  heard-none = record { with-rest = refl }
+  pub among-none : AnyAmong p l 0 false
+  among-none = record { with-rest = refl }
 
-  pub heard-more : {i : ℕ} {b : Bool} (d : A) → i < length l → (c : Bool) → c ≡ p (getD l i d) → Heard p l i b → Heard p l (i + 1) (b || c)
+  pub among-more : {i : ℕ} {b : Bool} (d : A) → i < length l → (c : Bool) → c ≡ p (getD l i d) → AnyAmong p l i b →
+      AnyAmong p l (i + 1) (b || c)
   unfolding anyOf
-  heard-more {i} {b} d h c e s =
+  among-more {i} {b} d h c e s =
       let a : anyOf p (drop i l) ≡ c || anyOf p (drop (suc i) l) = rw (drop-cons l i d h, e) in
       record { with-rest = rw add-one (s .with-rest ∙ ap (λ (x : Bool). b || x) a ∙ joined b c _) }
     where
@@ -74,15 +77,16 @@ module _ {A : Type 0} {p : A → Bool} {l : List A} where
       joined true y z = refl
       joined false y z = refl
 
-  pub heard-quiet : {i : ℕ} {b : Bool} (d : A) → i < length l → p (getD l i d) ≡ false → Heard p l i b → Heard p l (i + 1) b
+  pub among-quiet : {i : ℕ} {b : Bool} (d : A) → i < length l → p (getD l i d) ≡ false → AnyAmong p l i b →
+      AnyAmong p l (i + 1) b
   unfolding anyOf
-  heard-quiet {i} {b} d h e s =
+  among-quiet {i} {b} d h e s =
       let a : anyOf p (drop i l) ≡ anyOf p (drop (suc i) l) = rw (drop-cons l i d h, e) in
       record { with-rest = rw add-one (s .with-rest ∙ ap (λ (x : Bool). b || x) a) }
 
-  pub heard-all : {i : ℕ} {b : Bool} → length l ≤ i → Heard p l i b → b ≡ anyOf p l
+  pub among-all : {i : ℕ} {b : Bool} → length l ≤ i → AnyAmong p l i b → b ≡ anyOf p l
   unfolding anyOf
-  heard-all {i} {b} h s =
+  among-all {i} {b} h s =
       let a : anyOf p (drop i l) ≡ false = rw (drop-of-length-le l h) in
       sym (s .with-rest ∙ ap (λ (x : Bool). b || x) a ∙ alone b)
     where
@@ -108,7 +112,9 @@ place-is most i h = go (ltb i most) refl
     go false e = let k = ltb-false i most e in omega arith
 
 -- the highest issue of a name among the places from i - 1 on, by that among those from i on
-pub highest-more : (name : List ℕ) (l : List Card) (i : ℕ) → 0 < i → i ≤ length l → highestAt name (drop (i - 1) l) ≡ larger (cond (same (getD l (i - 1) noCard .name) name) (getD l (i - 1) noCard .issue) 0) (highestAt name (drop i l))
+pub highest-more : (name : List ℕ) (l : List Card) (i : ℕ) → 0 < i → i ≤ length l →
+    highestAt name (drop (i - 1) l) ≡ larger
+    (cond (same (getD l (i - 1) noCard .name) name) (getD l (i - 1) noCard .issue) 0) (highestAt name (drop i l))
 unfolding highestAt
 highest-more name l zero z h = absurd (omega arith)
 highest-more name l (suc i) z h =
@@ -117,3 +123,26 @@ highest-more name l (suc i) z h =
 pub highest-none : (name : List ℕ) (l : List Card) (i : ℕ) → length l ≤ i → 0 ≡ highestAt name (drop i l)
 unfolding highestAt
 highest-none name l i h = rw (drop-of-length-le l h)
+
+-- ---- a list filled from its start with what a function makes of another
+
+pub record Filled {A B : Type 0} (f : A → B) (a : A) (b : B) (l : List A) (k : ℕ) (r : List B) : Type 0 where
+  pub long : length r ≡ length l
+  pub at : (i : ℕ) → i < k → getD r i b ≡ f (getD l i a)
+
+module _ {A B : Type 0} {f : A → B} {a : A} {b : B} {l : List A} where
+  pub filled-none : {r : List B} → length r ≡ length l → Filled f a b l 0 r
+  filled-none h = record { long = h; at = λ i k. absurd (omega arith) }
+
+  pub filled-more : {r : List B} {k : ℕ} (v : B) → k < length l → v ≡ f (getD l k a) → Filled f a b l k r →
+      Filled f a b l (k + 1) (set r k v)
+  filled-more {r} {k} v h e s = record { long = length-set r k v ∙ s .long; at = λ i q. go i q (eqb i k) refl }
+    where
+      go : (i : ℕ) → i < k + 1 → (t : Bool) → eqb i k ≡ t → getD (set r k v) i b ≡ f (getD l i a)
+      go i q true p = let same = eqb-true i k p in rw same (getD-set-same r k v b (rw (s .long) h) ∙ e)
+      go i q false p = let other = eqb-false i k p in getD-set-other r k i v b other ∙ s .at i (omega arith)
+
+  pub filled-all : {r : List B} {k : ℕ} → length l ≤ k → Filled f a b l k r → r ≡ map f l
+  filled-all {r} {k} h s =
+      ext-getD b r (map f l) (s .long ∙ sym (length-map l f))
+      (λ i q. let j : i < length l = rw (s .long) at q in s .at i (omega arith) ∙ sym (getD-map f l i a b j))

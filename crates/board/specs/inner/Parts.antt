@@ -1,15 +1,16 @@
--- Words for what the board's inner functions give: a caller's number as the board holds it, a place or none, and totals with something more at each node.
+-- Words for what the board's inner functions give: a caller's number as the board holds it, a place or none, and
+-- totals with something more at each node.
 use mathlib.Core.Path.{_≡_}
 use mathlib.Core.Bool.{Bool, false, cond}
-use mathlib.Core.List.{List, [], _∷_, map}
+use mathlib.Core.List.{List, map}
 use Prim.Native.Nat.{ℕ, zero, suc, _+_, _≤_, _<_}
 use lib.Dec.{eqb, ltb}
 use lib.ListN.{getD, length}
 use lib.IntN.{ℤ, pos, natAbs, negℤ, _+ℤ_, _-ℤ_}
-use Rattle.branch.specs.Ready.{raised}
 use Rattle.card.specs.declared.WorkedCard.{WorkedCard}
 use Rattle.board.specs.declared.Transistor.{Transistor}
-use Rattle.board.specs.Verdict.{nodesMost, cardsMost, Found, none, some, offNode}
+use Rattle.board.specs.Counts.{roles, branches, nodesMost, cardsMost}
+use Rattle.board.specs.Verdict.{Found, none, some, offNode}
 use Rattle.board.specs.Desk.{flow, anyOf, atNode}
 
 -- ---- numbers of the caller
@@ -60,23 +61,17 @@ ends from to x n = atNode from n x -ℤ atNode to n x
 -- and the first k of the branches between these ends
 unfoldable pub endsGive : List ℕ → List ℕ → List ℤ → ℕ → ℕ → ℤ
 endsGive froms tos ticks zero n = pos 0
-endsGive froms tos ticks (suc k) n = endsGive froms tos ticks k n +ℤ ends (getD froms k 0) (getD tos k 0) (getD ticks k (pos 0)) n
+endsGive froms tos ticks (suc k) n =
+    endsGive froms tos ticks k n +ℤ ends (getD froms k 0) (getD tos k 0) (getD ticks k (pos 0)) n
 
 -- what node n gets where the first k roles hand f to their nodes
 unfoldable pub spread : List ℕ → (ℕ → ℤ) → ℕ → ℕ → ℤ
 spread nodes f zero n = pos 0
 spread nodes f (suc k) n = spread nodes f k n +ℤ atNode (getD nodes k 0) n (f k)
 
--- the roles at which the seven branches of a transistor start, C2, B2, B1, B2, B1, B1, S, and those at which they end, E1 four times, C4, S, C1
-abbrev pub fromRoles : List ℕ
-fromRoles = 4 ∷ 2 ∷ 1 ∷ 2 ∷ 1 ∷ 1 ∷ 6 ∷ []
-
-abbrev pub toRoles : List ℕ
-toRoles = 0 ∷ 0 ∷ 0 ∷ 0 ∷ 5 ∷ 6 ∷ 3 ∷ []
-
 -- what the branches between these roles give to node n
 abbrev pub rolesGive : List ℕ → List ℕ → List ℕ → List ℤ → ℕ → ℤ
-rolesGive nodes froms tos ticks n = spread nodes (endsGive froms tos ticks 7) 7 n
+rolesGive nodes froms tos ticks n = spread nodes (endsGive froms tos ticks branches) roles n
 
 -- ---- a transistor with its card
 
@@ -85,8 +80,8 @@ abbrev pub rolesOf : List ℕ → List ℕ → List ℕ
 rolesOf volts nodes = map (λ (n : ℕ). getD volts n 0) nodes
 
 -- the place of its card; the first for one that is none
-abbrev pub seatOr : Transistor → ℕ
-seatOr t = cond (ltb (t .seat) cardsMost) (t .seat) 0
+abbrev pub placeOfCard : Transistor → ℕ
+placeOfCard t = cond (ltb (t .«card_place») cardsMost) (t .«card_place») 0
 
 -- what a transistor adds to node n, taken away again
 unfoldable pub backFlow : WorkedCard → List ℕ → List ℤ → ℕ → ℤ
