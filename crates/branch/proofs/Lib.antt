@@ -2,3 +2,6 @@ pub mod Tests
 pub mod Roots
 pub mod RowLaws
 pub mod Scaling
+pub mod Kept
+pub mod Replying
+pub mod Laws
