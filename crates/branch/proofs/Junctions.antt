@@ -1,4 +1,4 @@
--- The exponential of a junction: from the kept voltages of its two roles to the definition's, and what a card made ready has for it.
+-- The exponential of a junction: from the kept voltages of its two roles to the definition's.
 use mathlib.Core.Path.{_≡_, refl, sym, ap, ap₂, _∙_}
 use mathlib.Core.List.{List, map}
 use Prim.Native.Nat.{ℕ, _*_, _≤_, _<_}

@@ -14,7 +14,8 @@ use Rattle.branch.specs.declared.Outcome.{Outcome}
 use Rattle.branch.specs.declared.Terms.{Terms}
 use Rattle.branch.specs.Rows.{branches}
 use Rattle.branch.specs.Outcome.{tickLimit, ratioLimit, someAbove, outcomeAt}
-use Rattle.branch.specs.inner.Terms.{Small, lastPlaces, Below, Most, rowOver, overUp, listUp, allTicks, outcomeFrom}
+use Rattle.branch.specs.inner.Terms.{Small, lastPlaces, Below, Most, rowOver, overUp, listUp, allTicks}
+use Rattle.branch.specs.inner.Terms.{outcomeFrom}
 
 -- what is so below k, and at k, is so below k + 1
 each-more : (P : ℕ → Type 0) {k : ℕ} → ((i : ℕ) → i < k → P i) → P k → (i : ℕ) → i < k + 1 → P i
@@ -80,7 +81,8 @@ module _ {x : Terms} where
   most-none = record { left = λ i h. absurd (omega arith); right = λ i h. absurd (omega arith) }
 
   -- m is the larger floor of row k, n the larger of that and those before it
-  pub most-more : {k most m n : ℕ} → MostTo x k most → getD (x .left) k 0 ≤ m → getD (x .right) k 0 ≤ m → most ≤ n → m ≤ n →
+  pub most-more : {k most m n : ℕ} → MostTo x k most → getD (x .left) k 0 ≤ m → getD (x .right) k 0 ≤ m → most ≤ n
+      → m ≤ n →
       MostTo x (k + 1) n
   most-more {k} {most} {m} {n} t l r o u =
       record {
@@ -95,7 +97,8 @@ module _ {x : Terms} where
   looked-none = record { rest = refl }
 
   -- it is for row k + 1 to say
-  looked-row : {k : ℕ} → Looked x k → k < branches → overUp x branches 0 ≡ rowOver x k (overUp x (branches - (k + 1)) (k + 1))
+  looked-row : {k : ℕ} → Looked x k → k < branches
+      → overUp x branches 0 ≡ rowOver x k (overUp x (branches - (k + 1)) (k + 1))
   looked-row {k} s h =
       let e : branches - k ≡ suc (branches - (k + 1)) = omega arith in
       let f : suc k ≡ k + 1 = omega arith in

@@ -7,7 +7,8 @@ use native.Mathlib.Omega.{arith}
 use lib.IntN.{pos, negsuc, natAbs, subℕ}
 use Rattle.whole.specs.laws.Biased.{below-or-not, sub-up, sub-down, turned}
 use Rattle.whole.specs.Root.{IsRoot, rootOf, rootBits, root-is}
-use Rattle.whole.specs.Quotient.{quotientOf, quotient-up, quotient-down, quotient-small, heldSize, held-size-small, Divisible}
+use Rattle.whole.specs.Quotient.{quotientOf, quotient-up, quotient-down, quotient-small, heldSize, held-size-small}
+use Rattle.whole.specs.Quotient.{Divisible}
 use Rattle.branch.specs.Ticks.{rootFor}
 use Rattle.branch.specs.Outcome.{tickLimit, ratioLimit}
 use Rattle.branch.specs.inner.Terms.{dividedOf}
@@ -53,7 +54,8 @@ pub divided-plain : (plus minus : ℕ) → dividedOf plus minus 0 0 ≡ subℕ p
 unfolding dividedOf
 divided-plain plus minus = rw root-unit (quotient-plain plus minus)
 
-pub divided-unit : (plus minus left right : ℕ) → left ≤ 0 → right ≤ 0 → subℕ plus minus ≡ dividedOf plus minus left right
+pub divided-unit : (plus minus left right : ℕ) → left ≤ 0 → right ≤ 0
+    → subℕ plus minus ≡ dividedOf plus minus left right
 divided-unit plus minus left right l r =
     let a : left ≡ 0 = omega arith in
     let b : right ≡ 0 = omega arith in
@@ -68,7 +70,8 @@ divided-equal plus minus left right e =
     sym (quotient-up plus minus 21 divisor (omega arith) ∙ ap pos (ap (λ (n : ℕ). n * 2 ^ 21 / divisor) none ∙ zero-div divisor))
 
 -- roots that add up to two units change nothing
-pub divided-two : (plus minus left right : ℕ) → rootFor left + rootFor right ≡ 2 ^ 20 + 2 ^ 20 → subℕ plus minus ≡ dividedOf plus minus left right
+pub divided-two : (plus minus left right : ℕ) → rootFor left + rootFor right ≡ 2 ^ 20 + 2 ^ 20
+    → subℕ plus minus ≡ dividedOf plus minus left right
 unfolding dividedOf
 divided-two plus minus left right e = rw e (sym (quotient-plain plus minus))
 
@@ -80,7 +83,8 @@ difference-small p m most h k = go (below-or-not p m)
     go (inr q) = rw (sub-up p m q) (omega arith)
 
 -- the quotient of two T's that are within stays below the first size that is too much
-pub divided-held : (plus minus left right : ℕ) → plus ≤ tickLimit → minus ≤ tickLimit → left ≤ ratioLimit → right ≤ ratioLimit →
+pub divided-held : (plus minus left right : ℕ) → plus ≤ tickLimit → minus ≤ tickLimit → left ≤ ratioLimit
+    → right ≤ ratioLimit →
     heldSize (suc tickLimit) (quotientOf (subℕ plus minus) 21 (rootFor left + rootFor right)) ≡ dividedOf plus minus left right
 unfolding dividedOf
 divided-held plus minus left right p m l r =
@@ -90,7 +94,8 @@ divided-held plus minus left right p m l r =
     held-size-small (suc tickLimit) (quotientOf (subℕ plus minus) 21 (rootFor left + rootFor right)) (omega arith)
 
 -- and what `quotient` asks is so
-pub divisible : (plus minus left right : ℕ) → plus ≤ tickLimit → minus ≤ tickLimit → left ≤ ratioLimit → right ≤ ratioLimit →
+pub divisible : (plus minus left right : ℕ) → plus ≤ tickLimit → minus ≤ tickLimit → left ≤ ratioLimit
+    → right ≤ ratioLimit →
     Divisible plus minus 21 (rootFor left + rootFor right) (suc tickLimit)
 divisible plus minus left right p m l r =
     let a = root-sized left l in

@@ -2,7 +2,8 @@
 use mathlib.Core.Path.{_≡_, refl, sym, ap, ap₂, _∙_}
 use mathlib.Core.Logic.{_⊎_, inl, inr}
 use Prim.Native.Nat.{ℕ, zero, suc, _+_, _-_, _*_, _/_, _^_, _≤_, _<_}
-use native.Mathlib.Nat.{mul-le-mul, pow-le-pow-right, le-mul-of-pos-right, one-le-pow, div-eq-of-lt, div-le-self, zero-mul, zero-div}
+use native.Mathlib.Nat.{mul-le-mul, pow-le-pow-right, le-mul-of-pos-right, one-le-pow, div-eq-of-lt, div-le-self}
+use native.Mathlib.Nat.{zero-mul, zero-div}
 use native.Mathlib.Omega.{arith}
 use lib.Dec.{ltb, lit<}
 use lib.IntN.{ℤ, pos, subℕ, _+ℤ_, _-ℤ_}
@@ -63,7 +64,8 @@ product {s} {g} i z = record { large = go (below-or-not 0 (s .a)); small = few }
         let m = mul-le-mul a (z .digits .high) in omega arith
 
 -- shifted down by d - n places it is x * 2^(n - d) as far as a limit goes
-pub shifted : {limit x : ℕ} (n d : ℕ) → Product x → limit < 2 ^ 60 → UpTo limit (x / 2 ^ (d - n)) (floorScale x (subℕ n d))
+pub shifted : {limit x : ℕ} (n d : ℕ) → Product x → limit < 2 ^ 60
+    → UpTo limit (x / 2 ^ (d - n)) (floorScale x (subℕ n d))
 shifted {limit} {x} n d p h = go (below-or-not n d)
   where
     less : x / 2 ^ (d - n) < 2 ^ 62
@@ -85,7 +87,8 @@ shifted {limit} {x} n d p h = go (below-or-not n d)
     go (inr k) = up k (p .large)
 
 -- nothing is left where the shift is far enough
-pub none-left : {s : Split} {g : Exponential} (more : ℕ) → IsSplit s → Sized g → g .n + 63 ≤ s .down → 0 ≡ scaledOf s g more
+pub none-left : {s : Split} {g : Exponential} (more : ℕ) → IsSplit s → Sized g → g .n + 63 ≤ s .down
+    → 0 ≡ scaledOf s g more
 none-left {s} {g} more i z h =
     let p = product i z .small in
     let w = pow-le-pow-right {n = 2} (lit< tt) {i = 63} {j = s .down + more - g .n} (omega arith) in
@@ -100,7 +103,8 @@ alone-power down = ap (λ (z : ℤ). subℕ splitBias down +ℤ z) (as-sub 50) �
     as-sub k = ap pos (let e : k ≡ k - 0 = omega arith in e) ∙ sym (sub-up k 0 (omega arith))
 
 -- b + (n - 30) + k, of a value and an exponential: the biases leave what is shifted more
-joined : (down n k more : ℕ) → k + more ≡ 50 → subℕ splitBias down +ℤ subℕ n (bias + places) +ℤ pos k ≡ subℕ n (down + more)
+joined : (down n k more : ℕ) → k + more ≡ 50
+    → subℕ splitBias down +ℤ subℕ n (bias + places) +ℤ pos k ≡ subℕ n (down + more)
 joined down n k more e =
     ap (λ (z : ℤ). z +ℤ pos k) (sub-add splitBias down n (bias + places))
     ∙ ap (λ (z : ℤ). subℕ (splitBias + n) (down + (bias + places)) +ℤ z) (as-sub k)

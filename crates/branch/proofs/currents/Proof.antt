@@ -14,7 +14,8 @@ abbrev judged : tie.After-known-told2 → tie.After-judge
 judged c = c .before .before .before
 
 -- loading gives the card
-taken : (c : tie.After-known-told2) → judgeOf (judged c .before .before .args .bytes .now) ≡ yes (c .before .c .given .0 .0)
+taken : (c : tie.After-known-told2)
+    → judgeOf (judged c .before .before .args .bytes .now) ≡ yes (c .before .c .given .0 .0)
 taken c = judged-card _ (judged c .judge .ensures) (c .before .c .given .1)
 
 returns : tie.Need-returns

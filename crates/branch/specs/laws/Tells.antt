@@ -5,7 +5,8 @@ use mathlib.Core.List.{List}
 use Prim.Native.Nat.{ℕ}
 use lib.Ieee.{Float, eq}
 use lib.IntN.{ℤ}
-use Rattle.refusal.specs.Order.{Verdict, no, yes, andThen, tells, tells-one, numberTold, numberIf, number-first, then-if}
+use Rattle.refusal.specs.Order.{Verdict, no, yes, andThen, tells, tells-one, numberTold, numberIf, number-first}
+use Rattle.refusal.specs.Order.{then-if}
 use Rattle.refusal.specs.Unique.{unique-by-equation}
 use Rattle.volts.specs.Volts.{someOff}
 use Rattle.card.specs.declared.WorkedCard.{WorkedCard}
@@ -49,7 +50,8 @@ admissionFrom : Verdict (List ℤ) → Admission
 admissionFrom (no f) = Refused f
 admissionFrom (yes ticks) = Given
 
-admission-from : (a : Admission) (ticks : List ℤ) (v : Verdict (List ℤ)) → toldReply a ticks ≡ tells v → a ≡ admissionFrom v
+admission-from : (a : Admission) (ticks : List ℤ) (v : Verdict (List ℤ)) → toldReply a ticks ≡ tells v
+    → a ≡ admissionFrom v
 unfolding admissionFrom
 admission-from Given ticks v e = ap admissionFrom (tells-one (yes ticks) v e)
 admission-from (Refused f) ticks v e = ap admissionFrom (tells-one (no f) v e)

@@ -27,7 +27,8 @@ work-out-requires c κs =
       near = s .pre .1;
     }
 
-worked : (c : tie.After-work-out) → c .work-out .result ≡ outcomeOf (start (c .before .before) .args .c) (map givenBack (start (c .before .before) .args .t2))
+worked : (c : tie.After-work-out)
+    → c .work-out .result ≡ outcomeOf (start (c .before .before) .args .c) (map givenBack (start (c .before .before) .args .t2))
 worked c =
     let ready = c .before .before in
     let s = start ready in

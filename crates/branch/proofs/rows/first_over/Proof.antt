@@ -69,11 +69,10 @@ loop-again : tie.Need-loop-again Inv-loop μ-loop
 loop-again c =
     let s = row4 (c .before) in
     let u = past3 (c .before) in
-    let t = past2 (u .before) in
-    (
+    let t = past2 (u .before) in (
       omega arith,
       looked-more (s .before .loop .inv .1) (s .loop-test .taken) (none-above _ _ _ (past1 (t .before) .if1 .left) (t .if2 .left))
-      (none-above _ _ _ (u .if3 .left) (c .if4 .left)),
+          (none-above _ _ _ (u .if3 .left) (c .if4 .left)),
     )
 
 returns-5 : tie.Need-returns-5 Inv-loop μ-loop
