@@ -1,25 +1,24 @@
 -- What a card made ready has: its octaves' reciprocals, its T's without an exponential, and values whose products are
 -- within bounds.
-use mathlib.Core.Path.{_≡_, refl, sym, ap, _∙_}
+use mathlib.Core.Path.{_≡_, refl, ap, _∙_}
 use mathlib.Core.List.{List}
 use Prim.Native.Nat.{ℕ, _≤_, _<_}
 use native.Mathlib.Nat.{le-trans}
-use lib.Dec.{lit≤, lit<}
+use lib.Dec.{lit≤}
 use lib.IntN.{ℤ}
 use Rattle.float.specs.declared.Split.{Split}
 use Rattle.float.specs.Split.{IsSplit}
 use Rattle.octave.specs.declared.Exponential.{Exponential}
-use Rattle.octave.specs.declared.Reciprocal.{Reciprocal}
 use Rattle.octave.specs.Position.{InRange}
 use Rattle.octave.specs.inner.Reciprocal.{IsReciprocal, equals-reciprocal, reciprocal-octave}
 use Rattle.card.specs.declared.WorkedCard.{WorkedCard}
 use Rattle.card.specs.inner.Worked.{IsWorked}
 use Rattle.branch.specs.declared.Ready.{Ready}
 use Rattle.branch.specs.Rows.{roles}
-use Rattle.branch.specs.Ticks.{Scaled, valueAt, expOf, times, wholeTicks, wholeParts}
+use Rattle.branch.specs.Ticks.{valueAt, expOf, times, wholeTicks, wholeParts}
 use Rattle.branch.specs.Outcome.{tickLimit, ratioLimit}
 use Rattle.branch.specs.inner.Ready.{aloneOf, readyOf, IsReady, Askable, expAt}
-use Rattle.branch.specs.inner.Terms.{UpTo, Sized, IsExp, Scalable, Junction, scaledOf, moreParts}
+use Rattle.branch.specs.inner.Terms.{UpTo, IsExp, Scalable, Junction, scaledOf, moreParts}
 use Rattle.branch.proofs.Scaling.{ticks-upto, parts-upto, alone-upto}
 
 -- both octaves are in range

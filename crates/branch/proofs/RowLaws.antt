@@ -1,13 +1,12 @@
 -- From the code's terms to the outcome, over rows of any kind: the same row overloads first, and where none does
 -- the ticks are the rows' own.
-use mathlib.Core.Path.{_≡_, refl, sym, ap, ap₂, _∙_}
-use mathlib.Core.Bool.{Bool, true, false, _||_}
+use mathlib.Core.Path.{_≡_, refl, ap₂}
+use mathlib.Core.Bool.{Bool, false, _||_}
 use mathlib.Core.List.{List, [], _∷_, map}
 use Prim.Native.Nat.{ℕ, zero, suc, _+_, _^_, _≤_, _<_}
 use mathlib.Core.Logic.{_⊎_, inl, inr}
 use native.Mathlib.Omega.{arith}
-use lib.Dec.{ltb}
-use lib.ListN.{getD, length, length-map}
+use lib.ListN.{getD, length}
 use lib.IntN.{ℤ, subℕ}
 use Rattle.whole.specs.laws.Biased.{below-or-not}
 use Rattle.whole.specs.Quotient.{quotientOf}
@@ -16,11 +15,11 @@ use Rattle.branch.specs.declared.Over.{Over}
 use Rattle.branch.specs.declared.Over.the-variants.{Within, Ticks, Injection}
 use Rattle.branch.specs.declared.Terms.{Terms}
 use Rattle.branch.specs.Rows.{Role, Summand, unit, root, Divisor, undivided, sumOf, Row, rowsFor, branches}
-use Rattle.branch.specs.Ticks.{tickOf, ratioOf, rootFor, summandOf, dividedBy, rowTicks, biasOf}
-use Rattle.branch.specs.Outcome.{tickLimit, ratioLimit, someAbove, ticksIn, ratiosIn, overAt, firstOver}
-use Rattle.branch.specs.Outcome.{outcomeAt, outcomeOf}
+use Rattle.branch.specs.Ticks.{tickOf, ratioOf, rootFor, summandOf, dividedBy, rowTicks}
+use Rattle.branch.specs.Outcome.{tickLimit, ratioLimit, someAbove, ratiosIn, firstOver}
+use Rattle.branch.specs.Outcome.{outcomeAt}
 use Rattle.branch.specs.inner.Terms.{UpTo, leftOf, rightOf, RowTerms, RowsAt, none, more, TermsOf, Small, Below}
-use Rattle.branch.specs.inner.Terms.{Most, rowOver, overUp, dividedOf, ticksAt, listUp, allTicks, NotOver, Fine}
+use Rattle.branch.specs.inner.Terms.{Most, overUp, dividedOf, ticksAt, listUp, NotOver, Fine}
 use Rattle.branch.specs.inner.Terms.{outcomeFrom}
 use Rattle.branch.proofs.Tests.{Passes, passes, BothWithin, both-within, none-above}
 use Rattle.branch.proofs.Roots.{root-unit, divided-plain}

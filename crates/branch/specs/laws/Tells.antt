@@ -1,5 +1,5 @@
 -- The number told of currents is that of the first test that fails, in the paper's order, 0 where they are given; and one reply is all that is permitted.
-use mathlib.Core.Path.{_≡_, refl, ap, ap₂, _∙_}
+use mathlib.Core.Path.{_≡_, ap, ap₂, _∙_}
 use mathlib.Core.Bool.{not}
 use mathlib.Core.List.{List}
 use Prim.Native.Nat.{ℕ}
