@@ -32,8 +32,7 @@ divided-requires c κs =
 
 loop-again : tie.Need-loop-again Inv-loop μ-loop
 loop-again c =
-    let s = at-row (c .before) in
-    (
+    let s = at-row (c .before) in (
       omega arith,
       filled-more _ (s .loop-test .taken) (toZ-ofZ w64 (c .divided .result) (search needs) ∙ c .divided .ensures) (s .before .loop .inv .1),
     )
