@@ -75,6 +75,6 @@ returns-5 c = looked-all (c .loop-test .left) (c .before .loop .inv .1)
 pub first-over-spec : {M : Type 1} → statement M
 first-over-spec =
     tie.close
-    (tie.spec Inv-loop μ-loop loop-holds (λ c. omega arith) (λ c. omega arith) (λ c. omega arith) (λ c. omega arith) returns
-    (λ c. omega arith) (λ c. omega arith) returns-2 (λ c. omega arith) (λ c. omega arith) returns-3 (λ c. omega arith)
-    (λ c. omega arith) returns-4 (λ c. omega arith) (λ c. omega arith) loop-again returns-5)
+    (tie.spec Inv-loop μ-loop loop-holds (λ c. omega arith) (λ c. omega arith) (λ c. omega arith) (λ c. omega arith)
+    returns (λ c. omega arith) (λ c. omega arith) returns-2 (λ c. omega arith) (λ c. omega arith) returns-3
+    (λ c. omega arith) (λ c. omega arith) returns-4 (λ c. omega arith) (λ c. omega arith) loop-again returns-5)
