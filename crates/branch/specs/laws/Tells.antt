@@ -1,5 +1,5 @@
--- The number told of currents: that of the first test that fails, 0 where they are given; and that one reply is permitted.
-use mathlib.Core.Path.{_≡_, refl, ap, ap₂, _∙_}
+-- The number told of currents, that of the first test that fails or 0 where none does; and one reply to one request.
+use mathlib.Core.Path.{_≡_, ap, ap₂, _∙_}
 use mathlib.Core.Bool.{not}
 use mathlib.Core.List.{List}
 use Prim.Native.Nat.{ℕ}

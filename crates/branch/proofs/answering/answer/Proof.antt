@@ -29,7 +29,8 @@ work-out-requires c κs =
     }
 
 worked : (c : tie.After-work-out) →
-    c .work-out .result ≡ outcomeOf (start (c .before .before) .args .c) (map givenBack (start (c .before .before) .args .t2))
+    c .work-out .result
+    ≡ outcomeOf (start (c .before .before) .args .c) (map givenBack (start (c .before .before) .args .t2))
 worked c =
     let ready = c .before .before in
     let s = start ready in
