@@ -14,14 +14,15 @@ abbrev judged : tie.After-known-told2 → tie.After-judge
 judged c = c .before .before .before
 
 -- loading gives the card
-taken : (c : tie.After-known-told2)
-    → judgeOf (judged c .before .before .args .bytes .now) ≡ yes (c .before .c .given .0 .0)
+taken : (c : tie.After-known-told2) →
+    judgeOf (judged c .before .before .args .bytes .now) ≡ yes (c .before .c .given .0 .0)
 taken c = judged-card _ (judged c .judge .ensures) (c .before .c .given .1)
 
 returns : tie.Need-returns
 returns c =
     let told = c .before .before in
-    replies-refused (judged-refused _ (told .before .before .judge .ensures) (told .f .given .1)) (c .turned-away .ensures)
+    let no = judged-refused _ (told .before .before .judge .ensures) (told .f .given .1) in
+    replies-refused no (c .turned-away .ensures)
 
 pub currents-spec : {M : Type 1} → statement M
 currents-spec =

@@ -11,8 +11,9 @@ answer-requires c κs =
 
 returns : tie.Need-returns
 returns c =
-    let k = c .before .before .before in
-    reply-within (k .before .before .args .c) (k .keep-all .ensures) (c .before .before .if1 .taken) (c .answer .ensures)
+    let taken = c .before .before in
+    let k = taken .before in
+    reply-within (k .before .before .args .c) (k .keep-all .ensures) (taken .if1 .taken) (c .answer .ensures)
 
 returns-2 : tie.Need-returns-2
 returns-2 c =

@@ -37,12 +37,14 @@ found c = c .keep .ensures ∙ ap keeping (toZ-ofZ w64 (voltage c) (search needs
 returns : tie.Need-returns Inv-loop μ-loop
 returns c =
     let turn = c .before .before in
-    keeps-none (long (in-turn turn .before .before)) (in-turn turn .loop-test .taken) (outside-is {v = voltage turn} refl (found turn) (c .enum-told .given .1))
+    let off = outside-is {v = voltage turn} refl (found turn) (c .enum-told .given .1) in
+    keeps-none (long (in-turn turn .before .before)) (in-turn turn .loop-test .taken) off
 
 loop-again : tie.Need-loop-again Inv-loop μ-loop
 loop-again c =
     let turn = c .before .before .before in
-    kept-more (in-turn turn .loop-test .taken) (kept-is refl (found turn) (c .before .x .given .1)) (in-turn turn .before .loop .inv)
+    let is = kept-is {v = voltage turn} refl (found turn) (c .before .x .given .1) in
+    kept-more (in-turn turn .loop-test .taken) is (in-turn turn .before .loop .inv)
 
 pub keep-all-spec : {M : Type 1} → statement M
 keep-all-spec =
