@@ -1,5 +1,5 @@
 -- `rows::all_plain` has written the first k rows' ticks.
-use mathlib.Core.Path.{sym, _∙_}
+use mathlib.Core.Path.{_∙_}
 use Prim.Native.Nat.{_≤_, _-_}
 use native.Mathlib.Omega.{arith}
 use lib.IntN.{pos}

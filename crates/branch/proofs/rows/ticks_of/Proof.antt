@@ -1,5 +1,4 @@
 -- `rows::ticks_of` meets its contract: plainly where no floor is above 0.
-use borrow.Author.Needs.{needs}
 use Rattle.branch.proofs.rows.ticks_of.Statement.{statement}
 use Rattle.branch.proofs.rows.ticks_of.Tie as tie
 
