@@ -8,7 +8,6 @@ use lib.IntN.{pos, negsuc, natAbs, subℕ}
 use Rattle.whole.specs.laws.Biased.{below-or-not, sub-up, sub-down, turned}
 use Rattle.whole.specs.Root.{IsRoot, rootOf, rootBits, root-is}
 use Rattle.whole.specs.Quotient.{quotientOf, quotient-up, quotient-down, quotient-small, heldSize, held-size-small}
-use Rattle.whole.specs.Quotient.{Divisible}
 use Rattle.branch.specs.Ticks.{rootFor}
 use Rattle.branch.specs.Outcome.{tickLimit, ratioLimit}
 use Rattle.branch.specs.inner.Terms.{dividedOf}
@@ -90,32 +89,25 @@ difference-small p m most h k = go (below-or-not p m)
     go (inl q) = rw (sub-down p m q) (omega arith)
     go (inr q) = rw (sub-up p m q) (omega arith)
 
-module _ (plus minus left right : ℕ) (p : plus ≤ tickLimit) (m : minus ≤ tickLimit) (l : left ≤ ratioLimit)
-    (r : right ≤ ratioLimit) where
-  -- the quotient stays below the first size that is too much
-  pub divided-held : heldSize (suc tickLimit) (quotientOf (subℕ plus minus) 21 (rootFor left + rootFor right)) ≡
-      dividedOf plus minus left right
-  unfolding dividedOf
-  divided-held =
-      let a = root-sized left l .least in
-      let b = root-sized right r .least in
-      let less = quotient-small (subℕ plus minus) 21 (rootFor left + rootFor right) (omega arith) in
-      let small = le-trans less (difference-small plus minus tickLimit p m) in
-      held-size-small (suc tickLimit) (quotientOf (subℕ plus minus) 21 (rootFor left + rootFor right)) (omega arith)
+-- a divisor is the sum of two roots
+pub record DivisorSize (d : ℕ) : Type 0 where
+  pub least : 2 ^ 21 ≤ d
+  pub most : d < 2 ^ 32
 
-  -- and what `quotient` asks is so
-  pub divisible : Divisible plus minus 21 (rootFor left + rootFor right) (suc tickLimit)
-  divisible =
-      let a = root-sized left l in
-      let b = root-sized right r in
-      record {
-        first-small = omega arith;
-        second-small = omega arith;
-        divisor =
-            record {
-              shift-small = omega arith;
-              divisor-there = omega (arith, a .least);
-              divisor-small = omega (arith, a .most, b .most);
-            };
-        limit-small = omega arith;
-      }
+pub two-roots : (left right : ℕ) → left ≤ ratioLimit → right ≤ ratioLimit → DivisorSize (rootFor left + rootFor right)
+two-roots left right l r =
+    let a = root-sized left l in
+    let b = root-sized right r in
+    record { least = omega (arith, a .least, b .least); most = omega (arith, a .most, b .most) }
+
+-- so a quotient stays below the first size that is too much
+pub divided-held : (plus minus left right : ℕ) → plus ≤ tickLimit → minus ≤ tickLimit → left ≤ ratioLimit →
+    right ≤ ratioLimit →
+    heldSize (suc tickLimit) (quotientOf (subℕ plus minus) 21 (rootFor left + rootFor right)) ≡
+    dividedOf plus minus left right
+unfolding dividedOf
+divided-held plus minus left right p m l r =
+    let d = rootFor left + rootFor right in
+    let less = quotient-small (subℕ plus minus) 21 d (two-roots left right l r .least) in
+    let small = le-trans less (difference-small plus minus tickLimit p m) in
+    held-size-small (suc tickLimit) (quotientOf (subℕ plus minus) 21 d) (omega arith)

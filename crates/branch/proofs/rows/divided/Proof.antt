@@ -5,10 +5,10 @@ use native.Mathlib.Omega.{arith}
 use lib.IntN.{subℕ}
 use mir.Syntax.{w64}
 use mir.ValLaws.{toZ-ofZ}
-use Rattle.whole.specs.Quotient.{heldSize, quotientOf, Divisible}
+use Rattle.whole.specs.Quotient.{heldSize, quotientOf}
 use Rattle.branch.specs.Ticks.{rootFor}
 use Rattle.branch.specs.Outcome.{tickLimit}
-use Rattle.branch.proofs.Roots.{root-sized, divided-equal, divided-two, divided-held, divisible}
+use Rattle.branch.proofs.Roots.{DivisorSize, two-roots, divided-equal, divided-two, divided-held}
 use borrow.Author.Needs.{needs}
 use Rattle.branch.proofs.rows.divided.Statement.{statement}
 use Rattle.branch.proofs.rows.divided.Tie as tie
@@ -23,13 +23,13 @@ divisor-is c = ap₂ _+_ (c .before .root-for .ensures) (c .root-for2 .ensures)
 returns : tie.Need-returns
 returns c = divided-equal _ _ (c .before .args .left) (c .before .args .right) (c .if1 .taken)
 
+divisor-sized : (c : tie.After-root-for2) → DivisorSize (c .before .root-for .result + c .root-for2 .result)
+divisor-sized c =
+    let p = start c .pre .1 .1 in
+    subst DivisorSize (sym (divisor-is c)) (two-roots _ _ (p .0) (p .1))
+
 add-divisor : tie.Need-add-divisor
-add-divisor c =
-    let s = start c in
-    let a = root-sized (s .args .left) (s .pre .1 .1 .0) .most in
-    let b = root-sized (s .args .right) (s .pre .1 .1 .1) .most in
-    let e = divisor-is c in
-    omega arith
+add-divisor c = omega (arith, divisor-sized c)
 
 returns-2 : tie.Need-returns-2
 returns-2 c =
@@ -40,10 +40,19 @@ returns-2 c =
 
 quotient-requires : tie.Need-quotient-requires
 quotient-requires c κs =
-    let s = start (c .before) in
-    let p = s .pre in
-    subst (λ (d : ℕ). Divisible (s .args .plus) (s .args .minus) 21 d (suc tickLimit)) (sym (divisor-is (c .before)))
-    (divisible _ _ _ _ (p .0) (p .1 .0) (p .1 .1 .0) (p .1 .1 .1))
+    let p = start (c .before) .pre in
+    let d = divisor-sized (c .before) in
+    record {
+      first-small = omega (arith, p .0);
+      second-small = omega (arith, p .1 .0);
+      divisor =
+          record {
+            shift-small = omega arith;
+            divisor-there = omega (arith, d .least);
+            divisor-small = omega (arith, d .most);
+          };
+      limit-small = omega arith;
+    }
 
 returns-3 : tie.Need-returns-3
 returns-3 c =
