@@ -1,10 +1,11 @@
 -- `values::all_terms` meets its contract: each term with the exponential that it names, worked once; row by row.
 use lib.Dec.{lit<, lit≤}
+use borrow.Author.Needs.{needs}
 use Rattle.branch.specs.inner.Terms.{none, more}
 use Rattle.branch.proofs.Scaling.{upto-zero}
 use Rattle.branch.proofs.Readied.{Splits, splits, plain-octave, second-octave}
 use Rattle.branch.proofs.Readied.{own-bulk, own-side, own-nonideal, own-ex, own-sf}
-use Rattle.branch.proofs.Readied.{plain-junction, second-junction, scalable, ticks-at, parts-at}
+use Rattle.branch.proofs.Readied.{plain-junction, second-junction, ticks-at, parts-at}
 use Rattle.branch.proofs.values.all_terms.Statement.{statement}
 use Rattle.branch.proofs.values.all_terms.Tie as tie
 
@@ -64,43 +65,46 @@ exponential-requires-6 c κs =
 
 scaled-requires : tie.Need-scaled-requires
 scaled-requires c κs =
-    let at = c in scalable (values at .sn) (at1 at .exponential .ensures) _ (lit≤ tt)
+    let s = values c in record { split = search needs; sized = search needs; near = lit≤ tt }
 
 scaled-requires-2 : tie.Need-scaled-requires-2
 scaled-requires-2 c κs =
-    let at = c .before in scalable (values at .bulk) (at1 at .exponential .ensures) _ (lit≤ tt)
+    let s = values (c .before) in record { split = search needs; sized = search needs; near = lit≤ tt }
 
 scaled-requires-3 : tie.Need-scaled-requires-3
 scaled-requires-3 c κs =
-    let at = c .before .before in scalable (values at .side) (at3 at .exponential3 .ensures) _ (lit≤ tt)
+    let s = values (c .before .before) in record { split = search needs; sized = search needs; near = lit≤ tt }
 
 scaled-requires-4 : tie.Need-scaled-requires-4
 scaled-requires-4 c κs =
-    let at = c .before .before .before in scalable (values at .nonideal) (at4 at .exponential4 .ensures) _ (lit≤ tt)
+    let s = values (c .before .before .before) in record { split = search needs; sized = search needs; near = lit≤ tt }
 
 faint-requires : tie.Need-faint-requires
 faint-requires c κs =
-    let at = emitter c in scalable (values at .ex) (at5 at .exponential5 .ensures) _ (lit≤ tt)
+    let s = values (emitter c) in record { split = search needs; sized = search needs; near = lit≤ tt }
 
 faint-requires-2 : tie.Need-faint-requires-2
 faint-requires-2 c κs =
-    let at = emitter (c .before) in scalable (values at .sub) (at5 at .exponential5 .ensures) _ (lit≤ tt)
+    let s = values (emitter (c .before)) in record { split = search needs; sized = search needs; near = lit≤ tt }
 
 faint-requires-3 : tie.Need-faint-requires-3
 faint-requires-3 c κs =
-    let at = emitter (c .before .before) in scalable (values at .rex) (at5 at .exponential5 .ensures) _ (lit≤ tt)
+    let s = values (emitter (c .before .before)) in record { split = search needs; sized = search needs; near = lit≤ tt }
 
 faint-requires-4 : tie.Need-faint-requires-4
 faint-requires-4 c κs =
-    let at = emitter (three c) in scalable (values at .rsub) (at5 at .exponential5 .ensures) _ (lit≤ tt)
+    let s = values (emitter (three c)) in record { split = search needs; sized = search needs; near = lit≤ tt }
 
 faint-requires-5 : tie.Need-faint-requires-5
 faint-requires-5 c κs =
-    let at = emitter (three (c .before)) in scalable (values at .sf) (at .exponential6 .ensures) _ (lit≤ tt)
+    let s = values (emitter (three (c .before))) in record { split = search needs; sized = search needs; near = lit≤ tt }
 
 faint-requires-6 : tie.Need-faint-requires-6
 faint-requires-6 c κs =
-    let at = emitter (three (c .before .before)) in scalable (values at .sn) (at2 at .exponential2 .ensures) _ (lit≤ tt)
+    let at = emitter (three (c .before .before)) in
+    let s = values at in
+    let g = at2 at .exponential2 .ensures .sized in
+    record { split = search needs; sized = search needs; near = lit≤ tt }
 
 term-x-requires : tie.Need-term-x-requires
 term-x-requires c κs = start (emitter (three (all c))) .pre
