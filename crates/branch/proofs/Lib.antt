@@ -5,3 +5,6 @@ pub mod Loops
 pub mod Scaling
 pub mod Junctions
 pub mod Readied
+pub mod Kept
+pub mod Replying
+pub mod Laws

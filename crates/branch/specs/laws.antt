@@ -1,2 +1,3 @@
 -- What follows from the definitions.
 pub mod Filled
+pub mod Tells

@@ -1,0 +1,121 @@
+-- What callers may count on: as many ticks as branches, none above the limit in size, and a judged card made ready.
+use mathlib.Core.Path.{_≡_, refl}
+use mathlib.Core.Bool.{false}
+use mathlib.Core.Logic.{_⊎_, inl, inr}
+use mathlib.Core.List.{List, [], _∷_, map}
+use Prim.Native.Nat.{ℕ, zero, suc, _+_, _-_, _^_, _≤_, _<_, zero-le}
+use native.Mathlib.Nat.{le-trans, le-refl}
+use native.Mathlib.Omega.{arith}
+use lib.Dec.{lit≤}
+use lib.ListN.{getD, length, replicate, length-replicate}
+use lib.IntN.{ℤ, pos, natAbs, subℕ}
+use Rattle.refusal.specs.Order.{yes}
+use Rattle.whole.specs.laws.Biased.{below-or-not, sub-up, sub-down}
+use Rattle.whole.specs.Quotient.{quotient-small}
+use Rattle.volts.specs.Volts.{voltsMost, span}
+use Rattle.octave.specs.Table.{entries}
+use Rattle.card.specs.declared.WorkedCard.{WorkedCard}
+use Rattle.card.specs.Judge.{judgeOf}
+use Rattle.card.specs.inner.Worked.{Each, IsWorked}
+use Rattle.card.proofs.WorkedCards.{judged-is-worked}
+use Rattle.branch.specs.declared.Over.{Over}
+use Rattle.branch.specs.declared.Over.the-variants.{Within, Ticks, Injection}
+use Rattle.branch.specs.Rows.{Role, Summand, unit, root, Divisor, undivided, sumOf, Row, rowsFor, roles, branches}
+use Rattle.branch.specs.Ticks.{biasOf, tickOf, ratioOf, summandOf, dividedBy, rowTicks}
+use Rattle.branch.specs.Outcome.{tickLimit, ratioLimit, someAbove, ticksIn, ratiosIn, firstOver, outcomeAt, outcomeOf}
+use Rattle.branch.specs.inner.Ready.{readyOf, IsReady, Askable}
+use Rattle.branch.proofs.Tests.{passes, both-within}
+use Rattle.branch.proofs.Roots.{root-sized}
+
+-- ---- a card made ready
+
+pub ready-card : (c : WorkedCard) → readyOf c .card ≡ c
+unfolding readyOf
+ready-card c = refl
+
+pub ready-made : (c : WorkedCard) → IsWorked c → IsReady (readyOf c)
+unfolding readyOf
+ready-made c h = record { worked = h; is = refl }
+
+pub made-ready : (s : List ℕ) (c : WorkedCard) → judgeOf s ≡ yes c → IsReady (readyOf c)
+made-ready s c e = ready-made c (judged-is-worked s c e)
+
+-- ---- as many ticks as branches
+
+many : (o : Over) (l : List ℤ) → length (outcomeAt o l .ticks) ≡ length l
+many Within l = refl
+many (Ticks k) l = length-replicate (length l) (pos 0)
+many (Injection k) l = length-replicate (length l) (pos 0)
+
+pub ticks-long : (c : WorkedCard) (v : List ℤ) → length (outcomeOf c v .ticks) ≡ branches
+unfolding outcomeOf
+ticks-long c v = many (firstOver c (biasOf v) 1 (rowsFor (c .exsub))) _
+
+-- ---- sizes
+
+-- a number of either sign within a size
+abbrev Sizes : ℕ → ℤ → Type 0
+Sizes most x = natAbs x ≤ most
+
+each-at : (most : ℕ) (l : List ℤ) → Each (Sizes most) l → (k : ℕ) → natAbs (getD l k (pos 0)) ≤ most
+each-at most [] h k = zero-le
+each-at most (x ∷ l) h zero = h .0
+each-at most (x ∷ l) h (suc k) = each-at most l (h .1) k
+
+zeros : (most n : ℕ) → Each (Sizes most) (replicate n (pos 0))
+zeros most zero = tt
+zeros most (suc n) = (zero-le, zeros most n)
+
+difference-small : (p m most : ℕ) → p ≤ most → m ≤ most → natAbs (subℕ p m) ≤ most
+difference-small p m most h k = go (below-or-not p m)
+  where
+    go : (p < m) ⊎ (m ≤ p) → natAbs (subℕ p m) ≤ most
+    go (inl q) = rw (sub-down p m q) (omega arith)
+    go (inr q) = rw (sub-up p m q) (omega arith)
+
+module _ (c : WorkedCard) (v : Role → Role → ℤ) where
+  -- a summand whose ratio is within its limit is 2^20 at least
+  summand-least : (s : Summand) → ratioOf c v s ≤ ratioLimit → 2 ^ 20 ≤ summandOf c v s
+  summand-least unit h = le-refl _
+  summand-least (root x p q) h = root-sized (ratioOf c v (root x p q)) h .least
+
+  divided-small : (d : Divisor) (n : ℤ) → someAbove ratioLimit (ratiosIn c v d) ≡ false → natAbs (dividedBy c v d n) ≤ natAbs n
+  divided-small undivided n e = le-refl _
+  divided-small (sumOf s t) n e =
+      let b = both-within ratioLimit (ratioOf c v s) (ratioOf c v t) e in
+      let p = summand-least s (b .first) in
+      let q = summand-least t (b .second) in
+      quotient-small n 21 (summandOf c v s + summandOf c v t) (omega arith)
+
+  row-small : (r : Row) → someAbove tickLimit (ticksIn c v r) ≡ false → someAbove ratioLimit (ratiosIn c v (r .divisor)) ≡ false → Sizes tickLimit (rowTicks c v r)
+  row-small r e g =
+      let b = both-within tickLimit (tickOf c v (r .plus)) (tickOf c v (r .minus)) e in
+      le-trans (divided-small (r .divisor) _ g) (difference-small _ _ tickLimit (b .first) (b .second))
+
+  -- rows of any kind
+  rows-small : (rows : List Row) (k : ℕ) → firstOver c v k rows ≡ Within → Each (Sizes tickLimit) (map (rowTicks c v) rows)
+  rows-small [] k e = tt
+  rows-small (r ∷ rs) k e =
+      let f = passes (someAbove tickLimit (ticksIn c v r)) (someAbove ratioLimit (ratiosIn c v (r .divisor))) k (firstOver c v (suc k) rs) e in
+      (row-small r (f .ticks) (f .ratio), rows-small rs (suc k) (f .later))
+
+  outcome-small : (rows : List Row) (o : Over) → firstOver c v 1 rows ≡ o → Each (Sizes tickLimit) (outcomeAt o (map (rowTicks c v) rows) .ticks)
+  outcome-small rows Within e = rows-small rows 1 e
+  outcome-small rows (Ticks k) e = zeros tickLimit (length (map (rowTicks c v) rows))
+  outcome-small rows (Injection k) e = zeros tickLimit (length (map (rowTicks c v) rows))
+
+-- no current is above the limit in size, whatever the card and the voltages
+pub ticks-small : (c : WorkedCard) (v : List ℤ) (k : ℕ) → natAbs (getD (outcomeOf c v .ticks) k (pos 0)) ≤ tickLimit
+unfolding outcomeOf
+ticks-small c v k =
+    each-at tickLimit (outcomeOf c v .ticks) (outcome-small c (biasOf v) (rowsFor (c .exsub)) (firstOver c (biasOf v) 1 (rowsFor (c .exsub))) refl) k
+
+-- ---- what `work_out` asks can be met: by any worked card, with every voltage 0
+
+none-far : (n k : ℕ) → getD (replicate n voltsMost) k 0 ≤ span
+none-far zero k = zero-le
+none-far (suc n) zero = lit≤ tt
+none-far (suc n) (suc k) = none-far n k
+
+pub askable : (c : WorkedCard) → IsWorked c → Askable entries (readyOf c) (replicate roles voltsMost)
+askable c h = record { table-is = refl; ready = ready-made c h; long = refl; near = record { each = none-far roles } }

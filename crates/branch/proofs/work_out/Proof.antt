@@ -1,0 +1,15 @@
+-- `branch::work_out` meets its contract: the terms are small, and their outcome is the rows' own.
+use mathlib.Core.Path.{_∙_}
+use borrow.Author.Needs.{needs}
+use Rattle.branch.specs.Outcome.{outcomeOf}
+use Rattle.branch.proofs.RowLaws.{terms-small, outcome-is}
+use Rattle.branch.proofs.work_out.Statement.{statement}
+use Rattle.branch.proofs.work_out.Tie as tie
+
+returns : tie.Need-returns
+unfolding outcomeOf
+returns c = c .outcome .ensures ∙ outcome-is _ _ (c .before .all-terms .ensures)
+
+pub work-out-spec : {M : Type 1} → statement M
+work-out-spec =
+    tie.close (tie.spec (λ c κs. search needs) (λ c κs. terms-small _ _ (c .all-terms .ensures)) returns)
