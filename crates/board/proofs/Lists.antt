@@ -12,7 +12,7 @@ use borrow.Author.Tests.{ltb-true}
 use Rattle.board.specs.Desk.{sumOver, anyOf}
 use Rattle.board.specs.Verdict.{none, some}
 use Rattle.board.specs.Model.{first, foundAt, tabulate}
-use Rattle.board.proofs.Integers.{clash}
+use Rattle.refusal.specs.Clash.{clash}
 
 -- what holds of the element at i, and of one put in somewhere, holds of the element at i then
 pub each-set : {A : Type 0} (P : A → Type 0) (l : List A) (n i : ℕ) (v d : A) → P v → P (getD l i d) →

@@ -15,7 +15,8 @@ use Rattle.card.specs.declared.WorkedCard.{WorkedCard}
 use Rattle.board.specs.declared.Board.{Board}
 use Rattle.board.specs.declared.Answer.{Answer}
 use Rattle.board.specs.declared.Answer.the-variants.{Issue, Done, Node, Refused}
-use Rattle.board.specs.Counts.{roles, issuesMost}
+use Rattle.board.specs.Counts.{issuesMost}
+use Rattle.branch.specs.Rows.{roles}
 use Rattle.board.specs.Verdict.{Found, none, some, issueOf, liftVerdict, nodeVerdict}
 use Rattle.refusal.specs.Order.{Verdict, no, yes}
 use Rattle.board.specs.Desk as desk
@@ -25,7 +26,7 @@ use Rattle.board.specs.Model as board
 use Rattle.board.specs.Model.{loadedOf, placedOf, movedOf, liftedOf, withdrawnOf, lookedOf, showedOf, answered}
 use Rattle.board.specs.Model.{boardAfter}
 use Rattle.board.specs.Stands.{replyOf}
-use Rattle.board.proofs.Integers.{clash}
+use Rattle.refusal.specs.Clash.{clash}
 use Rattle.board.proofs.Perms.{count, more}
 use Rattle.board.proofs.Verdicts.{loads, places}
 use Rattle.board.proofs.Invariant.{invariant-after, totals-long}

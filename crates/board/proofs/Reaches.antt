@@ -6,7 +6,7 @@ use lib.ListN.{length}
 use lib.IntN.{ℤ}
 use Rattle.board.specs.declared.Board.{Board}
 use Rattle.board.specs.declared.Answered.{Answered}
-use Rattle.board.specs.Counts.{roles}
+use Rattle.branch.specs.Rows.{roles}
 use Rattle.board.specs.Desk.{Call, load, place, move, lift, withdraw, lookUp, node}
 use Rattle.board.specs.Model.{freshBoard, loadedOf, placedOf, movedOf, liftedOf, withdrawnOf, lookedOf}
 use Rattle.board.specs.Model.{showedOf, answered, boardAfter, Reached}
