@@ -13,16 +13,16 @@ use Rattle.refusal.specs.declared.Refusal.the-variants.{Malformed, BadName, Nam
 use Rattle.refusal.specs.declared.Refusal.the-variants.{CardInUse, NumbersUsedUp}
 use Rattle.refusal.specs.Order.{no, yes}
 use Rattle.name.specs.Name.{asked, padded}
+use Rattle.volts.specs.Volts.{givenBack}
 use Rattle.card.specs.declared.WorkedCard.{WorkedCard}
 use Rattle.card.specs.Judge.{judgeOf}
 use Rattle.card.specs.Record.{rightLength}
 use Rattle.branch.specs.declared.Ready.{Ready}
 use Rattle.branch.specs.inner.Ready.{readyOf}
-use Rattle.volts.specs.Volts.{givenBack}
 use Rattle.board.specs.declared.Card.{Card}
 use Rattle.board.specs.declared.Transistor.{Transistor}
 use Rattle.board.specs.declared.Board.{Board}
-use Rattle.board.specs.declared.Answer.the-variants.{Issue, Done, Node, Refused}
+use Rattle.board.specs.declared.Answer.the-variants.{Issue, Done, Node}
 use Rattle.board.specs.Counts.{nodesMost, cardsMost, transistorsMost, issuesMost}
 use Rattle.board.specs.Verdict.{Found, none, some, issueOf, offNode, loadVerdict, withdrawVerdict, lookVerdict}
 use Rattle.board.specs.Verdict.{nodeVerdict}

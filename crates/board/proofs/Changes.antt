@@ -10,18 +10,18 @@ use lib.IntN.{ℤ, natAbs}
 use borrow.Author.Tests.{eqb-true, leb-false, ltb-false, ne-eqb}
 use Rattle.refusal.specs.declared.Refusal.{Refusal}
 use Rattle.refusal.specs.declared.Refusal.the-variants.{Unknown, OutOfRange, Overload}
-use Rattle.octave.specs.Table.{entries}
+use Rattle.refusal.specs.Order.{Verdict, yes}
 use Rattle.volts.specs.Volts.{givenBack, keptAs, offVolts}
+use Rattle.volts.specs.laws.Keeping.{KeptIs}
+use Rattle.octave.specs.Table.{entries}
+use Rattle.branch.specs.Rows.{roles}
 use Rattle.board.specs.declared.Transistor.{Transistor}
 use Rattle.board.specs.declared.Board.{Board}
 use Rattle.board.specs.declared.Answer.the-variants.{Issue, Done}
 use Rattle.board.specs.declared.rules.Way.{Way}
 use Rattle.board.specs.declared.rules.Way.the-variants.{Go, Stop}
 use Rattle.board.specs.Counts.{nodesMost, cardsMost, transistorsMost, issuesMost}
-use Rattle.branch.specs.Rows.{roles}
 use Rattle.board.specs.Verdict.{Found, none, some, issueOf, offNode, moveVerdict, liftVerdict}
-use Rattle.refusal.specs.Order.{Verdict, yes}
-use Rattle.volts.specs.laws.Keeping.{KeptIs}
 use Rattle.board.specs.Desk.{overloads, flow, anyOf, usedUp}
 use Rattle.board.specs.Model.{first, isTransistor, cardPlace, transistorPlace, noTransistor, emptyTransistor}
 use Rattle.board.specs.Model.{noCard, workedAt, placeGives, placeOverloads, totalsOf, voltsOf, refuse}

@@ -7,24 +7,24 @@ use lib.Dec.{ltb, lit<}
 use lib.ListN.{getD}
 use lib.IntN.{ℤ, pos, natAbs, negℤ, _+ℤ_}
 use borrow.Author.Tests.{eq-eqb, ne-eqb, lt-ltb, ltb-true}
+use Rattle.refusal.specs.Clash.{clash}
+use Rattle.volts.specs.Volts.{givenBack, span, AllNear}
 use Rattle.octave.specs.Table.{entries}
 use Rattle.card.specs.declared.WorkedCard.{WorkedCard}
 use Rattle.branch.specs.declared.Outcome.{Outcome}
 use Rattle.branch.specs.Rows.{rowsFor}
 use Rattle.branch.specs.Outcome.{tickLimit, outcomeOf, isOver}
-use Rattle.volts.specs.Volts.{givenBack, span, AllNear}
 use Rattle.branch.proofs.Laws.{ticks-long, ticks-small}
+use Rattle.branch.specs.Ends.{fromRoles, toRoles}
 use Rattle.board.specs.declared.Card.{Card}
 use Rattle.board.specs.declared.Transistor.{Transistor}
 use Rattle.board.specs.Counts.{nodesMost, cardsMost}
 use Rattle.board.specs.Desk.{rolesAt, overloads, flow}
 use Rattle.board.specs.Model.{noCard, placeGives, placeOverloads}
 use Rattle.board.specs.inner.Parts.{More, Within, rolesGive, rolesOf, placeOfCard, standsAt, backFlow}
-use Rattle.branch.specs.Ends.{fromRoles, toRoles}
 use Rattle.board.specs.inner.Settle.{Volts, Workable, HasCard}
 use Rattle.board.specs.inner.Sizes.{flowMost}
 use Rattle.board.proofs.Integers.{abs-neg}
-use Rattle.refusal.specs.Clash.{clash}
 use Rattle.board.proofs.Lists.{getD-map}
 use Rattle.board.proofs.Totals.{small-flow}
 use Rattle.board.proofs.Roles.{roles-are-rows, roles-turned}
@@ -115,7 +115,7 @@ module _ (cards : List Card) (t : Transistor) (stands : t .issue ≡ 0 → ⊥) 
 
 -- what names a node stands
 pub named-stands : (n : ℕ) (t : Transistor) → standsAt n t ≡ true → t .issue ≡ 0 → ⊥
-named-stands n t e z = let w : standsAt n t ≡ false = rw (eq-eqb _ _ z) in clash (cc)
+named-stands n t e z = let w : standsAt n t ≡ false = rw (eq-eqb _ _ z) in clash cc
 
 pub place-below : {k : ℕ} (t : Transistor) → k ≡ placeOfCard t → k < cardsMost
 place-below t e = rw e (go (ltb (t .«card_place») cardsMost) refl)

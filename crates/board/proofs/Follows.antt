@@ -12,21 +12,21 @@ use lib.IntN.{ℤ, pos, natAbs}
 use borrow.Author.Tests.{eqb-true, eqb-false, leb-false, ltb-false}
 use Rattle.refusal.specs.declared.Refusal.{Refusal}
 use Rattle.refusal.specs.declared.Refusal.the-variants.{CardInUse}
+use Rattle.refusal.specs.Order.{Verdict, no, yes, refuseIf}
 use Rattle.name.specs.Name.{padded, same}
+use Rattle.volts.specs.Volts.{givenBack, keptAs, offVolts}
+use Rattle.volts.specs.laws.Keeping.{kept}
 use Rattle.card.specs.declared.WorkedCard.{WorkedCard}
 use Rattle.branch.specs.inner.Ready.{readyOf}
-use Rattle.volts.specs.Volts.{givenBack, keptAs, offVolts}
 use Rattle.branch.proofs.Laws.{ready-card}
-use Rattle.volts.specs.laws.Keeping.{kept}
+use Rattle.branch.specs.Rows.{roles}
 use Rattle.board.specs.declared.Card.{Card}
 use Rattle.board.specs.declared.Transistor.{Transistor}
 use Rattle.board.specs.declared.Board.{Board}
 use Rattle.board.specs.declared.Answered.{Answered}
 use Rattle.board.specs.Counts.{nodesMost, cardsMost, transistorsMost}
-use Rattle.branch.specs.Rows.{roles}
 use Rattle.board.specs.Verdict.{Found, none, some, issueOf, placeVerdict, moveVerdict, liftVerdict}
 use Rattle.board.specs.Verdict.{withdrawVerdict, nodeVerdict}
-use Rattle.refusal.specs.Order.{Verdict, no, yes, refuseIf}
 use Rattle.board.specs.Desk as desk
 use Rattle.board.specs.Desk.{Held, Standing, Desk, Step, Call, load, place, move, lift, withdraw, lookUp, node}
 use Rattle.board.specs.Desk.{overloads, sumOver, anyOf, firstWith, heldAs, standsAs, without, larger, highest}

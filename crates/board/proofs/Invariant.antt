@@ -3,24 +3,25 @@
 use mathlib.Core.Path.{_≡_, refl, sym, ap, _∙_, subst}
 use mathlib.Core.Bool.{Bool, true, false, cond, _||_}
 use mathlib.Core.List.{List, [], _∷_, map}
-use Prim.Native.Nat.{ℕ, zero, suc, _+_, _*_, _≤_, _<_}
+use Prim.Native.Nat.{ℕ, zero, suc, _+_, _≤_, _<_}
 use lib.Dec.{eqb, leb, lit<, lit≤}
 use lib.ListN.{length, getD, set, replicate, length-set, length-replicate, length-map}
 use lib.Seq.{getD-set-other}
 use lib.IntN.{ℤ, pos, natAbs, +ℤ-idl}
 use borrow.Author.Tests.{eqb-true, eqb-false, ne-eqb, leb-false}
-use Rattle.card.specs.declared.WorkedCard.{WorkedCard}
+use Rattle.refusal.specs.Order.{Verdict, no, yes}
+use Rattle.refusal.specs.Clash.{clash}
 use Rattle.volts.specs.Volts.{givenBack, keptAs, span, AllNear}
+use Rattle.volts.specs.laws.Keeping.{kept}
+use Rattle.card.specs.declared.WorkedCard.{WorkedCard}
 use Rattle.branch.specs.inner.Ready.{IsReady}
 use Rattle.branch.proofs.Laws.{made-ready}
-use Rattle.volts.specs.laws.Keeping.{kept}
+use Rattle.branch.specs.Rows.{roles}
 use Rattle.board.specs.declared.Card.{Card}
 use Rattle.board.specs.declared.Transistor.{Transistor}
 use Rattle.board.specs.declared.Board.{Board}
 use Rattle.board.specs.Counts.{nodesMost, cardsMost, transistorsMost}
-use Rattle.branch.specs.Rows.{roles}
 use Rattle.board.specs.Verdict.{none, some, issueOf, offNode, someNodeOff, lookVerdict, nodeVerdict}
-use Rattle.refusal.specs.Order.{Verdict, no, yes}
 use Rattle.board.specs.Desk.{Call, load, place, move, lift, withdraw, lookUp, node, overloads, flow, sumOver}
 use Rattle.board.specs.Desk.{anyOf}
 use Rattle.board.specs.Model.{first, foundAt, isCard, cardPlace, transistorPlace, emptyCard, noCard}
@@ -29,7 +30,6 @@ use Rattle.board.specs.Model.{freshBoard, voltsOf, freeCard, freeTransis
 use Rattle.board.specs.Model.{moved, movedOf, lifted, liftedOf, withdrawn, withdrawnOf, standsOn, looked}
 use Rattle.board.specs.Model.{lookedOf, showed, showedOf, mayLoad, mayPlace, mayMove, mayLift, mayWithdraw}
 use Rattle.board.specs.Model.{answered, boardAfter, Reached}
-use Rattle.refusal.specs.Clash.{clash}
 use Rattle.board.proofs.Lists.{each-set, each-replicate, first-passes, found-is, none-of, sum-same}
 use Rattle.board.proofs.Lists.{tabulate-same, tabulate-none, tabulate-long, stands}
 use Rattle.board.proofs.Verdicts.{loads, places, moves, withdraws, on-node}
@@ -185,7 +185,7 @@ at {A} key d n l i most long e = go (eqb n 0) refl e
   where
     go : (t : Bool) → eqb n 0 ≡ t → cond t none (foundAt most (first (λ (a : A). eqb (key a) n) l)) ≡ some i →
         At key d n l i
-    go true p q = clash (cc)
+    go true p q = clash cc
     go false p q =
         let f = found-is most (first (λ (a : A). eqb (key a) n) l) i q in
         let k : first (λ (a : A). eqb (key a) n) l < length l = rw long (f .1) in
@@ -219,7 +219,7 @@ on-nodes (z ∷ nodes) e k = go (offNode z) refl e k (λ p. on-nodes nodes p)
     go : (t : Bool) → offNode z ≡ t → t || someNodeOff nodes ≡ false → (k : ℕ) →
         (someNodeOff nodes ≡ false → (j : ℕ) → getD (map natAbs nodes) j 0 < nodesMost) →
         getD (map natAbs (z ∷ nodes)) k 0 < nodesMost
-    go true p q k next = clash (cc)
+    go true p q k next = clash cc
     go false p q zero next = on-node z p
     go false p q (suc k) next = next q k
 

@@ -10,6 +10,8 @@ use borrow.Author.Tests.{le-leb, lt-leb, lt-ltb, le-ltb}
 use Rattle.refusal.specs.declared.Refusal.{Refusal}
 use Rattle.refusal.specs.declared.Refusal.the-variants.{NoRoom, Unknown, OutOfRange, SplitCollector, Overload}
 use Rattle.refusal.specs.declared.Refusal.the-variants.{NumbersUsedUp}
+use Rattle.refusal.specs.Order.{Verdict, no, yes, refuseIf}
+use Rattle.refusal.specs.Clash.{clash}
 use Rattle.card.specs.declared.WorkedCard.{WorkedCard}
 use Rattle.branch.specs.Rows.{C1, C4, roleIndex}
 use Rattle.board.specs.declared.Card.{Card}
@@ -18,12 +20,10 @@ use Rattle.board.specs.declared.rules.Way.{Way}
 use Rattle.board.specs.declared.rules.Way.the-variants.{Go, Stop}
 use Rattle.board.specs.Counts.{nodesMost, transistorsMost, issuesMost}
 use Rattle.board.specs.Verdict.{Found, none, some, offNode, someNodeOff, apart, placeVerdict}
-use Rattle.refusal.specs.Order.{Verdict, no, yes, refuseIf}
 use Rattle.board.specs.Desk.{anyOf, usedUp}
 use Rattle.board.specs.Model.{cardPlace, workedAt, freeTransistor}
 use Rattle.board.specs.inner.Parts.{nodeOf}
 use Rattle.board.specs.inner.Placing.{apartOn, placing, wayOf}
-use Rattle.refusal.specs.Clash.{clash}
 use Rattle.board.proofs.Verdicts.{on-node}
 
 -- ---- the way, test by test
@@ -65,10 +65,10 @@ module _ (cards : List Card) (ts : List Transistor) (next n : ℕ) (on : List �
 
 pub stopped : (free : ℕ) (v : Verdict ℕ) {f : Refusal} → wayOf free v ≡ Stop f → v ≡ no f
 stopped free (no g) e = cc
-stopped free (yes i) e = clash (cc)
+stopped free (yes i) e = clash cc
 
 pub went : (free : ℕ) (v : Verdict ℕ) {i k : ℕ} → wayOf free v ≡ Go i k → (v ≡ yes i) × (k ≡ free)
-went free (no g) e = clash (cc)
+went free (no g) e = clash cc
 went free (yes j) e = (cc, cc)
 
 -- ---- the last test comes after it
@@ -95,7 +95,7 @@ on-same (z ∷ nodes) e = go (offNode z) refl e (λ h. on-same nodes h)
     go : (t : Bool) → offNode z ≡ t → t || someNodeOff nodes ≡ false →
         (someNodeOff nodes ≡ false → map nodeOf nodes ≡ map natAbs nodes) →
         cond t nodesMost (natAbs z) ∷ map nodeOf nodes ≡ natAbs z ∷ map natAbs nodes
-    go true p q next = clash (cc)
+    go true p q next = clash cc
     go false p q next = ap (λ (l : List ℕ). natAbs z ∷ l) (next q)
 
 size-at : (nodes : List ℤ) (k : ℕ) → getD (map natAbs nodes) k 0 ≡ natAbs (getD nodes k (pos 0))

@@ -12,12 +12,12 @@ use lib.IntN.{ℤ, pos, negℤ, _+ℤ_, _-ℤ_, +ℤ-idl, +ℤ-idr, +ℤ-assoc, 
 use borrow.Author.Tests.{eqb-true, eqb-false, ne-eqb}
 use Rattle.branch.specs.Rows.{Role, E1, B1, B2, C1, C2, C4, S, Row, roleIndex, roles, branches}
 use Rattle.branch.specs.Outcome.{tickLimit}
+use Rattle.branch.specs.Ends.{fromsOf, tosOf}
 use Rattle.board.specs.Counts.{nodesMost}
 use Rattle.board.specs.Desk.{atNode, rowsGive}
 use Rattle.board.specs.inner.Parts.{More, Within, Room, Wired, ends, endsGive, spread, rolesGive}
-use Rattle.branch.specs.Ends.{fromsOf, tosOf}
-use Rattle.board.proofs.Lists.{getD-map}
 use Rattle.board.specs.inner.Sizes.{flowMost}
+use Rattle.board.proofs.Lists.{getD-map}
 use Rattle.board.proofs.Integers.{turned, swap-inner}
 use Rattle.board.proofs.Amounts.{room-more, ends-small}
 

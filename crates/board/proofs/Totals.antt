@@ -10,6 +10,7 @@ use lib.Dec.{eqb, eqb·zero-suc, eqb·suc-zero, eqb·suc-suc}
 use lib.ListN.{length, getD}
 use lib.IntN.{ℤ, pos, natAbs, negℤ, _+ℤ_, _-ℤ_, +ℤ-idl, +ℤ-idr, +ℤ-invr}
 use borrow.Author.Tests.{eqb-false}
+use Rattle.refusal.specs.Clash.{clash}
 use Rattle.card.specs.declared.WorkedCard.{WorkedCard}
 use Rattle.branch.specs.declared.Over.{Over}
 use Rattle.branch.specs.declared.Over.the-variants.{Within, Ticks, Injection}
@@ -27,7 +28,6 @@ use Rattle.board.specs.Perm.{Perm}
 use Rattle.board.specs.Stands.{standingOf, standingIn}
 use Rattle.board.specs.inner.Sizes.{flowMost}
 use Rattle.board.proofs.Integers.{abs-add, abs-ends, turned, swap-inner}
-use Rattle.refusal.specs.Clash.{clash}
 use Rattle.board.proofs.Perms.{perm-sum}
 use Rattle.board.proofs.Places.{sum-occupied}
 use Rattle.board.proofs.Lists.{tabulate-same, tabulate-at}
@@ -47,8 +47,8 @@ totals-are-sums calls n h =
 
 not-over : (o : Over) → isOver o ≡ false → o ≡ Within
 not-over Within e = refl
-not-over (Ticks k) e = clash (cc)
-not-over (Injection k) e = clash (cc)
+not-over (Ticks k) e = clash cc
+not-over (Injection k) e = clash cc
 
 pub none-overloads : {b : Board} → Reached b → (i : ℕ) → (getD (b .transistors) i noTransistor .issue ≡ 0 → ⊥) →
     outcomeOf (workedAt (b .cards) (getD (b .transistors) i noTransistor .«card_place»))

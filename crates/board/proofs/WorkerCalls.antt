@@ -8,6 +8,7 @@ use lib.Dec.{eqb}
 use lib.ListN.{length, getD, set, length-set}
 use lib.IntN.{ℤ, pos, negℤ, +ℤ-idl, +ℤ-idr}
 use borrow.Author.Tests.{eqb-false, eq-eqb, ne-eqb}
+use Rattle.refusal.specs.Clash.{clash}
 use Rattle.volts.specs.Volts.{givenBack, span}
 use Rattle.board.specs.declared.Card.{Card}
 use Rattle.board.specs.declared.Transistor.{Transistor}
@@ -19,7 +20,6 @@ use Rattle.board.specs.Model.{voltsOf}
 use Rattle.board.specs.inner.Parts.{More, Room, names, standsAt}
 use Rattle.board.specs.inner.Settle.{Volts, HasCard, Settling}
 use Rattle.board.specs.inner.Sizes.{totalMost, workedMost}
-use Rattle.refusal.specs.Clash.{clash}
 use Rattle.board.proofs.Invariant.{Invariant, near-set}
 use Rattle.board.proofs.Amounts.{room-less}
 use Rattle.board.proofs.Currents.{named-stands}
@@ -102,7 +102,7 @@ roles-same volts n v (m ∷ nodes) e = go (eqb m n) refl e (λ q. roles-same vol
     go : (t : Bool) → eqb m n ≡ t → t || names n nodes ≡ false →
         (names n nodes ≡ false → rolesAt (map givenBack (set volts n v)) nodes ≡ rolesAt (map givenBack volts) nodes) →
         rolesAt (map givenBack (set volts n v)) (m ∷ nodes) ≡ rolesAt (map givenBack volts) (m ∷ nodes)
-    go true p q next = clash (cc)
+    go true p q next = clash cc
     go false p q next = rw (map-other givenBack volts n m v (eqb-false m n p), next q)
 
 module _ (cards : List Card) (volts : List ℕ) (n v : ℕ) (t : Transistor) (h : standsAt n t ≡ false) where

@@ -7,20 +7,20 @@ use lib.Dec.{eqb, leb, ltb}
 use lib.ListN.{getD, set, replicate}
 use lib.IntN.{ℤ, pos, natAbs}
 use Rattle.refusal.specs.declared.Refusal.{Refusal}
+use Rattle.refusal.specs.Order.{Verdict, no, yes}
 use Rattle.name.specs.Name.{nameLength, padded, same}
+use Rattle.volts.specs.Volts.{givenBack, keptAs}
 use Rattle.card.specs.declared.WorkedCard.{WorkedCard}
 use Rattle.branch.specs.inner.Ready.{readyOf, noReady}
-use Rattle.volts.specs.Volts.{givenBack, keptAs}
+use Rattle.branch.specs.Rows.{roles}
 use Rattle.board.specs.declared.Card.{Card}
 use Rattle.board.specs.declared.Transistor.{Transistor}
 use Rattle.board.specs.declared.Board.{Board}
 use Rattle.board.specs.declared.Answer.the-variants.{Issue, Done, Node, Refused}
 use Rattle.board.specs.declared.Answered.{Answered}
 use Rattle.board.specs.Counts.{nodesMost, cardsMost, transistorsMost}
-use Rattle.branch.specs.Rows.{roles}
 use Rattle.board.specs.Verdict.{Found, none, some, issueOf, loadVerdict, placeVerdict, moveVerdict, liftVerdict}
 use Rattle.board.specs.Verdict.{withdrawVerdict, lookVerdict, nodeVerdict}
-use Rattle.refusal.specs.Order.{Verdict, no, yes}
 use Rattle.board.specs.Desk.{Call, load, place, move, lift, withdraw, lookUp, node, overloads, flow, sumOver}
 use Rattle.board.specs.Desk.{anyOf, larger, usedUp}
 

@@ -11,11 +11,11 @@ use Rattle.refusal.specs.declared.Refusal.the-variants.{Malformed, BadName, Nam
 use Rattle.refusal.specs.declared.Refusal.the-variants.{SplitCollector, Overload, CardInUse, NumbersUsedUp}
 use Rattle.refusal.specs.Order.{Verdict, no, yes, refuseIf, andThen}
 use Rattle.name.specs.Name.{asked}
-use Rattle.card.specs.declared.WorkedCard.{WorkedCard}
-use Rattle.branch.specs.Rows.{C1, C4, roleIndex}
 use Rattle.volts.specs.Volts.{offVolts}
+use Rattle.card.specs.declared.WorkedCard.{WorkedCard}
 use Rattle.card.specs.Judge.{judgeOf}
 use Rattle.card.specs.Record.{rightLength}
+use Rattle.branch.specs.Rows.{C1, C4, roleIndex}
 use Rattle.board.specs.Counts.{nodesMost, issuesMost}
 
 -- what was looked for, if it is there

@@ -43,7 +43,7 @@ fn is_split(c: Card, on: [u8; ROLES]) -> bool
 {
     let ready = c.ready;
     let worked = ready.card;
-    if worked.«rcbli_zero» {
+    if worked.rcbli_zero {
         on[C4] != on[C1]
     } else {
         false

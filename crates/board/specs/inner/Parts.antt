@@ -8,9 +8,9 @@ use lib.Dec.{eqb, ltb}
 use lib.ListN.{getD, length}
 use lib.IntN.{ℤ, pos, natAbs, negℤ, _+ℤ_, _-ℤ_}
 use Rattle.card.specs.declared.WorkedCard.{WorkedCard}
+use Rattle.branch.specs.Rows.{roles, branches}
 use Rattle.board.specs.declared.Transistor.{Transistor}
 use Rattle.board.specs.Counts.{nodesMost, cardsMost}
-use Rattle.branch.specs.Rows.{roles, branches}
 use Rattle.board.specs.Verdict.{Found, none, some, offNode}
 use Rattle.board.specs.Desk.{flow, anyOf, atNode}
 

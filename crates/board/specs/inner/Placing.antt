@@ -5,13 +5,13 @@ use Prim.Native.Nat.{ℕ}
 use lib.Dec.{eqb, leb}
 use lib.ListN.{getD}
 use Rattle.refusal.specs.declared.Refusal.the-variants.{NoRoom, OutOfRange, SplitCollector, NumbersUsedUp}
+use Rattle.refusal.specs.Order.{Verdict, no, yes, refuseIf, andThen}
 use Rattle.card.specs.declared.WorkedCard.{WorkedCard}
 use Rattle.branch.specs.Rows.{C1, C4, roleIndex}
 use Rattle.board.specs.declared.rules.Way.{Way}
 use Rattle.board.specs.declared.rules.Way.the-variants.{Go, Stop}
 use Rattle.board.specs.Counts.{nodesMost}
 use Rattle.board.specs.Verdict.{Found, known}
-use Rattle.refusal.specs.Order.{Verdict, no, yes, refuseIf, andThen}
 use Rattle.board.specs.Desk.{anyOf}
 
 -- C4 stands on another node than C1

@@ -6,13 +6,13 @@ use mathlib.Core.List.{List, map}
 use Prim.Native.Nat.{ℕ, _<_}
 use lib.ListN.{getD, length}
 use lib.IntN.{ℤ}
-use Rattle.octave.specs.Table.{entries}
 use Rattle.volts.specs.Volts.{givenBack, AllNear}
+use Rattle.octave.specs.Table.{entries}
 use Rattle.branch.specs.inner.Ready.{IsReady}
+use Rattle.branch.specs.Rows.{roles}
 use Rattle.board.specs.declared.Card.{Card}
 use Rattle.board.specs.declared.Transistor.{Transistor}
 use Rattle.board.specs.Counts.{nodesMost, cardsMost}
-use Rattle.branch.specs.Rows.{roles}
 use Rattle.board.specs.Model.{noCard, noTransistor, placeGives, placeOverloads, totalsOf}
 use Rattle.board.specs.inner.Parts.{standsAt}
 

@@ -4,8 +4,8 @@ use mathlib.Core.Bool.{true}
 use Prim.Native.Nat.{ℕ, _≤_, _<_}
 use borrow.Author.Needs.{needs}
 use borrow.Author.Tests.{not-true, not-false}
-use Rattle.name.specs.Name.{asked}
 use Rattle.refusal.specs.Order.{yes}
+use Rattle.name.specs.Name.{asked}
 use Rattle.card.specs.Judge.{judgeOf}
 use Rattle.card.specs.Record.{rightLength}
 use Rattle.card.specs.laws.Unique.{judged-card, judged-refused}

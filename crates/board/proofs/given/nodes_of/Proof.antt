@@ -33,7 +33,9 @@ loop-again c =
     (omega arith, filled-more _ (omega arith) (c .node-of .ensures ∙ ap nodeOf e) (l .loop .inv .1))
 
 returns : tie.Need-returns Inv-loop μ-loop
-returns c = filled-map nodeOf (pos 0) _ (long (c .before .before)) (omega arith) (c .before .loop .inv .1)
+returns c =
+    let s = c .before .before in
+    filled-map nodeOf (pos 0) (s .args .t1) (long s) (omega arith) (c .before .loop .inv .1)
 
 pub nodes-of-spec : {M : Type 1} → statement M
 nodes-of-spec =

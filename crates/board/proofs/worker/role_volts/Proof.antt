@@ -28,7 +28,8 @@ loop-again c =
 returns : tie.Need-returns Inv-loop μ-loop
 returns c =
     let s = c .before .before in
-    filled-map (λ (n : ℕ). getD (s .args .volts .now) n 0) 0 _ (s .pre .1) (omega arith) (c .before .loop .inv .1)
+    filled-map (λ (n : ℕ). getD (s .args .volts .now) n 0) 0 (s .args .nodes .now) (s .pre .1) (omega arith)
+    (c .before .loop .inv .1)
 
 pub role-volts-spec : {M : Type 1} → statement M
 role-volts-spec =
