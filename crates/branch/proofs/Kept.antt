@@ -1,4 +1,4 @@
--- The voltages of the roles, kept one after the other: all of them where each is within its range, and none where one is outside.
+-- The voltages of the roles, kept one after the other: all of them, or none where one is outside its range.
 use mathlib.Core.Path.{_≡_, refl, sym, ap, subst, _∙_}
 use mathlib.Core.Bool.{Bool, true, false, not, _||_}
 use mathlib.Core.List.{List, [], _∷_, map}
@@ -28,8 +28,10 @@ pub record KeptUp (volts : List ℤ) (k : ℕ) (r : List ℕ) : Type 0 where
 pub kept-none : {volts : List ℤ} {r : List ℕ} → length r ≡ roles → KeptUp volts 0 r
 kept-none h = record { filled = filled-none h; on = λ i k. absurd (omega arith) }
 
-pub kept-more : {volts : List ℤ} {k x : ℕ} {r : List ℕ} → k < roles → KeptIs (getD volts k (pos 0)) x → KeptUp volts k r → KeptUp volts (k + 1) (set r k x)
-kept-more {volts} {k} {x} h is up = record { filled = filled-more x h (is .from) (up .filled); on = λ i q. go i q (below-or-not i k) }
+pub kept-more : {volts : List ℤ} {k x : ℕ} {r : List ℕ} → k < roles → KeptIs (getD volts k (pos 0)) x →
+    KeptUp volts k r → KeptUp volts (k + 1) (set r k x)
+kept-more {volts} {k} {x} h is up =
+    record { filled = filled-more x h (is .from) (up .filled); on = λ i q. go i q (below-or-not i k) }
   where
     go : (i : ℕ) → i < k + 1 → (i < k) ⊎ (k ≤ i) → offVolts (getD volts i (pos 0)) ≡ false
     go i q (inl b) = up .on i b
@@ -50,11 +52,13 @@ or-true : (a : Bool) {b : Bool} → b ≡ true → a || b ≡ true
 or-true true e = refl
 or-true false e = e
 
-none-off : (volts : List ℤ) → ((i : ℕ) → i < length volts → offVolts (getD volts i (pos 0)) ≡ false) → someOff volts ≡ false
+none-off : (volts : List ℤ) → ((i : ℕ) → i < length volts → offVolts (getD volts i (pos 0)) ≡ false) →
+    someOff volts ≡ false
 none-off [] h = refl
 none-off (v ∷ volts) h = rw (h 0 (omega arith)) (none-off volts (λ i q. h (suc i) (omega arith)))
 
-one-off : (volts : List ℤ) (k : ℕ) → k < length volts → offVolts (getD volts k (pos 0)) ≡ true → someOff volts ≡ true
+one-off : (volts : List ℤ) (k : ℕ) → k < length volts → offVolts (getD volts k (pos 0)) ≡ true →
+    someOff volts ≡ true
 one-off [] k h e = absurd (omega arith)
 one-off (v ∷ volts) zero h e = rw e
 one-off (v ∷ volts) (suc k) h e = or-true (offVolts v) (one-off volts k (omega arith) e)
@@ -62,9 +66,11 @@ one-off (v ∷ volts) (suc k) h e = or-true (offVolts v) (one-off volts k (omega
 -- ---- once they are
 
 module _ {volts : List ℤ} (long : length volts ≡ roles) where
-  pub keeps-all : {k : ℕ} {r : List ℕ} → roles ≤ k → KeptUp volts k r → Keeps volts (record { within = true; volts = r })
+  pub keeps-all : {k : ℕ} {r : List ℕ} → roles ≤ k → KeptUp volts k r →
+      Keeps volts (record { within = true; volts = r })
   keeps-all {k} {r} h up =
-      record { within = ap not (sym (none-off volts (λ i q. up .on i (omega arith)))); kept = λ e. filled-all h (up .filled) ∙ all }
+      let on = none-off volts (λ i q. up .on i (omega arith)) in
+      record { within = ap not (sym on); kept = λ e. filled-all h (up .filled) ∙ all }
     where
       same : (i : ℕ) → getD volts (0 + i) (pos 0) ≡ getD volts i (pos 0)
       same i = let e : 0 + i ≡ i = omega arith in rw e
@@ -72,7 +78,8 @@ module _ {volts : List ℤ} (long : length volts ≡ roles) where
       all : listUp (λ (i : ℕ). keptAs (getD volts i (pos 0))) roles 0 ≡ map keptAs volts
       all = rw (← long) (up-map keptAs (pos 0) volts volts 0 same)
 
-  pub keeps-none : {k : ℕ} {r : List ℕ} → k < roles → offVolts (getD volts k (pos 0)) ≡ true → Keeps volts (record { within = false; volts = r })
+  pub keeps-none : {k : ℕ} {r : List ℕ} → k < roles → offVolts (getD volts k (pos 0)) ≡ true →
+      Keeps volts (record { within = false; volts = r })
   keeps-none {k} h e = record { within = ap not (sym (one-off volts k (omega arith) e)); kept = λ f. never (sym f) }
 
 -- ---- what is kept comes back, and is near

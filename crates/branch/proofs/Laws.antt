@@ -3,7 +3,7 @@ use mathlib.Core.Path.{_≡_, refl}
 use mathlib.Core.Bool.{false}
 use mathlib.Core.Logic.{_⊎_, inl, inr}
 use mathlib.Core.List.{List, [], _∷_, map}
-use Prim.Native.Nat.{ℕ, zero, suc, _+_, _-_, _^_, _≤_, _<_, zero-le}
+use Prim.Native.Nat.{ℕ, zero, suc, _+_, _^_, _≤_, _<_, zero-le}
 use native.Mathlib.Nat.{le-trans, le-refl}
 use native.Mathlib.Omega.{arith}
 use lib.Dec.{lit≤}
@@ -79,7 +79,8 @@ module _ (c : WorkedCard) (v : Role → Role → ℤ) where
   summand-least unit h = le-refl _
   summand-least (root x p q) h = root-sized (ratioOf c v (root x p q)) h .least
 
-  divided-small : (d : Divisor) (n : ℤ) → someAbove ratioLimit (ratiosIn c v d) ≡ false → natAbs (dividedBy c v d n) ≤ natAbs n
+  divided-small : (d : Divisor) (n : ℤ) → someAbove ratioLimit (ratiosIn c v d) ≡ false →
+      natAbs (dividedBy c v d n) ≤ natAbs n
   divided-small undivided n e = le-refl _
   divided-small (sumOf s t) n e =
       let b = both-within ratioLimit (ratioOf c v s) (ratioOf c v t) e in
@@ -87,28 +88,35 @@ module _ (c : WorkedCard) (v : Role → Role → ℤ) where
       let q = summand-least t (b .second) in
       quotient-small n 21 (summandOf c v s + summandOf c v t) (omega arith)
 
-  row-small : (r : Row) → someAbove tickLimit (ticksIn c v r) ≡ false → someAbove ratioLimit (ratiosIn c v (r .divisor)) ≡ false → Sizes tickLimit (rowTicks c v r)
+  row-small : (r : Row) → someAbove tickLimit (ticksIn c v r) ≡ false →
+      someAbove ratioLimit (ratiosIn c v (r .divisor)) ≡ false → Sizes tickLimit (rowTicks c v r)
   row-small r e g =
       let b = both-within tickLimit (tickOf c v (r .plus)) (tickOf c v (r .minus)) e in
       le-trans (divided-small (r .divisor) _ g) (difference-small _ _ tickLimit (b .first) (b .second))
 
   -- rows of any kind
-  rows-small : (rows : List Row) (k : ℕ) → firstOver c v k rows ≡ Within → Each (Sizes tickLimit) (map (rowTicks c v) rows)
+  rows-small : (rows : List Row) (k : ℕ) → firstOver c v k rows ≡ Within →
+      Each (Sizes tickLimit) (map (rowTicks c v) rows)
   rows-small [] k e = tt
   rows-small (r ∷ rs) k e =
-      let f = passes (someAbove tickLimit (ticksIn c v r)) (someAbove ratioLimit (ratiosIn c v (r .divisor))) k (firstOver c v (suc k) rs) e in
+      let t = someAbove tickLimit (ticksIn c v r) in
+      let d = someAbove ratioLimit (ratiosIn c v (r .divisor)) in
+      let f = passes t d k (firstOver c v (suc k) rs) e in
       (row-small r (f .ticks) (f .ratio), rows-small rs (suc k) (f .later))
 
-  outcome-small : (rows : List Row) (o : Over) → firstOver c v 1 rows ≡ o → Each (Sizes tickLimit) (outcomeAt o (map (rowTicks c v) rows) .ticks)
+  outcome-small : (rows : List Row) (o : Over) → firstOver c v 1 rows ≡ o →
+      Each (Sizes tickLimit) (outcomeAt o (map (rowTicks c v) rows) .ticks)
   outcome-small rows Within e = rows-small rows 1 e
   outcome-small rows (Ticks k) e = zeros tickLimit (length (map (rowTicks c v) rows))
   outcome-small rows (Injection k) e = zeros tickLimit (length (map (rowTicks c v) rows))
 
 -- no current is above the limit in size, whatever the card and the voltages
-pub ticks-small : (c : WorkedCard) (v : List ℤ) (k : ℕ) → natAbs (getD (outcomeOf c v .ticks) k (pos 0)) ≤ tickLimit
+pub ticks-small : (c : WorkedCard) (v : List ℤ) (k : ℕ) →
+    natAbs (getD (outcomeOf c v .ticks) k (pos 0)) ≤ tickLimit
 unfolding outcomeOf
 ticks-small c v k =
-    each-at tickLimit (outcomeOf c v .ticks) (outcome-small c (biasOf v) (rowsFor (c .exsub)) (firstOver c (biasOf v) 1 (rowsFor (c .exsub))) refl) k
+    let rows = rowsFor (c .exsub) in
+    each-at tickLimit (outcomeOf c v .ticks) (outcome-small c (biasOf v) rows (firstOver c (biasOf v) 1 rows) refl) k
 
 -- ---- what `work_out` asks can be met: by any worked card, with every voltage 0
 

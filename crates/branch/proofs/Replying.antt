@@ -23,17 +23,21 @@ use Rattle.branch.proofs.Kept.{within-on, outside-off, within-back}
 -- ---- from an outcome
 
 module _ {x y : Outcome} (e : x ≡ y) where
-  pub reply-given : x .over ≡ Within → _≡_ {A = Reply} (record { admission = Given; ticks = x .ticks }) (replyOf (atOutcome y))
+  pub reply-given : x .over ≡ Within →
+      _≡_ {A = Reply} (record { admission = Given; ticks = x .ticks }) (replyOf (atOutcome y))
   reply-given w = rw (← e, w)
 
-  pub reply-over : {r : Reply} → isOver (x .over) ≡ true → r ≡ refusedReply Overload → r ≡ replyOf (atOutcome y)
+  pub reply-over : {r : Reply} → isOver (x .over) ≡ true → r ≡ refusedReply Overload →
+      r ≡ replyOf (atOutcome y)
   reply-over w q = rw (← e, w) q
 
 -- ---- from voltages
 
 module _ (c : WorkedCard) {volts : List ℤ} {k : Keeping} {r : Reply} (h : Keeps volts k) where
-  pub reply-within : k .within ≡ true → r ≡ replyOf (atOutcome (outcomeOf c (map givenBack (k .volts)))) → r ≡ replyOf (atVolts c volts)
-  reply-within w q = rw (within-on h w) (q ∙ ap (λ (l : List ℤ). replyOf (atOutcome (outcomeOf c l))) (within-back h w))
+  pub reply-within : k .within ≡ true → r ≡ replyOf (atOutcome (outcomeOf c (map givenBack (k .volts)))) →
+      r ≡ replyOf (atVolts c volts)
+  reply-within w q =
+      rw (within-on h w) (q ∙ ap (λ (l : List ℤ). replyOf (atOutcome (outcomeOf c l))) (within-back h w))
 
   pub reply-outside : k .within ≡ false → r ≡ refusedReply OutOfRange → r ≡ replyOf (atVolts c volts)
   reply-outside w q = rw (outside-off h w) q
@@ -48,15 +52,19 @@ reply-ticks : (v : Verdict (List ℤ)) → replyOf v .ticks ≡ ticksOr v
 reply-ticks (no f) = refl
 reply-ticks (yes ticks) = refl
 
-replies : {bytes : List ℕ} {volts : List ℤ} {r : Reply} → r ≡ replyOf (currentsOf bytes volts) → Replies bytes volts r
+replies : {bytes : List ℕ} {volts : List ℤ} {r : Reply} → r ≡ replyOf (currentsOf bytes volts) →
+    Replies bytes volts r
 replies {bytes} {volts} e =
-    subst (Replies bytes volts) (sym e) (record { answer = reply-tells (currentsOf bytes volts); ticks = reply-ticks (currentsOf bytes volts) })
+    let v = currentsOf bytes volts in
+    subst (Replies bytes volts) (sym e) (record { answer = reply-tells v; ticks = reply-ticks v })
 
 module _ {bytes : List ℕ} {r : Reply} where
-  pub replies-refused : {f : Refusal} {volts : List ℤ} → judgeOf bytes ≡ no f → r ≡ refusedReply f → Replies bytes volts r
+  pub replies-refused : {f : Refusal} {volts : List ℤ} → judgeOf bytes ≡ no f → r ≡ refusedReply f →
+      Replies bytes volts r
   unfolding currentsOf
   replies-refused e q = replies (rw e q)
 
-  pub replies-card : {c : WorkedCard} {volts : List ℤ} → judgeOf bytes ≡ yes c → r ≡ replyOf (atVolts c volts) → Replies bytes volts r
+  pub replies-card : {c : WorkedCard} {volts : List ℤ} → judgeOf bytes ≡ yes c → r ≡ replyOf (atVolts c volts) →
+      Replies bytes volts r
   unfolding currentsOf
   replies-card e q = replies (rw e q)

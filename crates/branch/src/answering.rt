@@ -26,14 +26,14 @@ pub(crate) fn turned_away(f: Refusal) -> Reply
     }
 }
 
-// The voltages of the roles as they are kept, where every one is within its range; else zeros.
+// The voltages of the roles as they are kept, where every one is within its range; else only those before the first that is not.
 pub(crate) struct Keeping {
     within: bool,
     volts: [u32; ROLES],
 }
 
-fn keep_all(volts: &[i64; ROLES]) -> Keeping
-    ensures { λ r. ⌜ Keeps (now (volts .entry)) r ⌝ }
+fn keep_all(volts: [i64; ROLES]) -> Keeping
+    ensures { λ r. ⌜ Keeps volts r ⌝ }
 {
     let mut kept = [0u32; ROLES];
     for k in 0..ROLES {
@@ -77,7 +77,8 @@ pub(crate) fn card_currents(c: WorkedCard, volts: &[i64; ROLES]) -> Reply
     requires { ⌜ IsWorked c ⌝ }
     ensures { λ r. ⌜ r ≡ replyOf (atVolts c (now (volts .entry))) ⌝ }
 {
-    let k = keep_all(volts);
+    let given = *volts;
+    let k = keep_all(given);
     if k.within {
         let kept = k.volts;
         return answer(c, kept);

@@ -1,5 +1,5 @@
--- The number told of currents is that of the first test that fails, in the paper's order, 0 where they are given; and one reply is all that is permitted.
-use mathlib.Core.Path.{_≡_, refl, ap, ap₂, _∙_}
+-- The number told of currents, that of the first test that fails or 0 where none does; and one reply to one request.
+use mathlib.Core.Path.{_≡_, ap, ap₂, _∙_}
 use mathlib.Core.Bool.{not}
 use mathlib.Core.List.{List}
 use Prim.Native.Nat.{ℕ}
@@ -41,7 +41,8 @@ currentsNumber s volts =
 pub currents-tells : (s : List ℕ) (volts : List ℤ) → numberTold (currentsOf s volts) ≡ currentsNumber s volts
 unfolding currentsOf
 currents-tells s volts =
-    ap (λ (v : Verdict WorkedCard). numberTold (andThen v (λ (c : WorkedCard). atVolts c volts))) (judge-order s) ∙ simp (then-if, number-first)
+    ap (λ (v : Verdict WorkedCard). numberTold (andThen v (λ (c : WorkedCard). atVolts c volts))) (judge-order s)
+    ∙ simp (then-if, number-first)
 
 -- ---- one reply
 
@@ -49,12 +50,14 @@ admissionFrom : Verdict (List ℤ) → Admission
 admissionFrom (no f) = Refused f
 admissionFrom (yes ticks) = Given
 
-admission-from : (a : Admission) (ticks : List ℤ) (v : Verdict (List ℤ)) → toldReply a ticks ≡ tells v → a ≡ admissionFrom v
+admission-from : (a : Admission) (ticks : List ℤ) (v : Verdict (List ℤ)) → toldReply a ticks ≡ tells v →
+    a ≡ admissionFrom v
 unfolding admissionFrom
 admission-from Given ticks v e = ap admissionFrom (tells-one (yes ticks) v e)
 admission-from (Refused f) ticks v e = ap admissionFrom (tells-one (no f) v e)
 
-pub unique-currents : (s : List ℕ) (volts : List ℤ) (r r′ : Reply) → Replies s volts r → Replies s volts r′ → r ≡ r′
+pub unique-currents : (s : List ℕ) (volts : List ℤ) (r r′ : Reply) → Replies s volts r → Replies s volts r′ →
+    r ≡ r′
 unique-currents s volts r r′ p q =
     ap₂ (λ (a : Admission) (l : List ℤ). record { admission = a; ticks = l })
     (unique-by-equation

@@ -1,5 +1,6 @@
 -- `branch::answering::answer` meets its contract: each arm is the reply for its kind of outcome.
 use mathlib.Core.Path.{_≡_, sym, ap, subst, _∙_}
+use mathlib.Core.Bool.{true}
 use mathlib.Core.List.{map}
 use borrow.Author.Needs.{needs}
 use Rattle.volts.specs.Volts.{givenBack}
@@ -27,12 +28,20 @@ work-out-requires c κs =
       near = s .pre .1;
     }
 
-worked : (c : tie.After-work-out) → c .work-out .result ≡ outcomeOf (start (c .before .before) .args .c) (map givenBack (start (c .before .before) .args .t2))
+worked : (c : tie.After-work-out) →
+    c .work-out .result
+    ≡ outcomeOf (start (c .before .before) .args .c) (map givenBack (start (c .before .before) .args .t2))
 worked c =
     let ready = c .before .before in
     let s = start ready in
     let same = ap (λ (r : Ready). r .card) (ready .prepare .ensures) ∙ ready-card (s .args .c) in
     c .work-out .ensures ∙ ap (λ (x : WorkedCard). outcomeOf x (map givenBack (s .args .t2))) same
+
+over : (c : tie.After-turned-away) → isOver (c .before .before .before .work-out .result .over) ≡ true
+over c = ap isOver (c .before .enum-told2 .given .1)
+
+over2 : (c : tie.After-turned-away2) → isOver (c .before .before .before .work-out .result .over) ≡ true
+over2 c = ap isOver (c .before .enum-told3 .given .1)
 
 pub answer-spec : {M : Type 1} → statement M
 answer-spec =
@@ -47,5 +56,5 @@ answer-spec =
     (λ c. search needs)
     (λ c κs. search needs)
     (λ c. reply-given (worked (c .before .before .before)) (c .before .enum-told .given .1))
-    (λ c. reply-over (worked (c .before .before .before)) (ap isOver (c .before .enum-told2 .given .1)) (c .turned-away .ensures))
-    (λ c. reply-over (worked (c .before .before .before)) (ap isOver (c .before .enum-told3 .given .1)) (c .turned-away2 .ensures)))
+    (λ c. reply-over (worked (c .before .before .before)) (over c) (c .turned-away .ensures))
+    (λ c. reply-over (worked (c .before .before .before)) (over2 c) (c .turned-away2 .ensures)))
