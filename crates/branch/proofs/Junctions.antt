@@ -1,24 +1,19 @@
--- The exponential of a junction: from the kept voltages of its two roles to the definition's, and what a card made ready has for it.
-use mathlib.Core.Path.{_≡_, refl, sym, ap, ap₂, _∙_}
+-- The exponential of a junction: from the kept voltages of its two roles to the definition's.
+use mathlib.Core.Path.{_≡_, ap, ap₂, _∙_}
 use mathlib.Core.List.{List, map}
-use Prim.Native.Nat.{ℕ, _*_, _≤_, _<_}
-use native.Mathlib.Nat.{le-trans}
-use lib.Dec.{lit≤}
-use lib.ListN.{getD, length}
+use Prim.Native.Nat.{ℕ, _*_, _≤_}
+use lib.ListN.{getD}
 use lib.IntN.{ℤ, pos, subℕ, _-ℤ_}
-use Rattle.volts.specs.Volts.{span, givenBack, acrossOf, AllNear}
+use Rattle.volts.specs.Volts.{span, givenBack, acrossOf}
 use Rattle.volts.specs.laws.Keeping.{given-back-at}
 use Rattle.volts.specs.laws.Across.{across-is, across-near}
 use Rattle.octave.specs.declared.Exponential.{Exponential}
 use Rattle.octave.specs.declared.Reciprocal.{Reciprocal}
-use Rattle.octave.specs.Position.{InRange}
 use Rattle.octave.specs.Exponential.{exponentialOf}
 use Rattle.octave.specs.inner.Reciprocal as octave
 use Rattle.octave.specs.laws.Places.{exponential-size, exponent-small}
-use Rattle.branch.specs.Rows.{roles}
 use Rattle.branch.specs.Ticks.{expOf}
-use Rattle.branch.specs.inner.Ready.{expAt}
-use Rattle.branch.specs.inner.Terms.{Sized, IsExp, Junction}
+use Rattle.branch.specs.inner.Terms.{IsExp, Junction}
 use Rattle.branch.proofs.Scaling.{exponential-is}
 
 module _ {table v : List ℕ} {p q : ℕ} {o : Reciprocal} (j : Junction table v p q o) {u : ℕ} (e : u ≡ acrossOf (getD v p 0) (getD v q 0)) where

@@ -22,7 +22,8 @@ use Rattle.branch.specs.declared.Over.{Over}
 use Rattle.branch.specs.declared.Over.the-variants.{Within, Ticks, Injection}
 use Rattle.branch.specs.Rows.{Role, Summand, unit, root, Divisor, undivided, sumOf, Row, rowsFor, roles, branches}
 use Rattle.branch.specs.Ticks.{biasOf, tickOf, ratioOf, summandOf, dividedBy, rowTicks}
-use Rattle.branch.specs.Outcome.{tickLimit, ratioLimit, someAbove, ticksIn, ratiosIn, firstOver, outcomeAt, outcomeOf}
+use Rattle.branch.specs.Outcome.{tickLimit, ratioLimit, someAbove, ticksIn, ratiosIn, firstOver, outcomeAt}
+use Rattle.branch.specs.Outcome.{outcomeOf}
 use Rattle.branch.specs.inner.Ready.{readyOf, IsReady, Askable}
 use Rattle.branch.proofs.Tests.{passes, both-within}
 use Rattle.branch.proofs.Roots.{root-sized}

@@ -1,4 +1,4 @@
--- What a loop over the rows knows once k of them are done: T's added up, the largest floor of a ratio, and that none overloads.
+-- What a loop over the rows knows once k are done: T's added up, the largest floor of a ratio, and that none overloads.
 use mathlib.Core.Path.{_≡_, refl, sym, ap, subst, _∙_}
 use mathlib.Core.Bool.{true, false}
 use mathlib.Core.List.{List, [], _∷_}
@@ -14,7 +14,8 @@ use Rattle.branch.specs.declared.Outcome.{Outcome}
 use Rattle.branch.specs.declared.Terms.{Terms}
 use Rattle.branch.specs.Rows.{branches}
 use Rattle.branch.specs.Outcome.{tickLimit, ratioLimit, someAbove, outcomeAt}
-use Rattle.branch.specs.inner.Terms.{Small, lastPlaces, Below, Most, rowOver, overUp, listUp, allTicks, outcomeFrom}
+use Rattle.branch.specs.inner.Terms.{Small, lastPlaces, Below, Most, rowOver, overUp}
+use Rattle.branch.specs.inner.Terms.{listUp, allTicks, outcomeFrom}
 
 -- what is so below k, and at k, is so below k + 1
 each-more : (P : ℕ → Type 0) {k : ℕ} → ((i : ℕ) → i < k → P i) → P k → (i : ℕ) → i < k + 1 → P i
@@ -65,8 +66,12 @@ module _ {x : Terms} where
       let m = s .minus k h in
       let l = t .small in
       record {
-        plus = each-more (λ (i : ℕ). getD (x .plus) i 0 / 2 ^ lastPlaces ≤ now) (λ i q. let o = t .plus i q in omega arith) (omega arith);
-        minus = each-more (λ (i : ℕ). getD (x .minus) i 0 / 2 ^ lastPlaces ≤ now) (λ i q. let o = t .minus i q in omega arith) (omega arith);
+        plus =
+            each-more (λ (i : ℕ). getD (x .plus) i 0 / 2 ^ lastPlaces ≤ now)
+            (λ i q. let o = t .plus i q in omega arith) (omega arith);
+        minus =
+            each-more (λ (i : ℕ). getD (x .minus) i 0 / 2 ^ lastPlaces ≤ now)
+            (λ i q. let o = t .minus i q in omega arith) (omega arith);
         small = omega arith;
       }
     where
@@ -80,12 +85,14 @@ module _ {x : Terms} where
   most-none = record { left = λ i h. absurd (omega arith); right = λ i h. absurd (omega arith) }
 
   -- m is the larger floor of row k, n the larger of that and those before it
-  pub most-more : {k most m n : ℕ} → MostTo x k most → getD (x .left) k 0 ≤ m → getD (x .right) k 0 ≤ m → most ≤ n → m ≤ n →
-      MostTo x (k + 1) n
+  pub most-more : {k most m n : ℕ} → MostTo x k most → getD (x .left) k 0 ≤ m → getD (x .right) k 0 ≤ m →
+      most ≤ n → m ≤ n → MostTo x (k + 1) n
   most-more {k} {most} {m} {n} t l r o u =
       record {
-        left = each-more (λ (i : ℕ). getD (x .left) i 0 ≤ n) (λ i q. let b = t .left i q in omega arith) (omega arith);
-        right = each-more (λ (i : ℕ). getD (x .right) i 0 ≤ n) (λ i q. let b = t .right i q in omega arith) (omega arith);
+        left =
+            each-more (λ (i : ℕ). getD (x .left) i 0 ≤ n) (λ i q. let b = t .left i q in omega arith) (omega arith);
+        right =
+            each-more (λ (i : ℕ). getD (x .right) i 0 ≤ n) (λ i q. let b = t .right i q in omega arith) (omega arith);
       }
 
   pub most-all : {k most : ℕ} → branches ≤ k → MostTo x k most → Most x most
@@ -95,7 +102,8 @@ module _ {x : Terms} where
   looked-none = record { rest = refl }
 
   -- it is for row k + 1 to say
-  looked-row : {k : ℕ} → Looked x k → k < branches → overUp x branches 0 ≡ rowOver x k (overUp x (branches - (k + 1)) (k + 1))
+  looked-row : {k : ℕ} → Looked x k → k < branches →
+      overUp x branches 0 ≡ rowOver x k (overUp x (branches - (k + 1)) (k + 1))
   looked-row {k} s h =
       let e : branches - k ≡ suc (branches - (k + 1)) = omega arith in
       let f : suc k ≡ k + 1 = omega arith in
@@ -108,8 +116,10 @@ module _ {x : Terms} where
 
   pub over-injection : {k : ℕ} → Looked x k → k < branches →
       someAbove tickLimit (getD (x .plus) k 0 ∷ getD (x .minus) k 0 ∷ []) ≡ false →
-      someAbove ratioLimit (getD (x .left) k 0 ∷ getD (x .right) k 0 ∷ []) ≡ true → Injection (k + 1) ≡ overUp x branches 0
-  over-injection {k} s h a b = let f : suc k ≡ k + 1 = omega arith in sym (looked-row s h ∙ rw (a, b) (ap Injection f))
+      someAbove ratioLimit (getD (x .left) k 0 ∷ getD (x .right) k 0 ∷ []) ≡ true →
+      Injection (k + 1) ≡ overUp x branches 0
+  over-injection {k} s h a b =
+      let f : suc k ≡ k + 1 = omega arith in sym (looked-row s h ∙ rw (a, b) (ap Injection f))
 
   pub looked-more : {k : ℕ} → Looked x k → k < branches →
       someAbove tickLimit (getD (x .plus) k 0 ∷ getD (x .minus) k 0 ∷ []) ≡ false →
@@ -127,7 +137,8 @@ abbrev nothing : Over → Outcome
 nothing o = record { over = o; ticks = replicate branches (pos 0) }
 
 module _ (x : Terms) where
-  pub outcome-within : {t : List ℤ} → overUp x branches 0 ≡ Within → t ≡ allTicks x → outcomeAt Within t ≡ outcomeFrom x
+  pub outcome-within : {t : List ℤ} → overUp x branches 0 ≡ Within → t ≡ allTicks x →
+      outcomeAt Within t ≡ outcomeFrom x
   outcome-within e f = ap (outcomeAt Within) f ∙ sym (ap (λ (o : Over). outcomeAt o (allTicks x)) e)
 
   pub outcome-ticks : {k : ℕ} → overUp x branches 0 ≡ Ticks k → nothing (Ticks k) ≡ outcomeFrom x

@@ -1,24 +1,24 @@
--- What a card made ready has: its octaves' reciprocals, its T's without an exponential, and values whose products are within bounds.
-use mathlib.Core.Path.{_≡_, refl, sym, ap, _∙_}
+-- What a card made ready has: its octaves' reciprocals, its T's without an exponential, and values whose products are
+-- within bounds.
+use mathlib.Core.Path.{_≡_, refl, ap, _∙_}
 use mathlib.Core.List.{List}
 use Prim.Native.Nat.{ℕ, _≤_, _<_}
 use native.Mathlib.Nat.{le-trans}
-use lib.Dec.{lit≤, lit<}
+use lib.Dec.{lit≤}
 use lib.IntN.{ℤ}
 use Rattle.float.specs.declared.Split.{Split}
 use Rattle.float.specs.Split.{IsSplit}
 use Rattle.octave.specs.declared.Exponential.{Exponential}
-use Rattle.octave.specs.declared.Reciprocal.{Reciprocal}
 use Rattle.octave.specs.Position.{InRange}
 use Rattle.octave.specs.inner.Reciprocal.{IsReciprocal, equals-reciprocal, reciprocal-octave}
 use Rattle.card.specs.declared.WorkedCard.{WorkedCard}
 use Rattle.card.specs.inner.Worked.{IsWorked}
 use Rattle.branch.specs.declared.Ready.{Ready}
 use Rattle.branch.specs.Rows.{roles}
-use Rattle.branch.specs.Ticks.{Scaled, valueAt, expOf, times, wholeTicks, wholeParts}
+use Rattle.branch.specs.Ticks.{valueAt, expOf, times, wholeTicks, wholeParts}
 use Rattle.branch.specs.Outcome.{tickLimit, ratioLimit}
 use Rattle.branch.specs.inner.Ready.{aloneOf, readyOf, IsReady, Askable, expAt}
-use Rattle.branch.specs.inner.Terms.{UpTo, Sized, IsExp, Scalable, Junction, scaledOf, moreParts}
+use Rattle.branch.specs.inner.Terms.{UpTo, IsExp, Scalable, Junction, scaledOf, moreParts}
 use Rattle.branch.proofs.Scaling.{ticks-upto, parts-upto, alone-upto}
 
 -- both octaves are in range
@@ -75,7 +75,8 @@ module _ {r : Ready} (h : IsReady r) where
   second-octave = ap (λ (x : Ready). x .second .w) (h .is) ∙ reciprocal-octave (r .card .second)
 
   -- a T without an exponential
-  alone-at : (f : Ready → ℕ) (x : Split) → f (readyOf (r .card)) ≡ aloneOf x → UpTo tickLimit (f r) (wholeTicks (valueAt x))
+  alone-at : (f : Ready → ℕ) (x : Split) → f (readyOf (r .card)) ≡ aloneOf x
+      → UpTo tickLimit (f r) (wholeTicks (valueAt x))
   alone-at f x e = rw (ap f (h .is) ∙ e) (alone-upto x)
 
   pub own-bulk : UpTo tickLimit (r .bulk) (wholeTicks (valueAt (r .card .bulk)))
@@ -103,16 +104,19 @@ module _ {r : Ready} (h : IsReady r) where
   own-sf = alone-at (λ (x : Ready). x .sf) (r .card .sf) refl
 
 -- what `exponential` asks of two roles, with the octave or the second one
-pub plain-junction : {table v : List ℕ} {r : Ready} → Askable table r v → {p q : ℕ} → p < roles → q < roles → Junction table v p q (r .plain)
+pub plain-junction : {table v : List ℕ} {r : Ready} → Askable table r v → {p q : ℕ} → p < roles → q < roles
+    → Junction table v p q (r .plain)
 plain-junction a h k =
     record { table-is = a .table-is; long = a .long; near = a .near; from = h; to = k; reciprocal = plain-is (a .ready) }
 
-pub second-junction : {table v : List ℕ} {r : Ready} → Askable table r v → {p q : ℕ} → p < roles → q < roles → Junction table v p q (r .second)
+pub second-junction : {table v : List ℕ} {r : Ready} → Askable table r v → {p q : ℕ} → p < roles → q < roles
+    → Junction table v p q (r .second)
 second-junction a h k =
     record { table-is = a .table-is; long = a .long; near = a .near; from = h; to = k; reciprocal = second-is (a .ready) }
 
 -- what `scaled` asks
-pub scalable : {x : Split} {g : Exponential} {w : ℕ} {v : ℤ} → IsSplit x → IsExp w v g → (more : ℕ) → more ≤ moreParts → Scalable x g more
+pub scalable : {x : Split} {g : Exponential} {w : ℕ} {v : ℤ} → IsSplit x → IsExp w v g → (more : ℕ) → more ≤ moreParts
+    → Scalable x g more
 scalable i e more h = record { split = i; sized = e .sized; near = h }
 
 -- ---- a T and a ratio with the exponential that the code has

@@ -7,7 +7,8 @@ use native.Mathlib.Omega.{arith}
 use lib.IntN.{pos, negsuc, natAbs, subℕ}
 use Rattle.whole.specs.laws.Biased.{below-or-not, sub-up, sub-down, turned}
 use Rattle.whole.specs.Root.{IsRoot, rootOf, rootBits, root-is}
-use Rattle.whole.specs.Quotient.{quotientOf, quotient-up, quotient-down, quotient-small, heldSize, held-size-small, Divisible}
+use Rattle.whole.specs.Quotient.{quotientOf, quotient-up, quotient-down, quotient-small, heldSize, held-size-small}
+use Rattle.whole.specs.Quotient.{Divisible}
 use Rattle.branch.specs.Ticks.{rootFor}
 use Rattle.branch.specs.Outcome.{tickLimit, ratioLimit}
 use Rattle.branch.specs.inner.Terms.{dividedOf}
@@ -20,7 +21,11 @@ root-size : (x r : ℕ) → 2 ^ 40 ≤ x → x < 2 ^ 62 → IsRoot x r → RootS
 root-size x r low high i = record { least = least (below-or-not r (2 ^ 20)); most = most (below-or-not r (2 ^ 31)) }
   where
     least : (r < 2 ^ 20) ⊎ (2 ^ 20 ≤ r) → 2 ^ 20 ≤ r
-    least (inl h) = let k : r + 1 ≤ 2 ^ 20 = omega arith in let p = i .greatest in let m = mul-le-mul k k in absurd (omega arith)
+    least (inl h) =
+        let k : r + 1 ≤ 2 ^ 20 = omega arith in
+        let p = i .greatest in
+        let m = mul-le-mul k k in
+        absurd (omega arith)
     least (inr h) = h
 
     most : (r < 2 ^ 31) ⊎ (2 ^ 31 ≤ r) → r < 2 ^ 31
@@ -53,25 +58,31 @@ pub divided-plain : (plus minus : ℕ) → dividedOf plus minus 0 0 ≡ subℕ p
 unfolding dividedOf
 divided-plain plus minus = rw root-unit (quotient-plain plus minus)
 
-pub divided-unit : (plus minus left right : ℕ) → left ≤ 0 → right ≤ 0 → subℕ plus minus ≡ dividedOf plus minus left right
+pub divided-unit : (plus minus left right : ℕ) → left ≤ 0 → right ≤ 0 →
+    subℕ plus minus ≡ dividedOf plus minus left right
 divided-unit plus minus left right l r =
     let a : left ≡ 0 = omega arith in
     let b : right ≡ 0 = omega arith in
     rw (a, b) (sym (divided-plain plus minus))
+
+-- roots that add up to two units change nothing
+pub divided-two : (plus minus left right : ℕ) → rootFor left + rootFor right ≡ 2 ^ 20 + 2 ^ 20 →
+    subℕ plus minus ≡ dividedOf plus minus left right
+unfolding dividedOf
+divided-two plus minus left right e = rw e (sym (quotient-plain plus minus))
 
 -- a row that takes away what it adds has no ticks, whatever it is divided by
 pub divided-equal : (plus minus left right : ℕ) → plus ≡ minus → pos 0 ≡ dividedOf plus minus left right
 unfolding dividedOf
 divided-equal plus minus left right e =
     let none : plus - minus ≡ 0 = omega arith in
-    let divisor = rootFor left + rootFor right in
-    sym (quotient-up plus minus 21 divisor (omega arith) ∙ ap pos (ap (λ (n : ℕ). n * 2 ^ 21 / divisor) none ∙ zero-div divisor))
+    let d = rootFor left + rootFor right in
+    let gone : (plus - minus) * 2 ^ 21 / d ≡ 0 = ap (λ (n : ℕ). n * 2 ^ 21 / d) none ∙ zero-div d in
+    sym (quotient-up plus minus 21 d (omega arith) ∙ ap pos gone)
 
--- roots that add up to two units change nothing
-pub divided-two : (plus minus left right : ℕ) → rootFor left + rootFor right ≡ 2 ^ 20 + 2 ^ 20 → subℕ plus minus ≡ dividedOf plus minus left right
-unfolding dividedOf
-divided-two plus minus left right e = rw e (sym (quotient-plain plus minus))
+-- ---- T's and floors within their limits
 
+-- a difference is no larger than its numbers
 pub difference-small : (p m most : ℕ) → p ≤ most → m ≤ most → natAbs (subℕ p m) ≤ most
 difference-small p m most h k = go (below-or-not p m)
   where
@@ -79,25 +90,32 @@ difference-small p m most h k = go (below-or-not p m)
     go (inl q) = rw (sub-down p m q) (omega arith)
     go (inr q) = rw (sub-up p m q) (omega arith)
 
--- the quotient of two T's that are within stays below the first size that is too much
-pub divided-held : (plus minus left right : ℕ) → plus ≤ tickLimit → minus ≤ tickLimit → left ≤ ratioLimit → right ≤ ratioLimit →
-    heldSize (suc tickLimit) (quotientOf (subℕ plus minus) 21 (rootFor left + rootFor right)) ≡ dividedOf plus minus left right
-unfolding dividedOf
-divided-held plus minus left right p m l r =
-    let a = root-sized left l .least in
-    let b = root-sized right r .least in
-    let small = le-trans (quotient-small (subℕ plus minus) 21 (rootFor left + rootFor right) (omega arith)) (difference-small plus minus tickLimit p m) in
-    held-size-small (suc tickLimit) (quotientOf (subℕ plus minus) 21 (rootFor left + rootFor right)) (omega arith)
+module _ (plus minus left right : ℕ) (p : plus ≤ tickLimit) (m : minus ≤ tickLimit) (l : left ≤ ratioLimit)
+    (r : right ≤ ratioLimit) where
+  -- the quotient stays below the first size that is too much
+  pub divided-held : heldSize (suc tickLimit) (quotientOf (subℕ plus minus) 21 (rootFor left + rootFor right)) ≡
+      dividedOf plus minus left right
+  unfolding dividedOf
+  divided-held =
+      let a = root-sized left l .least in
+      let b = root-sized right r .least in
+      let less = quotient-small (subℕ plus minus) 21 (rootFor left + rootFor right) (omega arith) in
+      let small = le-trans less (difference-small plus minus tickLimit p m) in
+      held-size-small (suc tickLimit) (quotientOf (subℕ plus minus) 21 (rootFor left + rootFor right)) (omega arith)
 
--- and what `quotient` asks is so
-pub divisible : (plus minus left right : ℕ) → plus ≤ tickLimit → minus ≤ tickLimit → left ≤ ratioLimit → right ≤ ratioLimit →
-    Divisible plus minus 21 (rootFor left + rootFor right) (suc tickLimit)
-divisible plus minus left right p m l r =
-    let a = root-sized left l in
-    let b = root-sized right r in
-    record {
-      first-small = omega arith;
-      second-small = omega arith;
-      divisor = record { shift-small = omega arith; divisor-there = omega (arith, a .least); divisor-small = omega (arith, a .most, b .most) };
-      limit-small = omega arith;
-    }
+  -- and what `quotient` asks is so
+  pub divisible : Divisible plus minus 21 (rootFor left + rootFor right) (suc tickLimit)
+  divisible =
+      let a = root-sized left l in
+      let b = root-sized right r in
+      record {
+        first-small = omega arith;
+        second-small = omega arith;
+        divisor =
+            record {
+              shift-small = omega arith;
+              divisor-there = omega (arith, a .least);
+              divisor-small = omega (arith, a .most, b .most);
+            };
+        limit-small = omega arith;
+      }

@@ -1,12 +1,12 @@
--- From the code's terms to the outcome, over rows of any kind: the same row overloads first, and where none does the ticks are the rows' own.
-use mathlib.Core.Path.{_≡_, refl, sym, ap, ap₂, _∙_}
-use mathlib.Core.Bool.{Bool, true, false, _||_}
+-- From the code's terms to the outcome, over rows of any kind: the same row overloads first, and where none does
+-- the ticks are the rows' own.
+use mathlib.Core.Path.{_≡_, refl, ap₂}
+use mathlib.Core.Bool.{Bool, false, _||_}
 use mathlib.Core.List.{List, [], _∷_, map}
 use Prim.Native.Nat.{ℕ, zero, suc, _+_, _^_, _≤_, _<_}
 use mathlib.Core.Logic.{_⊎_, inl, inr}
 use native.Mathlib.Omega.{arith}
-use lib.Dec.{ltb}
-use lib.ListN.{getD, length, length-map}
+use lib.ListN.{getD, length}
 use lib.IntN.{ℤ, subℕ}
 use Rattle.whole.specs.laws.Biased.{below-or-not}
 use Rattle.whole.specs.Quotient.{quotientOf}
@@ -15,15 +15,19 @@ use Rattle.branch.specs.declared.Over.{Over}
 use Rattle.branch.specs.declared.Over.the-variants.{Within, Ticks, Injection}
 use Rattle.branch.specs.declared.Terms.{Terms}
 use Rattle.branch.specs.Rows.{Role, Summand, unit, root, Divisor, undivided, sumOf, Row, rowsFor, branches}
-use Rattle.branch.specs.Ticks.{tickOf, ratioOf, rootFor, summandOf, dividedBy, rowTicks, biasOf}
-use Rattle.branch.specs.Outcome.{tickLimit, ratioLimit, someAbove, ticksIn, ratiosIn, overAt, firstOver, outcomeAt, outcomeOf}
-use Rattle.branch.specs.inner.Terms.{UpTo, leftOf, rightOf, RowTerms, RowsAt, none, more, TermsOf, Small, Below, Most, rowOver, overUp, dividedOf, ticksAt, listUp, allTicks, NotOver, Fine, outcomeFrom}
+use Rattle.branch.specs.Ticks.{tickOf, ratioOf, rootFor, summandOf, dividedBy, rowTicks}
+use Rattle.branch.specs.Outcome.{tickLimit, ratioLimit, someAbove, ratiosIn, firstOver}
+use Rattle.branch.specs.Outcome.{outcomeAt}
+use Rattle.branch.specs.inner.Terms.{UpTo, leftOf, rightOf, RowTerms, RowsAt, none, more, TermsOf, Small, Below}
+use Rattle.branch.specs.inner.Terms.{Most, overUp, dividedOf, ticksAt, listUp, NotOver, Fine}
+use Rattle.branch.specs.inner.Terms.{outcomeFrom}
 use Rattle.branch.proofs.Tests.{Passes, passes, BothWithin, both-within, none-above}
 use Rattle.branch.proofs.Roots.{root-unit, divided-plain}
 
 -- ---- tests come out the same
 
-same-test : {limit x y s t : ℕ} → UpTo limit x s → UpTo limit y t → someAbove limit (x ∷ y ∷ []) ≡ someAbove limit (s ∷ t ∷ [])
+same-test : {limit x y s t : ℕ} → UpTo limit x s → UpTo limit y t
+    → someAbove limit (x ∷ y ∷ []) ≡ someAbove limit (s ∷ t ∷ [])
 same-test a b = ap₂ (λ (m n : Bool). m || (n || false)) (a .above) (b .above)
 
 module _ (c : WorkedCard) (v : Role → Role → ℤ) where
@@ -32,7 +36,8 @@ module _ (c : WorkedCard) (v : Role → Role → ℤ) where
   same-ratios undivided a b = same-test a b
   same-ratios (sumOf s t) a b = same-test a b
 
-  pub over-is : {x : Terms} {k : ℕ} {rows : List Row} → RowsAt c v x k rows → overUp x (length rows) k ≡ firstOver c v (suc k) rows
+  pub over-is : {x : Terms} {k : ℕ} {rows : List Row} → RowsAt c v x k rows
+      → overUp x (length rows) k ≡ firstOver c v (suc k) rows
   unfolding overUp
   over-is none = refl
   over-is (more {k = k} {r = r} t rest) =
@@ -88,7 +93,8 @@ module _ (c : WorkedCard) (v : Role → Role → ℤ) where
         minus = λ k h. small-at (t .rows) k (omega arith) (omega arith) .1;
       }
 
-  pub outcome-is : {x : Terms} → TermsOf c v x → outcomeFrom x ≡ outcomeAt (firstOver c v 1 (rowsFor (c .exsub))) (map (rowTicks c v) (rowsFor (c .exsub)))
+  pub outcome-is : {x : Terms} → TermsOf c v x
+      → outcomeFrom x ≡ outcomeAt (firstOver c v 1 (rowsFor (c .exsub))) (map (rowTicks c v) (rowsFor (c .exsub)))
   unfolding listUp
   outcome-is {x} t = go (overUp x branches 0) refl (over-is (t .rows))
     where
@@ -133,7 +139,8 @@ module _ (x : Terms) where
   fine e = record { at = λ k h. not-over branches 0 e k (omega arith) (omega arith) }
 
   -- a low sum of T's, and floors that are within
-  pub low-within : (sum most : ℕ) → Below x sum → sum < 2 ^ 43 → Most x most → most ≤ ratioLimit → overUp x branches 0 ≡ Within
+  pub low-within : (sum most : ℕ) → Below x sum → sum < 2 ^ 43 → Most x most → most ≤ ratioLimit
+      → overUp x branches 0 ≡ Within
   low-within sum most b l m h = none-over branches 0 (λ i p q. at i (omega arith))
     where
       at : (i : ℕ) → i < branches → NotOver x i

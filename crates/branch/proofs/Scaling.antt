@@ -1,20 +1,21 @@
 -- A value times an exponential, shifted down, against the floor that the rule asks for: equal as far as the limit goes.
 use mathlib.Core.Path.{_≡_, refl, sym, ap, ap₂, _∙_}
 use mathlib.Core.Logic.{_⊎_, inl, inr}
-use Prim.Native.Nat.{ℕ, zero, suc, _+_, _-_, _*_, _/_, _^_, _≤_, _<_}
-use native.Mathlib.Nat.{mul-le-mul, pow-le-pow-right, le-mul-of-pos-right, one-le-pow, div-eq-of-lt, div-le-self, zero-mul, zero-div}
+use Prim.Native.Nat.{ℕ, suc, _+_, _-_, _*_, _/_, _^_, _≤_, _<_}
+use native.Mathlib.Nat.{mul-le-mul, pow-le-pow-right, le-mul-of-pos-right, one-le-pow, div-eq-of-lt, div-le-self}
+use native.Mathlib.Nat.{zero-mul}
 use native.Mathlib.Omega.{arith}
 use lib.Dec.{ltb, lit<}
 use lib.IntN.{ℤ, pos, subℕ, _+ℤ_, _-ℤ_}
-use borrow.Author.Tests.{lt-ltb, le-ltb}
+use borrow.Author.Tests.{lt-ltb}
 use Rattle.whole.specs.Scale.{floorScale, heldAt, reaches, stays-below, held-within, scale-up, scale-down}
 use Rattle.whole.specs.laws.Biased.{sub-up, sub-eq, sub-add, below-or-not}
 use Rattle.volts.specs.Volts.{span}
 use Rattle.float.specs.declared.Split.{Split}
 use Rattle.float.specs.Split.{splitBias, IsSplit}
 use Rattle.octave.specs.declared.Exponential.{Exponential}
-use Rattle.octave.specs.Table.{places, mantissaOf}
-use Rattle.octave.specs.Position.{octaveFrom, wholeOf, partOf}
+use Rattle.octave.specs.Table.{places}
+use Rattle.octave.specs.Position.{octaveFrom}
 use Rattle.octave.specs.Exponential.{bias, exponentialOf}
 use Rattle.octave.specs.laws.Places.{exponential-mantissa, exponent-is}
 use Rattle.branch.specs.Ticks.{Scaled, valueAt, expOf, times, wholeTicks, wholeParts}
@@ -63,7 +64,8 @@ product {s} {g} i z = record { large = go (below-or-not 0 (s .a)); small = few }
         let m = mul-le-mul a (z .digits .high) in omega arith
 
 -- shifted down by d - n places it is x * 2^(n - d) as far as a limit goes
-pub shifted : {limit x : ℕ} (n d : ℕ) → Product x → limit < 2 ^ 60 → UpTo limit (x / 2 ^ (d - n)) (floorScale x (subℕ n d))
+pub shifted : {limit x : ℕ} (n d : ℕ) → Product x → limit < 2 ^ 60
+    → UpTo limit (x / 2 ^ (d - n)) (floorScale x (subℕ n d))
 shifted {limit} {x} n d p h = go (below-or-not n d)
   where
     less : x / 2 ^ (d - n) < 2 ^ 62
@@ -73,7 +75,8 @@ shifted {limit} {x} n d p h = go (below-or-not n d)
     whole k = let e : d - n ≡ 0 = omega arith in rw e (omega arith)
 
     up : d ≤ n → (x ≡ 0) ⊎ (2 ^ 60 ≤ x) → UpTo limit (x / 2 ^ (d - n)) (floorScale x (subℕ n d))
-    up k (inl z) = upto-equal (whole k ∙ z ∙ sym (scale-up x n d k ∙ ap (λ (y : ℕ). y * 2 ^ (n - d)) z ∙ zero-mul (2 ^ (n - d)))) less
+    up k (inl z) =
+        upto-equal (whole k ∙ z ∙ sym (scale-up x n d k ∙ ap (λ (y : ℕ). y * 2 ^ (n - d)) z ∙ zero-mul (2 ^ (n - d)))) less
     up k (inr l) =
         let m = le-mul-of-pos-right {m = 2 ^ (n - d)} x (one-le-pow (n - d) 2 (lit< tt)) in
         let e = whole k in
@@ -85,7 +88,8 @@ shifted {limit} {x} n d p h = go (below-or-not n d)
     go (inr k) = up k (p .large)
 
 -- nothing is left where the shift is far enough
-pub none-left : {s : Split} {g : Exponential} (more : ℕ) → IsSplit s → Sized g → g .n + 63 ≤ s .down → 0 ≡ scaledOf s g more
+pub none-left : {s : Split} {g : Exponential} (more : ℕ) → IsSplit s → Sized g → g .n + 63 ≤ s .down
+    → 0 ≡ scaledOf s g more
 none-left {s} {g} more i z h =
     let p = product i z .small in
     let w = pow-le-pow-right {n = 2} (lit< tt) {i = 63} {j = s .down + more - g .n} (omega arith) in
@@ -93,22 +97,22 @@ none-left {s} {g} more i z h =
 
 -- ---- the powers that code and definitions have
 
-pub alone-power : (down : ℕ) → subℕ splitBias down +ℤ pos 50 ≡ subℕ (splitBias + 50) down
-alone-power down = ap (λ (z : ℤ). subℕ splitBias down +ℤ z) (as-sub 50) ∙ sub-add splitBias down 50 0 ∙ sub-eq (splitBias + 50) (down + 0) (splitBias + 50) down (omega arith)
-  where
-    as-sub : (k : ℕ) → pos k ≡ subℕ k 0
-    as-sub k = ap pos (let e : k ≡ k - 0 = omega arith in e) ∙ sym (sub-up k 0 (omega arith))
+as-sub : (k : ℕ) → pos k ≡ subℕ k 0
+as-sub k = ap pos (let e : k ≡ k - 0 = omega arith in e) ∙ sym (sub-up k 0 (omega arith))
+
+alone-power : (down : ℕ) → subℕ splitBias down +ℤ pos 50 ≡ subℕ (splitBias + 50) down
+alone-power down =
+    ap (λ (z : ℤ). subℕ splitBias down +ℤ z) (as-sub 50) ∙ sub-add splitBias down 50 0
+    ∙ sub-eq (splitBias + 50) (down + 0) (splitBias + 50) down (omega arith)
 
 -- b + (n - 30) + k, of a value and an exponential: the biases leave what is shifted more
-joined : (down n k more : ℕ) → k + more ≡ 50 → subℕ splitBias down +ℤ subℕ n (bias + places) +ℤ pos k ≡ subℕ n (down + more)
+joined : (down n k more : ℕ) → k + more ≡ 50
+    → subℕ splitBias down +ℤ subℕ n (bias + places) +ℤ pos k ≡ subℕ n (down + more)
 joined down n k more e =
     ap (λ (z : ℤ). z +ℤ pos k) (sub-add splitBias down n (bias + places))
     ∙ ap (λ (z : ℤ). subℕ (splitBias + n) (down + (bias + places)) +ℤ z) (as-sub k)
     ∙ sub-add (splitBias + n) (down + (bias + places)) k 0
     ∙ sub-eq (splitBias + n + k) (down + (bias + places) + 0) n (down + more) (omega arith)
-  where
-    as-sub : (k : ℕ) → pos k ≡ subℕ k 0
-    as-sub k = ap pos (let e : k ≡ k - 0 = omega arith in e) ∙ sym (sub-up k 0 (omega arith))
 
 module _ {s : Split} {g : Exponential} (i : IsSplit s) (z : Sized g) where
   -- ticks
@@ -138,7 +142,8 @@ less-places n = sub-eq n (bias + places) (n + 0) (bias + places) (omega arith) �
 pub exponential-is : (u w : ℕ) → octaveFrom ≤ w → expAt (exponentialOf (subℕ u span) w) ≡ expOf (subℕ u span) w
 unfolding expAt expOf
 exponential-is u w h =
-    ap₂ scaled (exponential-mantissa (subℕ u span) w) (less-places (exponentialOf (subℕ u span) w .n) ∙ ap (λ (z : ℤ). z -ℤ pos places) (exponent-is u w h))
+    ap₂ scaled (exponential-mantissa (subℕ u span) w)
+    (less-places (exponentialOf (subℕ u span) w .n) ∙ ap (λ (z : ℤ). z -ℤ pos places) (exponent-is u w h))
   where
     scaled : ℕ → ℤ → Scaled
     scaled d p = record { digits = d; power = p }

@@ -1,13 +1,13 @@
 -- Tests against a limit, and what follows where one fails.
 use mathlib.Core.Path.{_≡_, refl}
 use mathlib.Core.Bool.{Bool, true, false, _||_}
-use mathlib.Core.List.{List, [], _∷_}
+use mathlib.Core.List.{[], _∷_}
 use Prim.Native.Nat.{ℕ, _≤_, _<_}
 use native.Mathlib.Omega.{arith}
 use lib.Dec.{ltb}
 use borrow.Author.Tests.{ltb-false, le-ltb, lt-ltb}
 use Rattle.branch.specs.declared.Over.{Over}
-use Rattle.branch.specs.declared.Over.the-variants.{Within, Ticks, Injection}
+use Rattle.branch.specs.declared.Over.the-variants.{Within}
 use Rattle.branch.specs.Outcome.{someAbove, overAt}
 
 -- what two different truths prove

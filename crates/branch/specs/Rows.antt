@@ -1,4 +1,5 @@
--- The branches of a transistor as data: where each starts and ends, the T's it counts, and what it is divided by. No branch is written anywhere else in specs/.
+-- The branches of a transistor as data: where each starts and ends, the T's it counts, and what it is divided by.
+-- No branch is written anywhere else in specs/.
 use mathlib.Core.Bool.{Bool, true, false}
 use mathlib.Core.List.{List, [], _∷_}
 use Prim.Native.Nat.{ℕ}
@@ -89,7 +90,8 @@ row4 = record { from = B2; to = E1; plus = across nonideal second B2 E1; minus =
 
 -- the extrinsic base current, (4.65) to (4.67)
 abbrev pub row5 : Row
-row5 = record { from = B1; to = C4; plus = across ex plain B1 C4; minus = alone ex; divisor = sumOf unit (root rEx B1 C4) }
+row5 =
+    record { from = B1; to = C4; plus = across ex plain B1 C4; minus = alone ex; divisor = sumOf unit (root rEx B1 C4) }
 
 -- X, what the substrate current is less than: (4.62a) for EXSUB 0, (4.62b) for EXSUB 1
 abbrev pub termX : Bool → Term
@@ -98,7 +100,14 @@ termX true = across sub plain S C4
 
 -- the substrate current, (4.62)
 abbrev pub row6 : Bool → Row
-row6 exsub = record { from = B1; to = S; plus = across sub plain B1 C4; minus = termX exsub; divisor = sumOf unit (root rSub B1 C4) }
+row6 exsub =
+    record {
+      from = B1;
+      to = S;
+      plus = across sub plain B1 C4;
+      minus = termX exsub;
+      divisor = sumOf unit (root rSub B1 C4);
+    }
 
 -- the substrate's own junction, (4.63) and (4.64)
 abbrev pub row7 : Row

@@ -11,7 +11,9 @@ use Rattle.octave.specs.Position.{wholeOf, partOf}
 use Rattle.float.specs.declared.Split.{Split}
 use Rattle.float.specs.Split.{splitBias}
 use Rattle.card.specs.declared.WorkedCard.{WorkedCard}
-use Rattle.branch.specs.Rows.{Role, roleIndex, Value, sN, bulk, side, nonideal, ex, sub, sf, rEx, rSub, Span, plain, second, Term, alone, across, Summand, unit, root, Divisor, undivided, sumOf, Row}
+use Rattle.branch.specs.Rows.{Role, roleIndex, Value, sN, bulk, side, nonideal, ex, sub, sf, rEx, rSub, Span}
+use Rattle.branch.specs.Rows.{plain, second, Term, alone, across, Summand, unit, root, Divisor, undivided, sumOf}
+use Rattle.branch.specs.Rows.{Row}
 
 -- digits * 2^power
 pub record Scaled : Type 0 where

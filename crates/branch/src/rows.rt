@@ -1,6 +1,6 @@
 // Which row overloads first, and each row's ticks: one loop each over the rows' terms.
 ghost use mathlib.Core.Path.{_≡_};
-ghost use Prim.Native.Nat.{_≤_, _<_, _^_};
+ghost use Prim.Native.Nat.{_≤_, _<_};
 ghost use Rattle.branch.specs.Rows.{branches};
 ghost use Rattle.branch.specs.Ticks.{rootFor};
 ghost use Rattle.branch.specs.Outcome.{tickLimit, ratioLimit};

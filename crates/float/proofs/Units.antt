@@ -94,7 +94,8 @@ odd-split s (suc q) k h l =
     (odd-a s q k h)
     (ap keptPower (odd-b s q k h) ∙ kept (k + size (suc q)) (omega (arith, size-le (suc q) 53 h)))
 
-pub odd-power : (s : Bool) (q k : ℕ) → q < 2 ^ 53 → k ≤ 2047 → subℕ splitBias (unitsOf q k .down) ≡ splitB (odd 53 s q k 1074)
+pub odd-power : (s : Bool) (q k : ℕ) → q < 2 ^ 53 → k ≤ 2047
+    → subℕ splitBias (unitsOf q k .down) ≡ splitB (odd 53 s q k 1074)
 odd-power s zero k h l = ap splitB (sym (odd-zero s k))
 odd-power s (suc q) k h l =
     same-difference splitBias (9277 - (k + size (suc q))) (k + size (suc q)) 1105 (omega (arith, size-le (suc q) 53 h))
@@ -112,7 +113,8 @@ plain-split (suc n) h =
 led-size : (n : ℕ) → n < 2 ^ 52 → size (2 ^ 52 + n) ≡ 53
 led-size n h = size-is 52 (2 ^ 52 + n) (omega arith) (omega arith)
 
-pub led-units : (n j : ℕ) → n < 2 ^ 52 → unitsOf (2 ^ 52 + n) j ≡ record { a = (2 ^ 52 + n) / 2 ^ 22; down = 9225 - suc j }
+pub led-units : (n j : ℕ) → n < 2 ^ 52
+    → unitsOf (2 ^ 52 + n) j ≡ record { a = (2 ^ 52 + n) / 2 ^ 22; down = 9225 - suc j }
 led-units n j h = go (2 ^ 52 + n) (led-size n h) (omega arith)
   where
     go : (q : ℕ) → size q ≡ 53 → 0 < q → unitsOf q j ≡ record { a = q / 2 ^ 22; down = 9225 - suc j }

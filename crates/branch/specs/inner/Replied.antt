@@ -1,13 +1,12 @@
 -- A reply as the code makes it, and voltages kept one after the other.
 use mathlib.Core.Path.{_≡_}
-use mathlib.Core.Bool.{Bool, true, false, not}
+use mathlib.Core.Bool.{true, not}
 use mathlib.Core.List.{List, map}
 use lib.ListN.{replicate}
-use Prim.Native.Nat.{ℕ}
 use lib.IntN.{ℤ, pos}
 use Rattle.refusal.specs.declared.Refusal.{Refusal}
 use Rattle.refusal.specs.Order.{Verdict, no, yes}
-use Rattle.volts.specs.Volts.{keptAs, someOff, AllNear}
+use Rattle.volts.specs.Volts.{keptAs, someOff}
 use Rattle.branch.specs.declared.Admission.the-variants.{Given, Refused}
 use Rattle.branch.specs.declared.Reply.{Reply}
 use Rattle.branch.specs.declared.answering.Keeping.{Keeping}

@@ -1,4 +1,5 @@
--- The rows' T's and ratios as the code has them: right up to their limits, and above them only known to be above; and the code's way from these to an outcome.
+-- The rows' T's and ratios as the code has them: right up to their limits, and above them only known to be above;
+-- and the code's way from these to an outcome.
 use mathlib.Core.Path.{_≡_}
 use mathlib.Core.List.{List, [], _∷_}
 use Prim.Native.Nat.{ℕ, zero, suc, _+_, _-_, _*_, _/_, _^_, _≤_, _<_}

@@ -1,8 +1,8 @@
 -- A list filled from its start, place by place: what is known once k places are filled, and what stands there at the end.
-use mathlib.Core.Path.{_≡_, refl, sym, _∙_}
+use mathlib.Core.Path.{_≡_, refl, _∙_}
 use mathlib.Core.Bool.{Bool, true, false}
 use mathlib.Core.List.{List, [], _∷_, map}
-use Prim.Native.Nat.{ℕ, zero, suc, _+_, _≤_, _<_}
+use Prim.Native.Nat.{ℕ, suc, _+_, _≤_, _<_}
 use native.Mathlib.Omega.{arith}
 use lib.Dec.{eqb}
 use lib.ListN.{length, getD, set, length-set}
@@ -42,7 +42,8 @@ by-places d f (x ∷ r) k h =
     moved : (i : ℕ) → f (k + suc i) ≡ f (suc k + i)
     moved i = let e : k + suc i ≡ suc k + i = omega arith in rw e
 
-pub filled-all : {A : Type 0} {d : A} {n : ℕ} {f : ℕ → A} {r : List A} {k : ℕ} → n ≤ k → Filled d n f k r → r ≡ listUp f n 0
+pub filled-all : {A : Type 0} {d : A} {n : ℕ} {f : ℕ → A} {r : List A} {k : ℕ} → n ≤ k → Filled d n f k r
+    → r ≡ listUp f n 0
 filled-all {d = d} {n = n} {f = f} {r = r} {k = k} h s =
     let e = s .long in
     rw e at (by-places d f r 0 (λ i q. s .at i (omega arith) ∙ (let z : i ≡ 0 + i = omega arith in rw (← z))))

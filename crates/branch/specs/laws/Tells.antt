@@ -5,7 +5,8 @@ use mathlib.Core.List.{List}
 use Prim.Native.Nat.{ℕ}
 use lib.Ieee.{Float, eq}
 use lib.IntN.{ℤ}
-use Rattle.refusal.specs.Order.{Verdict, no, yes, andThen, tells, tells-one, numberTold, numberIf, number-first, then-if}
+use Rattle.refusal.specs.Order.{Verdict, no, yes, andThen, tells, tells-one, numberTold, numberIf, number-first}
+use Rattle.refusal.specs.Order.{then-if}
 use Rattle.refusal.specs.Unique.{unique-by-equation}
 use Rattle.volts.specs.Volts.{someOff}
 use Rattle.card.specs.declared.WorkedCard.{WorkedCard}

@@ -22,7 +22,8 @@ low x s d n r e z l h =
     h ∙ plain-split n (omega arith) ∙ sym (odd-split s n 0 (omega arith) (omega arith))
     ∙ ap splitOf (sym (unled-value s n) ∙ ap (λ (k : ℕ). ofFields binary64 s k n) (sym z) ∙ e)
 
-high : (x : Float) (s : Bool) (d n : ℕ) → ofFields binary64 s d n ≡ x → (d ≡ 0 → ⊥) → n < 2 ^ 52 → d < 2048 → T (finite x)
+high : (x : Float) (s : Bool) (d n : ℕ) → ofFields binary64 s d n ≡ x → (d ≡ 0 → ⊥) → n < 2 ^ 52 → d < 2048
+    → T (finite x)
     → record { a = (2 ^ 52 + n) / 2 ^ 22; down = 9225 - d } ≡ splitOf x
 high x s zero n e z l k f = absurd (z refl)
 high x s (suc j) n e z l k f =

@@ -33,10 +33,8 @@ divided-requires c κs =
 loop-again : tie.Need-loop-again Inv-loop μ-loop
 loop-again c =
     let s = at-row (c .before) in
-    (
-      omega arith,
-      filled-more _ (s .loop-test .taken) (toZ-ofZ w64 (c .divided .result) (search needs) ∙ c .divided .ensures) (s .before .loop .inv .1),
-    )
+    let e = toZ-ofZ w64 (c .divided .result) (search needs) ∙ c .divided .ensures in
+    (omega arith, filled-more _ (s .loop-test .taken) e (s .before .loop .inv .1))
 
 returns : tie.Need-returns Inv-loop μ-loop
 returns c = filled-all (c .loop-test .left) (c .before .loop .inv .1)

@@ -1,5 +1,5 @@
 -- `rows::all_plain` has written the first k rows' ticks.
-use mathlib.Core.Path.{sym, _∙_}
+use mathlib.Core.Path.{_∙_}
 use Prim.Native.Nat.{_≤_, _-_}
 use native.Mathlib.Omega.{arith}
 use lib.IntN.{pos}
@@ -37,14 +37,10 @@ loop-again : tie.Need-loop-again Inv-loop μ-loop
 loop-again c =
     let s = at-row (c .before) in
     let k = s .before .loop .k in
-    let m = s .before .before .pre .1 in
     let t = s .loop-test .taken in
-    (
-      omega arith,
-      filled-more _ t
-      (toZ-ofZ w64 (c .difference .result) (search needs) ∙ c .difference .ensures ∙ divided-unit _ _ _ _ (m .left k t) (m .right k t))
-      (s .before .loop .inv .1),
-    )
+    let m = s .before .before .pre .1 in
+    let e = toZ-ofZ w64 (c .difference .result) (search needs) ∙ c .difference .ensures in
+    (omega arith, filled-more _ t (e ∙ divided-unit _ _ _ _ (m .left k t) (m .right k t)) (s .before .loop .inv .1))
 
 returns : tie.Need-returns Inv-loop μ-loop
 returns c = filled-all (c .loop-test .left) (c .before .loop .inv .1)

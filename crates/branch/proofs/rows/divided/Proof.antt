@@ -33,28 +33,30 @@ add-divisor c =
 
 returns-2 : tie.Need-returns-2
 returns-2 c =
-    let s = start (c .before .before) in
+    let r = c .before .before in
+    let a = start r .args in
     toZ-ofZ w64 (c .difference .result) (search needs) ∙ c .difference .ensures
-    ∙ divided-two (s .args .plus) (s .args .minus) (s .args .left) (s .args .right)
-    (sym (divisor-is (c .before .before)) ∙ c .before .if2 .taken)
+    ∙ divided-two (a .plus) (a .minus) (a .left) (a .right) (sym (divisor-is r) ∙ c .before .if2 .taken)
 
 quotient-requires : tie.Need-quotient-requires
 quotient-requires c κs =
     let s = start (c .before) in
     let p = s .pre in
     subst (λ (d : ℕ). Divisible (s .args .plus) (s .args .minus) 21 d (suc tickLimit)) (sym (divisor-is (c .before)))
-    (divisible (s .args .plus) (s .args .minus) (s .args .left) (s .args .right) (p .0) (p .1 .0) (p .1 .1 .0) (p .1 .1 .1))
+    (divisible _ _ _ _ (p .0) (p .1 .0) (p .1 .1 .0) (p .1 .1 .1))
 
 returns-3 : tie.Need-returns-3
 returns-3 c =
-    let s = start (c .before .before) in
-    let p = s .pre in
+    let r = c .before .before in
+    let a = start r .args in
+    let p = start r .pre in
+    let n = subℕ (a .plus) (a .minus) in
     toZ-ofZ w64 (c .quotient .result) (search needs) ∙ c .quotient .ensures
-    ∙ ap (λ (d : ℕ). heldSize (suc tickLimit) (quotientOf (subℕ (s .args .plus) (s .args .minus)) 21 d)) (divisor-is (c .before .before))
-    ∙ divided-held (s .args .plus) (s .args .minus) (s .args .left) (s .args .right) (p .0) (p .1 .0) (p .1 .1 .0) (p .1 .1 .1)
+    ∙ ap (λ (d : ℕ). heldSize (suc tickLimit) (quotientOf n 21 d)) (divisor-is r)
+    ∙ divided-held _ _ _ _ (p .0) (p .1 .0) (p .1 .1 .0) (p .1 .1 .1)
 
 pub divided-spec : {M : Type 1} → statement M
 divided-spec =
     tie.close
-    (tie.spec returns (λ c κs. search needs) (λ c κs. search needs) add-divisor (λ c κs. search needs) returns-2 quotient-requires
-    returns-3)
+    (tie.spec returns (λ c κs. search needs) (λ c κs. search needs) add-divisor (λ c κs. search needs) returns-2
+    quotient-requires returns-3)

@@ -1,6 +1,6 @@
 -- `rows::outcome` meets its contract: ticks where no row overloads, else the first that does.
 use mathlib.Core.Path.{_≡_, sym, _∙_}
-use Rattle.branch.specs.declared.Over.the-variants.{Within, Ticks, Injection}
+use Rattle.branch.specs.declared.Over.the-variants.{Within}
 use Rattle.branch.specs.Rows.{branches}
 use Rattle.branch.specs.inner.Terms.{overUp}
 use Rattle.branch.proofs.RowLaws.{fine}

@@ -43,5 +43,5 @@ returns c = sum-all (c .loop-test .left) (c .before .loop .inv .1)
 pub sum-of-ticks-spec : {M : Type 1} → statement M
 sum-of-ticks-spec =
     tie.close
-    (tie.spec Inv-loop μ-loop loop-holds (λ c. omega arith) (λ c. omega arith) add-sum (λ c. omega arith) (λ c. omega arith)
-    add-sum-2 (λ c. omega arith) (λ c. omega arith) loop-again returns)
+    (tie.spec Inv-loop μ-loop loop-holds (λ c. omega arith) (λ c. omega arith) add-sum (λ c. omega arith)
+    (λ c. omega arith) add-sum-2 (λ c. omega arith) (λ c. omega arith) loop-again returns)

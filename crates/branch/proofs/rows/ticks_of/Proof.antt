@@ -1,5 +1,4 @@
 -- `rows::ticks_of` meets its contract: plainly where no floor is above 0.
-use borrow.Author.Needs.{needs}
 use Rattle.branch.proofs.rows.ticks_of.Statement.{statement}
 use Rattle.branch.proofs.rows.ticks_of.Tie as tie
 
@@ -9,4 +8,5 @@ all-plain-requires c κs = let e = c .if1 .taken in (c .before .pre .0, rw e at 
 pub ticks-of-spec : {M : Type 1} → statement M
 ticks-of-spec =
     tie.close
-    (tie.spec all-plain-requires (λ c. c .all-plain .ensures) (λ c κs. c .before .pre .0) (λ c. c .all-divided .ensures))
+    (tie.spec all-plain-requires (λ c. c .all-plain .ensures) (λ c κs. c .before .pre .0)
+    (λ c. c .all-divided .ensures))

@@ -1,8 +1,4 @@
 -- `values::exponential` meets its contract: the exponential of the difference of two kept voltages.
-use mathlib.Core.Path.{_≡_}
-use Prim.Native.Nat.{_<_}
-use lib.ListN.{length, getD}
-use denote.Ref.{now}
 use borrow.Author.Needs.{needs}
 use Rattle.volts.specs.laws.Keeping.{near-at}
 use Rattle.branch.proofs.Junctions.{junction-asked, junction-is}

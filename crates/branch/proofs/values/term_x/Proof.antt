@@ -1,6 +1,5 @@
 -- `values::term_x` meets its contract, for either EXSUB.
 use lib.Dec.{lit<, lit≤}
-use borrow.Author.Needs.{needs}
 use Rattle.branch.proofs.Readied.{splits, plain-octave, own-sub, plain-junction, scalable, ticks-at}
 use Rattle.branch.proofs.values.term_x.Statement.{statement}
 use Rattle.branch.proofs.values.term_x.Tie as tie
