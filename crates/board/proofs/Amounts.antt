@@ -15,9 +15,10 @@ use lib.IntN.{ℤ, pos, natAbs, negℤ, _+ℤ_, _-ℤ_, +ℤ-idr, +ℤ-assoc}
 use borrow.Author.Tests.{eqb-true, eqb-false}
 use mir.Syntax.{w64}
 use mir.Val.{SFits}
-use Rattle.whole.specs.Biased.{below-or-not}
+use Rattle.whole.specs.laws.Biased.{below-or-not}
 use Rattle.branch.specs.Outcome.{tickLimit}
-use Rattle.board.specs.Counts.{roles, branches, nodesMost}
+use Rattle.branch.specs.Rows.{roles, branches}
+use Rattle.board.specs.Counts.{nodesMost}
 use Rattle.board.specs.Desk.{atNode}
 use Rattle.board.specs.inner.Parts.{More, Within, Room, Wired, ends, endsGive, spread}
 use Rattle.board.specs.inner.Sizes.{flowMost, workedMost, handedMost}

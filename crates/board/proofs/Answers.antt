@@ -11,17 +11,18 @@ use borrow.Author.Tests.{ne-eqb, le-leb, lt-leb, lt-ltb, le-ltb, ltb-true}
 use Rattle.refusal.specs.declared.Refusal.{Refusal}
 use Rattle.refusal.specs.declared.Refusal.the-variants.{Malformed, BadName, NameNotHeld, NoRoom, Unknown, OutOfRange}
 use Rattle.refusal.specs.declared.Refusal.the-variants.{CardInUse, NumbersUsedUp}
+use Rattle.refusal.specs.Order.{no, yes}
 use Rattle.name.specs.Name.{asked, padded}
+use Rattle.volts.specs.Volts.{givenBack}
 use Rattle.card.specs.declared.WorkedCard.{WorkedCard}
-use Rattle.card.specs.declared.Judged.the-variants as judged
 use Rattle.card.specs.Judge.{judgeOf}
 use Rattle.card.specs.Record.{rightLength}
 use Rattle.branch.specs.declared.Ready.{Ready}
-use Rattle.branch.specs.Ready.{readyOf, lowered}
+use Rattle.branch.specs.inner.Ready.{readyOf}
 use Rattle.board.specs.declared.Card.{Card}
 use Rattle.board.specs.declared.Transistor.{Transistor}
 use Rattle.board.specs.declared.Board.{Board}
-use Rattle.board.specs.declared.Answer.the-variants.{Issue, Done, Node, Refused}
+use Rattle.board.specs.declared.Answer.the-variants.{Issue, Done, Node}
 use Rattle.board.specs.Counts.{nodesMost, cardsMost, transistorsMost, issuesMost}
 use Rattle.board.specs.Verdict.{Found, none, some, issueOf, offNode, loadVerdict, withdrawVerdict, lookVerdict}
 use Rattle.board.specs.Verdict.{nodeVerdict}
@@ -91,7 +92,7 @@ module _ (b : Board) (z : ℤ) where
   unfolding showedOf nodeVerdict
   show-off h = rw (off-board z h)
 
-  pub shows-it : (n : ℕ) (v t : ℤ) → n ≡ nodeOf z → n < nodesMost → v ≡ lowered (getD (b .volts) n 0) →
+  pub shows-it : (n : ℕ) (v t : ℤ) → n ≡ nodeOf z → n < nodesMost → v ≡ givenBack (getD (b .volts) n 0) →
       t ≡ getD (b .totals) n (pos 0) → record { board = b; answer = Node v t } ≡ showedOf b z
   unfolding showedOf nodeVerdict
   shows-it n v t e h p q =
@@ -146,11 +147,11 @@ module _ (b : Board) (name bytes : List ℕ) where
     load-bad-name e = rw (l, e)
 
     module _ (e : asked name ≡ true) where
-      pub load-judged : (f : Refusal) → judgeOf bytes ≡ judged.Refused f → refuse b f ≡ loadedOf b name bytes
+      pub load-judged : (f : Refusal) → judgeOf bytes ≡ no f → refuse b f ≡ loadedOf b name bytes
       unfolding loadedOf loadVerdict
       load-judged f j = rw (l, e, j)
 
-      module _ (w : WorkedCard) (j : judgeOf bytes ≡ judged.Card w) where
+      module _ (w : WorkedCard) (j : judgeOf bytes ≡ yes w) where
         pub load-no-room : cardsMost ≤ freeCard (b .cards) → refuse b NoRoom ≡ loadedOf b name bytes
         unfolding loadedOf loadVerdict
         load-no-room h = rw (l, e, j, le-leb _ _ h)

@@ -10,18 +10,18 @@ use lib.IntN.{ℤ, natAbs}
 use borrow.Author.Tests.{eqb-true, leb-false, ltb-false, ne-eqb}
 use Rattle.refusal.specs.declared.Refusal.{Refusal}
 use Rattle.refusal.specs.declared.Refusal.the-variants.{Unknown, OutOfRange, Overload}
+use Rattle.refusal.specs.Order.{Verdict, yes}
+use Rattle.volts.specs.Volts.{givenBack, keptAs, offVolts}
+use Rattle.volts.specs.laws.Keeping.{KeptIs}
 use Rattle.octave.specs.Table.{entries}
-use Rattle.branch.specs.Ready.{lowered, raised}
+use Rattle.branch.specs.Rows.{roles}
 use Rattle.board.specs.declared.Transistor.{Transistor}
 use Rattle.board.specs.declared.Board.{Board}
 use Rattle.board.specs.declared.Answer.the-variants.{Issue, Done}
 use Rattle.board.specs.declared.rules.Way.{Way}
 use Rattle.board.specs.declared.rules.Way.the-variants.{Go, Stop}
-use Rattle.board.specs.Counts.{roles, nodesMost, cardsMost, transistorsMost, issuesMost}
+use Rattle.board.specs.Counts.{nodesMost, cardsMost, transistorsMost, issuesMost}
 use Rattle.board.specs.Verdict.{Found, none, some, issueOf, offNode, moveVerdict, liftVerdict}
-use Rattle.refusal.specs.Order.{Verdict, yes}
-use Rattle.branch.specs.Currents.{offVolts}
-use Rattle.branch.proofs.Levels.{Leveled}
 use Rattle.board.specs.Desk.{overloads, flow, anyOf, usedUp}
 use Rattle.board.specs.Model.{first, isTransistor, cardPlace, transistorPlace, noTransistor, emptyTransistor}
 use Rattle.board.specs.Model.{noCard, workedAt, placeGives, placeOverloads, totalsOf, voltsOf, refuse}
@@ -90,11 +90,11 @@ unfolding movedOf moveVerdict
 move-too-far b z v h k = rw (on-board z h .0, k)
 
 module _ {b : Board} (reached : Reached b) (z v : ℤ) (n x : ℕ) (ne : n ≡ nodeOf z) (below : n < nodesMost)
-    (level : Leveled v x) where
+    (level : KeptIs v x) where
   on : (offNode z ≡ false) × (nodeOf z ≡ natAbs z)
   on = on-board z (subst (λ (m : ℕ). m < nodesMost) ne below)
 
-  same-volts : set (b .volts) n x ≡ set (b .volts) (natAbs z) (raised v)
+  same-volts : set (b .volts) n x ≡ set (b .volts) (natAbs z) (keptAs v)
   same-volts =
       ap (λ (m : ℕ). set (b .volts) m x) (ne ∙ on .1) ∙ ap (λ (y : ℕ). set (b .volts) (natAbs z) y) (level .from)
 
@@ -102,17 +102,17 @@ module _ {b : Board} (reached : Reached b) (z v : ℤ) (n x : ℕ) (ne : n ≡ n
   settling-move = settling-moved (invariant reached) n x (level .near)
 
   module _ (over : Bool)
-      (oe : over ≡ anyOf (placeOverloads (b .cards) (map lowered (set (b .volts) n x))) (b .transistors)) where
+      (oe : over ≡ anyOf (placeOverloads (b .cards) (map givenBack (set (b .volts) n x))) (b .transistors)) where
     over-is :
-        over ≡ anyOf (placeOverloads (b .cards) (map lowered (set (b .volts) (natAbs z) (raised v)))) (b .transistors)
-    over-is = oe ∙ ap (λ (l : List ℕ). anyOf (placeOverloads (b .cards) (map lowered l)) (b .transistors)) same-volts
+        over ≡ anyOf (placeOverloads (b .cards) (map givenBack (set (b .volts) (natAbs z) (keptAs v)))) (b .transistors)
+    over-is = oe ∙ ap (λ (l : List ℕ). anyOf (placeOverloads (b .cards) (map givenBack l)) (b .transistors)) same-volts
 
     pub move-over : over ≡ true → refuse b Overload ≡ movedOf b z v
     unfolding movedOf moveVerdict
     move-over o = rw (on .0, level .on, sym over-is ∙ o)
 
     pub moves-it : over ≡ false → {l : List ℤ} →
-        l ≡ totalsOf (b .cards) (b .transistors) (map lowered (set (b .volts) n x)) →
+        l ≡ totalsOf (b .cards) (b .transistors) (map givenBack (set (b .volts) n x)) →
         record { board = record { cards = b .cards; transistors = b .transistors; volts = set (b .volts) n x; totals = l; next = b .next }; answer = Done }
         ≡ movedOf b z v
     unfolding movedOf moveVerdict

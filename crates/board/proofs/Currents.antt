@@ -2,28 +2,29 @@
 use mathlib.Core.Path.{_≡_, refl, ap, _∙_}
 use mathlib.Core.Bool.{Bool, true, false, cond}
 use mathlib.Core.List.{List, [], _∷_, map}
-use Prim.Native.Nat.{ℕ, zero, suc, _*_, _≤_, _<_, zero-le}
+use Prim.Native.Nat.{ℕ, zero, suc, _≤_, _<_, zero-le}
 use lib.Dec.{ltb, lit<}
 use lib.ListN.{getD}
 use lib.IntN.{ℤ, pos, natAbs, negℤ, _+ℤ_}
 use borrow.Author.Tests.{eq-eqb, ne-eqb, lt-ltb, ltb-true}
+use Rattle.refusal.specs.Clash.{clash}
+use Rattle.volts.specs.Volts.{givenBack, span, AllNear}
 use Rattle.octave.specs.Table.{entries}
 use Rattle.card.specs.declared.WorkedCard.{WorkedCard}
 use Rattle.branch.specs.declared.Outcome.{Outcome}
 use Rattle.branch.specs.Rows.{rowsFor}
-use Rattle.branch.specs.Outcome.{tickLimit, outcomeOf}
-use Rattle.branch.specs.Ready.{lowered, reach}
+use Rattle.branch.specs.Outcome.{tickLimit, outcomeOf, isOver}
 use Rattle.branch.proofs.Laws.{ticks-long, ticks-small}
+use Rattle.branch.specs.Ends.{fromRoles, toRoles}
 use Rattle.board.specs.declared.Card.{Card}
 use Rattle.board.specs.declared.Transistor.{Transistor}
 use Rattle.board.specs.Counts.{nodesMost, cardsMost}
-use Rattle.board.specs.Desk.{rolesAt, isOver, overloads, flow}
+use Rattle.board.specs.Desk.{rolesAt, overloads, flow}
 use Rattle.board.specs.Model.{noCard, placeGives, placeOverloads}
 use Rattle.board.specs.inner.Parts.{More, Within, rolesGive, rolesOf, placeOfCard, standsAt, backFlow}
-use Rattle.branch.specs.Ends.{fromRoles, toRoles}
 use Rattle.board.specs.inner.Settle.{Volts, Workable, HasCard}
 use Rattle.board.specs.inner.Sizes.{flowMost}
-use Rattle.board.proofs.Integers.{clash, abs-neg}
+use Rattle.board.proofs.Integers.{abs-neg}
 use Rattle.board.proofs.Lists.{getD-map}
 use Rattle.board.proofs.Totals.{small-flow}
 use Rattle.board.proofs.Roles.{roles-are-rows, roles-turned}
@@ -31,16 +32,19 @@ use Rattle.board.proofs.Roles.{roles-are-rows, roles-turned}
 -- ---- the voltages of the roles
 
 module _ (volts : List ℕ) (v : Volts volts) where
-  pub roles-lowered : (nodes : List ℕ) → ((k : ℕ) → getD nodes k 0 < nodesMost) →
-      map lowered (rolesOf volts nodes) ≡ rolesAt (map lowered volts) nodes
-  roles-lowered [] h = refl
-  roles-lowered (n ∷ nodes) h =
-      rw (getD-map lowered volts n 0 (pos 0) (rw (v .long) (h 0)), roles-lowered nodes (λ k. h (suc k)))
+  pub roles-given-back : (nodes : List ℕ) → ((k : ℕ) → getD nodes k 0 < nodesMost) →
+      map givenBack (rolesOf volts nodes) ≡ rolesAt (map givenBack volts) nodes
+  roles-given-back [] h = refl
+  roles-given-back (n ∷ nodes) h =
+      rw (getD-map givenBack volts n 0 (pos 0) (rw (v .long) (h 0)), roles-given-back nodes (λ k. h (suc k)))
 
-  pub roles-near : (nodes : List ℕ) (k : ℕ) → getD (rolesOf volts nodes) k 0 ≤ 2 * reach
-  roles-near [] k = zero-le
-  roles-near (n ∷ nodes) zero = v .near n
-  roles-near (n ∷ nodes) (suc k) = roles-near nodes k
+  near-each : (nodes : List ℕ) (k : ℕ) → getD (rolesOf volts nodes) k 0 ≤ span
+  near-each [] k = zero-le
+  near-each (n ∷ nodes) zero = v .near .each n
+  near-each (n ∷ nodes) (suc k) = near-each nodes k
+
+  pub roles-near : (nodes : List ℕ) → AllNear (rolesOf volts nodes)
+  roles-near nodes = record { each = near-each nodes }
 
 -- ---- what its branches do to the totals
 
@@ -111,7 +115,7 @@ module _ (cards : List Card) (t : Transistor) (stands : t .issue ≡ 0 → ⊥) 
 
 -- what names a node stands
 pub named-stands : (n : ℕ) (t : Transistor) → standsAt n t ≡ true → t .issue ≡ 0 → ⊥
-named-stands n t e z = let w : standsAt n t ≡ false = rw (eq-eqb _ _ z) in clash (cc)
+named-stands n t e z = let w : standsAt n t ≡ false = rw (eq-eqb _ _ z) in clash cc
 
 pub place-below : {k : ℕ} (t : Transistor) → k ≡ placeOfCard t → k < cardsMost
 place-below t e = rw e (go (ltb (t .«card_place») cardsMost) refl)

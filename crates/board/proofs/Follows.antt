@@ -12,20 +12,21 @@ use lib.IntN.{ℤ, pos, natAbs}
 use borrow.Author.Tests.{eqb-true, eqb-false, leb-false, ltb-false}
 use Rattle.refusal.specs.declared.Refusal.{Refusal}
 use Rattle.refusal.specs.declared.Refusal.the-variants.{CardInUse}
+use Rattle.refusal.specs.Order.{Verdict, no, yes, refuseIf}
 use Rattle.name.specs.Name.{padded, same}
+use Rattle.volts.specs.Volts.{givenBack, keptAs, offVolts}
+use Rattle.volts.specs.laws.Keeping.{kept}
 use Rattle.card.specs.declared.WorkedCard.{WorkedCard}
-use Rattle.branch.specs.Ready.{readyOf, lowered, raised}
+use Rattle.branch.specs.inner.Ready.{readyOf}
 use Rattle.branch.proofs.Laws.{ready-card}
-use Rattle.branch.proofs.Levels.{kept}
+use Rattle.branch.specs.Rows.{roles}
 use Rattle.board.specs.declared.Card.{Card}
 use Rattle.board.specs.declared.Transistor.{Transistor}
 use Rattle.board.specs.declared.Board.{Board}
 use Rattle.board.specs.declared.Answered.{Answered}
-use Rattle.board.specs.Counts.{roles, nodesMost, cardsMost, transistorsMost}
+use Rattle.board.specs.Counts.{nodesMost, cardsMost, transistorsMost}
 use Rattle.board.specs.Verdict.{Found, none, some, issueOf, placeVerdict, moveVerdict, liftVerdict}
 use Rattle.board.specs.Verdict.{withdrawVerdict, nodeVerdict}
-use Rattle.refusal.specs.Order.{Verdict, no, yes, refuseIf}
-use Rattle.branch.specs.Currents.{offVolts}
 use Rattle.board.specs.Desk as desk
 use Rattle.board.specs.Desk.{Held, Standing, Desk, Step, Call, load, place, move, lift, withdraw, lookUp, node}
 use Rattle.board.specs.Desk.{overloads, sumOver, anyOf, firstWith, heldAs, standsAs, without, larger, highest}
@@ -34,8 +35,7 @@ use Rattle.board.specs.Model as board
 use Rattle.board.specs.Model.{first, foundAt, isCard, isTransistor, cardPlace, transistorPlace, emptyCard}
 use Rattle.board.specs.Model.{noCard, emptyTransistor, noTransistor, placeGives, placeOverloads, totalsOf}
 use Rattle.board.specs.Model.{freshBoard, voltsOf, freeCard, freeTransistor, standsOn, highestAt, loadedOf}
-use Rattle.board.specs.Model.{placedOf, movedOf, liftedOf, withdrawnOf, lookedOf, showedOf, answered}
-use Rattle.board.specs.Model.{boardAfter}
+use Rattle.board.specs.Model.{placedOf, movedOf, liftedOf, withdrawnOf, lookedOf, showedOf, answered, boardAfter}
 use Rattle.board.specs.Perm.{empty}
 use Rattle.board.specs.Stands.{occupied, heldOf, standingOf, heldIn, standingIn, Stands, replyOf}
 use Rattle.board.proofs.Perms.{perm-join, perm-length, perm-sum, perm-any, perm-count, perm-first}
@@ -273,8 +273,8 @@ module _ (b : Board) (d : Desk) (g : Invariant b) (o : Orderly d) (s : Stands b 
             };
           }
 
-  moved-volts : (v : ℤ) (k : ℕ) → offVolts v ≡ false → map lowered (set (b .volts) k (raised v)) ≡ set (d .volts) k v
-  moved-volts v k e = map-set lowered (b .volts) k (raised v) ∙ rw (kept v e .is, s .volts)
+  moved-volts : (v : ℤ) (k : ℕ) → offVolts v ≡ false → map givenBack (set (b .volts) k (keptAs v)) ≡ set (d .volts) k v
+  moved-volts v k e = map-set givenBack (b .volts) k (keptAs v) ∙ rw (kept v e .is, s .volts)
 
   -- out of range both refuse before they look at what stands
   agree-move : (n v : ℤ) (t : Bool) → offVolts v ≡ t → board.mayMove b n v ≡ desk.mayMove d n v
@@ -416,8 +416,8 @@ module _ (b : Board) (d : Desk) (g : Invariant b) (o : Orderly d) (s : Stands b 
       go (no f) e = record { reply = refl; board = s }
       go (yes k) e =
           let h = shown n e in
-          let v : lowered (getD (b .volts) k 0) ≡ getD (d .volts) k (pos 0) =
-          sym (getD-map lowered (b .volts) k 0 (pos 0) (rw (g .volts-long) h)) ∙ ap
+          let v : givenBack (getD (b .volts) k 0) ≡ getD (d .volts) k (pos 0) =
+          sym (getD-map givenBack (b .volts) k 0 (pos 0) (rw (g .volts-long) h)) ∙ ap
           (λ (l : List ℤ). getD l k (pos 0)) (s .volts) in
           let t = totals-follow b d g o s k h in record { reply = rw (v, t); board = s }
 

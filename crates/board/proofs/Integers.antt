@@ -10,10 +10,6 @@ use mir.Syntax.{w64}
 use mir.Val.{SFits, toZ, ofZ}
 use mir.ValLaws.{toZ-ofZ}
 
--- two constructors are never equal: cc finds 0 and 1 the same, and anything follows
-pub clash : {A : Type 0} → _≡_ {A = ℕ} 0 1 → A
-clash z = absurd (omega arith)
-
 -- ---- sizes
 
 abs-sub : (t : Bool) (a b : ℕ) → natAbs (cond t (negsuc (suc b - suc a)) (pos (a - suc b))) ≤ a + suc b

@@ -3,23 +3,25 @@
 use mathlib.Core.Path.{_≡_, refl, sym, ap, _∙_, subst}
 use mathlib.Core.Bool.{Bool, true, false, cond, _||_}
 use mathlib.Core.List.{List, [], _∷_, map}
-use Prim.Native.Nat.{ℕ, zero, suc, _+_, _*_, _≤_, _<_}
+use Prim.Native.Nat.{ℕ, zero, suc, _+_, _≤_, _<_}
 use lib.Dec.{eqb, leb, lit<, lit≤}
 use lib.ListN.{length, getD, set, replicate, length-set, length-replicate, length-map}
 use lib.Seq.{getD-set-other}
 use lib.IntN.{ℤ, pos, natAbs, +ℤ-idl}
 use borrow.Author.Tests.{eqb-true, eqb-false, ne-eqb, leb-false}
+use Rattle.refusal.specs.Order.{Verdict, no, yes}
+use Rattle.refusal.specs.Clash.{clash}
+use Rattle.volts.specs.Volts.{givenBack, keptAs, span, AllNear}
+use Rattle.volts.specs.laws.Keeping.{kept}
 use Rattle.card.specs.declared.WorkedCard.{WorkedCard}
-use Rattle.branch.specs.Ready.{lowered, raised, reach, IsReady}
+use Rattle.branch.specs.inner.Ready.{IsReady}
 use Rattle.branch.proofs.Laws.{made-ready}
-use Rattle.branch.proofs.Levels.{kept}
+use Rattle.branch.specs.Rows.{roles}
 use Rattle.board.specs.declared.Card.{Card}
 use Rattle.board.specs.declared.Transistor.{Transistor}
 use Rattle.board.specs.declared.Board.{Board}
-use Rattle.board.specs.Counts.{roles, nodesMost, cardsMost, transistorsMost}
-use Rattle.board.specs.Verdict.{none, some, issueOf, offNode, someOff, lookVerdict, nodeVerdict}
-use Rattle.refusal.specs.Order.{Verdict, no, yes}
-use Rattle.branch.specs.Currents.{offVolts}
+use Rattle.board.specs.Counts.{nodesMost, cardsMost, transistorsMost}
+use Rattle.board.specs.Verdict.{none, some, issueOf, offNode, someNodeOff, lookVerdict, nodeVerdict}
 use Rattle.board.specs.Desk.{Call, load, place, move, lift, withdraw, lookUp, node, overloads, flow, sumOver}
 use Rattle.board.specs.Desk.{anyOf}
 use Rattle.board.specs.Model.{first, foundAt, isCard, cardPlace, transistorPlace, emptyCard, noCard}
@@ -28,7 +30,6 @@ use Rattle.board.specs.Model.{freshBoard, voltsOf, freeCard, freeTransis
 use Rattle.board.specs.Model.{moved, movedOf, lifted, liftedOf, withdrawn, withdrawnOf, standsOn, looked}
 use Rattle.board.specs.Model.{lookedOf, showed, showedOf, mayLoad, mayPlace, mayMove, mayLift, mayWithdraw}
 use Rattle.board.specs.Model.{answered, boardAfter, Reached}
-use Rattle.board.proofs.Integers.{clash}
 use Rattle.board.proofs.Lists.{each-set, each-replicate, first-passes, found-is, none-of, sum-same}
 use Rattle.board.proofs.Lists.{tabulate-same, tabulate-none, tabulate-long, stands}
 use Rattle.board.proofs.Verdicts.{loads, places, moves, withdraws, on-node}
@@ -46,7 +47,7 @@ pub record Invariant (b : Board) : Type 0 where
   pub cards-long : length (b .cards) ≡ cardsMost
   pub transistors-long : length (b .transistors) ≡ transistorsMost
   pub volts-long : length (b .volts) ≡ nodesMost
-  pub near : (k : ℕ) → getD (b .volts) k 0 ≤ 2 * reach
+  pub near : AllNear (b .volts)
   pub transistor : (i : ℕ) → (getD (b .transistors) i noTransistor .issue ≡ 0 → ⊥) →
       TransistorInvariant (b .cards) (voltsOf b) (getD (b .transistors) i noTransistor)
   pub ready : (i : ℕ) → (getD (b .cards) i noCard .issue ≡ 0 → ⊥) → IsReady (getD (b .cards) i noCard .ready)
@@ -110,13 +111,16 @@ invariant-fresh =
     record {
       cards-long = length-replicate cardsMost emptyCard;
       transistors-long = length-replicate transistorsMost emptyTransistor;
-      volts-long = length-replicate nodesMost (raised (pos 0));
-      near = λ k. each-replicate (λ (x : ℕ). x ≤ 2 * reach) nodesMost k (raised (pos 0)) 0 (lit≤ tt) (lit≤ tt);
+      volts-long = length-replicate nodesMost (keptAs (pos 0));
+      near =
+          record {
+            each = λ k. each-replicate (λ (x : ℕ). x ≤ span) nodesMost k (keptAs (pos 0)) 0 (lit≤ tt) (lit≤ tt);
+          };
       transistor =
           λ i h. absurd
           (h (each-replicate (λ (t : Transistor). t .issue ≡ 0) transistorsMost i emptyTransistor noTransistor refl refl));
       ready = λ i h. absurd (h (each-replicate (λ (c : Card). c .issue ≡ 0) cardsMost i emptyCard noCard refl refl));
-      balanced = totals-fresh (replicate cardsMost emptyCard) (map lowered (replicate nodesMost (raised (pos 0))));
+      balanced = totals-fresh (replicate cardsMost emptyCard) (map givenBack (replicate nodesMost (keptAs (pos 0))));
     }
 
 -- nobody stands on the place p of the cards
@@ -181,7 +185,7 @@ at {A} key d n l i most long e = go (eqb n 0) refl e
   where
     go : (t : Bool) → eqb n 0 ≡ t → cond t none (foundAt most (first (λ (a : A). eqb (key a) n) l)) ≡ some i →
         At key d n l i
-    go true p q = clash (cc)
+    go true p q = clash cc
     go false p q =
         let f = found-is most (first (λ (a : A). eqb (key a) n) l) i q in
         let k : first (λ (a : A). eqb (key a) n) l < length l = rw long (f .1) in
@@ -208,19 +212,20 @@ at-transistor n ts i long e = at (λ (t : Transistor). t .issue) noTransistor n 
 
 -- ---- nodes and voltages in range
 
-pub on-nodes : (nodes : List ℤ) → someOff nodes ≡ false → (k : ℕ) → getD (map natAbs nodes) k 0 < nodesMost
+pub on-nodes : (nodes : List ℤ) → someNodeOff nodes ≡ false → (k : ℕ) → getD (map natAbs nodes) k 0 < nodesMost
 on-nodes [] e k = lit< tt
 on-nodes (z ∷ nodes) e k = go (offNode z) refl e k (λ p. on-nodes nodes p)
   where
-    go : (t : Bool) → offNode z ≡ t → t || someOff nodes ≡ false → (k : ℕ) →
-        (someOff nodes ≡ false → (j : ℕ) → getD (map natAbs nodes) j 0 < nodesMost) →
+    go : (t : Bool) → offNode z ≡ t → t || someNodeOff nodes ≡ false → (k : ℕ) →
+        (someNodeOff nodes ≡ false → (j : ℕ) → getD (map natAbs nodes) j 0 < nodesMost) →
         getD (map natAbs (z ∷ nodes)) k 0 < nodesMost
-    go true p q k next = clash (cc)
+    go true p q k next = clash cc
     go false p q zero next = on-node z p
     go false p q (suc k) next = next q k
 
-pub raised-near : (v : ℤ) → offVolts v ≡ false → raised v ≤ 2 * reach
-raised-near v e = kept v e .near
+-- another kept voltage at one node
+pub near-set : (l : List ℕ) (n x : ℕ) → x ≤ span → AllNear l → AllNear (set l n x)
+near-set l n x h near = record { each = λ k. each-set (λ (y : ℕ). y ≤ span) l n k x 0 h (near .each k) }
 
 -- ---- tests of a place that is not empty
 
@@ -276,20 +281,18 @@ invariant-moved {b} n v g = go _ refl
         record {
           cards-long = g .cards-long;
           transistors-long = g .transistors-long;
-          volts-long = length-set (b .volts) k (raised v) ∙ g .volts-long;
-          near =
-              λ j. each-set (λ (x : ℕ). x ≤ 2 * reach) (b .volts) k j (raised v) 0 (raised-near v (m .near))
-              (g .near j);
+          volts-long = length-set (b .volts) k (keptAs v) ∙ g .volts-long;
+          near = near-set (b .volts) k (keptAs v) (kept v (m .near) .near) (g .near);
           transistor = λ j h. still k j h (m .at) (m .quiet) (g .transistor j h);
           ready = g .ready;
           balanced = refl;
         }
       where
         still : (k j : ℕ) → (getD (b .transistors) j noTransistor .issue ≡ 0 → ⊥) → k ≡ natAbs n →
-            anyOf (placeOverloads (b .cards) (map lowered (set (b .volts) (natAbs n) (raised v)))) (b .transistors)
+            anyOf (placeOverloads (b .cards) (map givenBack (set (b .volts) (natAbs n) (keptAs v)))) (b .transistors)
             ≡ false →
             TransistorInvariant (b .cards) (voltsOf b) (getD (b .transistors) j noTransistor) →
-            TransistorInvariant (b .cards) (map lowered (set (b .volts) k (raised v)))
+            TransistorInvariant (b .cards) (map givenBack (set (b .volts) k (keptAs v)))
             (getD (b .transistors) j noTransistor)
         still k j h at quiet s =
             let t = getD (b .transistors) j noTransistor in

@@ -9,10 +9,10 @@ use lib.Dec.{ltb}
 use lib.ListN.{length, getD, set, replicate}
 use lib.IntN.{ℤ}
 use borrow.Author.Tests.{ltb-true}
+use Rattle.refusal.specs.Clash.{clash}
 use Rattle.board.specs.Desk.{sumOver, anyOf}
 use Rattle.board.specs.Verdict.{none, some}
 use Rattle.board.specs.Model.{first, foundAt, tabulate}
-use Rattle.board.proofs.Integers.{clash}
 
 -- what holds of the element at i, and of one put in somewhere, holds of the element at i then
 pub each-set : {A : Type 0} (P : A → Type 0) (l : List A) (n i : ℕ) (v d : A) → P v → P (getD l i d) →
@@ -45,7 +45,7 @@ found-is most i j e = go (ltb i most) refl e
   where
     go : (t : Bool) → ltb i most ≡ t → cond t (some i) none ≡ some j → (j ≡ i) × (i < most)
     go true p q = (cc, ltb-true i most p)
-    go false p q = clash (cc)
+    go false p q = clash cc
 
 pub none-of : {A : Type 0} (p : A → Bool) (l : List A) (d : A) → anyOf p l ≡ false → (i : ℕ) → i < length l →
     p (getD l i d) ≡ false
@@ -56,7 +56,7 @@ none-of p (a ∷ rest) d e i h = go (p a) refl e i h (λ k j q. none-of p rest d
     go : (t : Bool) → p a ≡ t → t || anyOf p rest ≡ false → (i : ℕ) → i < suc (length rest) →
         (anyOf p rest ≡ false → (j : ℕ) → j < length rest → p (getD rest j d) ≡ false) →
         p (getD (a ∷ rest) i d) ≡ false
-    go true q e i h next = clash (cc)
+    go true q e i h next = clash cc
     go false q e zero h next = q
     go false q e (suc i) h next = next e i (omega arith)
 

@@ -10,8 +10,8 @@ use lib.ListN.{length, getD, set, List·getD-eq-default}
 use lib.Seq.{ext-getD}
 use lib.IntN.{ℤ, pos, natAbs, negℤ, _+ℤ_, +ℤ-idr, +ℤ-assoc, +ℤ-comm, +ℤ-invr, -ℤ-+ℤ-cancel}
 use mathlib.Core.Logic.{_⊎_, inl, inr}
-use Rattle.whole.specs.Biased.{below-or-not}
-use Rattle.branch.specs.Ready.{lowered}
+use Rattle.whole.specs.laws.Biased.{below-or-not}
+use Rattle.volts.specs.Volts.{givenBack}
 use Rattle.board.specs.declared.Card.{Card}
 use Rattle.board.specs.declared.Transistor.{Transistor}
 use Rattle.board.specs.Counts.{nodesMost, transistorsMost}
@@ -88,11 +88,15 @@ midway-small f g most p q (suc i) (a ∷ l) =
 
 -- ---- the totals when i places are passed
 
+-- what a place gives at kept voltages
+abbrev givesKept : List Card → List ℕ → ℕ → Transistor → ℤ
+givesKept cards volts n = placeGives cards (map givenBack volts) n
+
 module _ (cards : List Card) (ts : List Transistor) (was volts : List ℕ) where
   pub record Midway (i : ℕ) (l : List ℤ) : Type 0 where
     pub long : length l ≡ nodesMost
     pub at : (n : ℕ) → n < nodesMost →
-        getD l n (pos 0) ≡ midway (placeGives cards (map lowered volts) n) (placeGives cards (map lowered was) n) i ts
+        getD l n (pos 0) ≡ midway (givesKept cards volts n) (givesKept cards was n) i ts
 
 -- totals worked anew, node by node
 totals-at : (cards : List Card) (ts : List Transistor) (volts : List ℤ) (n : ℕ) → n < nodesMost →
@@ -128,19 +132,19 @@ totals-room cards ts volts h =
         zero-le
 
 module _ {cards : List Card} {ts : List Transistor} {was volts : List ℕ} where
-  pub midway-start : {totals : List ℤ} → totals ≡ totalsOf cards ts (map lowered was) →
+  pub midway-start : {totals : List ℤ} → totals ≡ totalsOf cards ts (map givenBack was) →
       Midway cards ts was volts 0 totals
   unfolding midway
   midway-start {totals} e =
       record {
-        long = ap length e ∙ totals-count cards ts (map lowered was);
-        at = λ n h. ap (λ (l : List ℤ). getD l n (pos 0)) e ∙ totals-at cards ts (map lowered was) n h;
+        long = ap length e ∙ totals-count cards ts (map givenBack was);
+        at = λ n h. ap (λ (l : List ℤ). getD l n (pos 0)) e ∙ totals-at cards ts (map givenBack was) n h;
       }
 
   pub midway-end : {l : List ℤ} → length ts ≡ transistorsMost → Midway cards ts was volts transistorsMost l →
-      l ≡ totalsOf cards ts (map lowered volts)
+      l ≡ totalsOf cards ts (map givenBack volts)
   midway-end {l} h m =
-      are-totals cards ts (map lowered volts) l (m .long) (λ n b. m .at n b ∙ midway-all _ _ transistorsMost ts h)
+      are-totals cards ts (map givenBack volts) l (m .long) (λ n b. m .at n b ∙ midway-all _ _ transistorsMost ts h)
 
   pub midway-room : {l : List ℤ} (i : ℕ) → length ts ≡ transistorsMost → Midway cards ts was volts i l →
       Room nodesMost totalMost l
@@ -149,17 +153,17 @@ module _ {cards : List Card} {ts : List Transistor} {was volts : List ℕ} where
       go : (n : ℕ) → (n < nodesMost) ⊎ (nodesMost ≤ n) → natAbs (getD l n (pos 0)) ≤ totalMost
       go n (inl b) =
           let s =
-          midway-small (placeGives cards (map lowered volts) n) (placeGives cards (map lowered was) n) flowMost
-          (small-place cards (map lowered volts) n) (small-place cards (map lowered was) n) i ts in
+          midway-small (givesKept cards volts n) (givesKept cards was n) flowMost
+          (small-place cards (map givenBack volts) n) (small-place cards (map givenBack was) n) i ts in
           rw (m .at n b)
           (subst
-          (λ (k : ℕ). natAbs (midway (placeGives cards (map lowered volts) n) (placeGives cards (map lowered was) n) i ts) ≤ k
+          (λ (k : ℕ). natAbs (midway (givesKept cards volts n) (givesKept cards was n) i ts) ≤ k
           * flowMost) h s)
       go n (inr b) = rw (List·getD-eq-default l (pos 0) {n = n} (rw (m .long) b)) zero-le
 
   -- a place that gives what it gave
   pub midway-passes : {l : List ℤ} (i : ℕ) → i < length ts →
-      ((n : ℕ) → placeGives cards (map lowered was) n (getD ts i noTransistor) ≡ placeGives cards (map lowered volts) n
+      ((n : ℕ) → givesKept cards was n (getD ts i noTransistor) ≡ givesKept cards volts n
       (getD ts i noTransistor)) →
       Midway cards ts was volts i l → Midway cards ts was volts (i + 1) l
   midway-passes i h same m =
@@ -170,8 +174,8 @@ module _ {cards : List Card} {ts : List Transistor} {was volts : List ℕ} where
 
   -- a place whose currents were taken out at the old voltages and put in at the new
   pub midway-works : {l l′ l″ : List ℤ} (i : ℕ) → i < length ts → {f g : ℕ → ℤ} →
-      ((n : ℕ) → g n ≡ negℤ (placeGives cards (map lowered was) n (getD ts i noTransistor))) →
-      ((n : ℕ) → f n ≡ placeGives cards (map lowered volts) n (getD ts i noTransistor)) →
+      ((n : ℕ) → g n ≡ negℤ (givesKept cards was n (getD ts i noTransistor))) →
+      ((n : ℕ) → f n ≡ givesKept cards volts n (getD ts i noTransistor)) →
       Midway cards ts was volts i l → More nodesMost l l′ g → More nodesMost l′ l″ f →
       Midway cards ts was volts (i + 1) l″
   midway-works i h {f} {g} eg ef m p q =
@@ -179,7 +183,7 @@ module _ {cards : List Card} {ts : List Transistor} {was volts : List ℕ} where
         long = q .long;
         at = λ n b. rw add-one
             (q .at n b ∙ ap (λ (z : ℤ). z +ℤ f n) (p .at n b ∙ ap (λ (z : ℤ). z +ℤ g n) (m .at n b))
-            ∙ rw (eg n, ef n) (sym (midway-more (placeGives cards (map lowered volts) n) (placeGives cards (map lowered was) n) noTransistor i ts h)));
+            ∙ rw (eg n, ef n) (sym (midway-more (givesKept cards volts n) (givesKept cards was n) noTransistor i ts h)));
       }
 
 -- ---- another transistor at one place

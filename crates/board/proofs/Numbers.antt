@@ -11,13 +11,15 @@ use lib.ListN.{length}
 use lib.Seq.{ext-getD}
 use lib.IntN.{ℤ, pos}
 use borrow.Author.Tests.{eqb-true, eqb-false, eq-eqb, ltb-false, le-leb}
+use Rattle.refusal.specs.Order.{Verdict, no, yes}
+use Rattle.refusal.specs.Clash.{clash}
 use Rattle.card.specs.declared.WorkedCard.{WorkedCard}
+use Rattle.branch.specs.Rows.{roles}
 use Rattle.board.specs.declared.Board.{Board}
 use Rattle.board.specs.declared.Answer.{Answer}
 use Rattle.board.specs.declared.Answer.the-variants.{Issue, Done, Node, Refused}
-use Rattle.board.specs.Counts.{roles, issuesMost}
+use Rattle.board.specs.Counts.{issuesMost}
 use Rattle.board.specs.Verdict.{Found, none, some, issueOf, liftVerdict, nodeVerdict}
-use Rattle.refusal.specs.Order.{Verdict, no, yes}
 use Rattle.board.specs.Desk as desk
 use Rattle.board.specs.Desk.{Held, Standing, Desk, Call, load, place, move, lift, withdraw, lookUp, node}
 use Rattle.board.specs.Desk.{firstWith, ifTrue, standsAs, without, keepIf, total, step, after}
@@ -25,7 +27,6 @@ use Rattle.board.specs.Model as board
 use Rattle.board.specs.Model.{loadedOf, placedOf, movedOf, liftedOf, withdrawnOf, lookedOf, showedOf, answered}
 use Rattle.board.specs.Model.{boardAfter}
 use Rattle.board.specs.Stands.{replyOf}
-use Rattle.board.proofs.Integers.{clash}
 use Rattle.board.proofs.Perms.{count, more}
 use Rattle.board.proofs.Verdicts.{loads, places}
 use Rattle.board.proofs.Invariant.{invariant-after, totals-long}
@@ -176,7 +177,7 @@ module _ (d : Desk) (o : Orderly d) where
   keeps-place nodes (yes h) k t u p q = go _ (eqb (d .next) k) refl q
     where
       go : (n : Standing) (b : Bool) → eqb (d .next) k ≡ b → ifTrue b n (standsAs k (d .standing)) ≡ some u → t ≡ u
-      go n true e r = let l : d .next ≤ k = le-of-eq (eqb-true (d .next) k e) in let m = nobody k l in clash (cc)
+      go n true e r = let l : d .next ≤ k = le-of-eq (eqb-true (d .next) k e) in let m = nobody k l in clash cc
       go n false e r = cc
 
   keeps-lift : (v : Verdict Standing) (k : ℕ) (t u : Standing) → standsAs k (d .standing) ≡ some t →
@@ -186,7 +187,7 @@ module _ (d : Desk) (o : Orderly d) where
       go (eqb (x .issue) k) (sym (find-without (λ (w : Standing). w .issue) k (x .issue) (d .standing)) ∙ q)
     where
       go : (b : Bool) → cond b none (standsAs k (d .standing)) ≡ some u → t ≡ u
-      go true r = clash (cc)
+      go true r = clash cc
       go false r = cc
 
   keeps : (c : Call) (k : ℕ) (t u : Standing) → standsAs k (d .standing) ≡ some t →
@@ -272,7 +273,7 @@ undo d o card nodes sized n e = go (desk.mayPlace d card nodes) refl e
   where
     go : (v : Verdict Held) → desk.mayPlace d card nodes ≡ v → desk.placed d nodes v .reply ≡ desk.issued n →
         Undone d (desk.lifted (desk.placed d nodes v .desk) (desk.mayLift (desk.placed d nodes v .desk) (pos n)) .desk)
-    go (no f) p r = clash (cc)
+    go (no f) p r = clash cc
     go (yes h) p r =
         let same : d .next ≡ n = cc in
         rw (← same)

@@ -7,8 +7,8 @@ use native.Mathlib.Nat.{le-trans}
 use native.Mathlib.Omega.{arith}
 use lib.Dec.{eqb, lit≤}
 use borrow.Author.Tests.{eqb-true, ne-eqb}
-use Rattle.card.specs.declared.WorkedCard.{WorkedCard}
 use Rattle.refusal.specs.Order.{Verdict, no, yes}
+use Rattle.card.specs.declared.WorkedCard.{WorkedCard}
 use Rattle.board.specs.Verdict.{nodeVerdict}
 use Rattle.board.specs.Desk.{Held, Standing, Desk, Call, load, place, move, lift, withdraw, lookUp, node}
 use Rattle.board.specs.Desk.{without, keepIf, loaded, placed, moved, lifted, withdrawn, looked, showed, mayLoad}

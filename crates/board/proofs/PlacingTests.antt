@@ -10,21 +10,20 @@ use borrow.Author.Tests.{le-leb, lt-leb, lt-ltb, le-ltb}
 use Rattle.refusal.specs.declared.Refusal.{Refusal}
 use Rattle.refusal.specs.declared.Refusal.the-variants.{NoRoom, Unknown, OutOfRange, SplitCollector, Overload}
 use Rattle.refusal.specs.declared.Refusal.the-variants.{NumbersUsedUp}
+use Rattle.refusal.specs.Order.{Verdict, no, yes, refuseIf}
+use Rattle.refusal.specs.Clash.{clash}
 use Rattle.card.specs.declared.WorkedCard.{WorkedCard}
-use Rattle.branch.specs.Rows.{C1, C4}
-use Rattle.branch.specs.Ticks.{seatOf}
+use Rattle.branch.specs.Rows.{C1, C4, roleIndex}
 use Rattle.board.specs.declared.Card.{Card}
 use Rattle.board.specs.declared.Transistor.{Transistor}
 use Rattle.board.specs.declared.rules.Way.{Way}
 use Rattle.board.specs.declared.rules.Way.the-variants.{Go, Stop}
 use Rattle.board.specs.Counts.{nodesMost, transistorsMost, issuesMost}
-use Rattle.board.specs.Verdict.{Found, none, some, offNode, someOff, apart, placeVerdict}
-use Rattle.refusal.specs.Order.{Verdict, no, yes, refuseIf}
+use Rattle.board.specs.Verdict.{Found, none, some, offNode, someNodeOff, apart, placeVerdict}
 use Rattle.board.specs.Desk.{anyOf, usedUp}
 use Rattle.board.specs.Model.{cardPlace, workedAt, freeTransistor}
 use Rattle.board.specs.inner.Parts.{nodeOf}
 use Rattle.board.specs.inner.Placing.{apartOn, placing, wayOf}
-use Rattle.board.proofs.Integers.{clash}
 use Rattle.board.proofs.Verdicts.{on-node}
 
 -- ---- the way, test by test
@@ -45,11 +44,11 @@ module _ (cards : List Card) (ts : List Transistor) (next n : ℕ) (on : List �
     stop-off o = rw (e, o)
 
     module _ (o : anyOf (leb nodesMost) on ≡ false) where
-      pub stop-split : workedAt cards i .direct && apartOn on ≡ true → Stop SplitCollector ≡ way
+      pub stop-split : workedAt cards i .«rcbli_zero» && apartOn on ≡ true → Stop SplitCollector ≡ way
       unfolding placing
       stop-split s = rw (e, o, s)
 
-      module _ (s : workedAt cards i .direct && apartOn on ≡ false) where
+      module _ (s : workedAt cards i .«rcbli_zero» && apartOn on ≡ false) where
         pub stop-full : transistorsMost ≤ freeTransistor ts → Stop NoRoom ≡ way
         unfolding placing
         stop-full h = rw (e, o, s, le-leb _ _ h)
@@ -66,10 +65,10 @@ module _ (cards : List Card) (ts : List Transistor) (next n : ℕ) (on : List �
 
 pub stopped : (free : ℕ) (v : Verdict ℕ) {f : Refusal} → wayOf free v ≡ Stop f → v ≡ no f
 stopped free (no g) e = cc
-stopped free (yes i) e = clash (cc)
+stopped free (yes i) e = clash cc
 
 pub went : (free : ℕ) (v : Verdict ℕ) {i k : ℕ} → wayOf free v ≡ Go i k → (v ≡ yes i) × (k ≡ free)
-went free (no g) e = clash (cc)
+went free (no g) e = clash cc
 went free (yes j) e = (cc, cc)
 
 -- ---- the last test comes after it
@@ -79,24 +78,24 @@ lastly (no f) over = no f
 lastly (yes a) over = refuseIf (over a) Overload (yes a)
 
 -- nodes as the board holds them tell what the caller's numbers tell
-off-same : (nodes : List ℤ) → anyOf (leb nodesMost) (map nodeOf nodes) ≡ someOff nodes
+off-same : (nodes : List ℤ) → anyOf (leb nodesMost) (map nodeOf nodes) ≡ someNodeOff nodes
 unfolding anyOf
 off-same [] = refl
 off-same (z ∷ nodes) = go (offNode z) refl (off-same nodes)
   where
-    go : (t : Bool) → offNode z ≡ t → anyOf (leb nodesMost) (map nodeOf nodes) ≡ someOff nodes →
-        leb nodesMost (cond t nodesMost (natAbs z)) || anyOf (leb nodesMost) (map nodeOf nodes) ≡ t || someOff nodes
+    go : (t : Bool) → offNode z ≡ t → anyOf (leb nodesMost) (map nodeOf nodes) ≡ someNodeOff nodes →
+        leb nodesMost (cond t nodesMost (natAbs z)) || anyOf (leb nodesMost) (map nodeOf nodes) ≡ t || someNodeOff nodes
     go true e next = refl
     go false e next = rw (lt-leb _ _ (on-node z e), next)
 
-pub on-same : (nodes : List ℤ) → someOff nodes ≡ false → map nodeOf nodes ≡ map natAbs nodes
+pub on-same : (nodes : List ℤ) → someNodeOff nodes ≡ false → map nodeOf nodes ≡ map natAbs nodes
 on-same [] e = refl
 on-same (z ∷ nodes) e = go (offNode z) refl e (λ h. on-same nodes h)
   where
-    go : (t : Bool) → offNode z ≡ t → t || someOff nodes ≡ false →
-        (someOff nodes ≡ false → map nodeOf nodes ≡ map natAbs nodes) →
+    go : (t : Bool) → offNode z ≡ t → t || someNodeOff nodes ≡ false →
+        (someNodeOff nodes ≡ false → map nodeOf nodes ≡ map natAbs nodes) →
         cond t nodesMost (natAbs z) ∷ map nodeOf nodes ≡ natAbs z ∷ map natAbs nodes
-    go true p q next = clash (cc)
+    go true p q next = clash cc
     go false p q next = ap (λ (l : List ℕ). natAbs z ∷ l) (next q)
 
 size-at : (nodes : List ℤ) (k : ℕ) → getD (map natAbs nodes) k 0 ≡ natAbs (getD nodes k (pos 0))
@@ -109,7 +108,7 @@ pub then-lastly :
     placeVerdict found worked over nodes noRoom used ≡ lastly (placing found worked (map nodeOf nodes) noRoom used) over
 unfolding placeVerdict placing
 then-lastly none worked over nodes noRoom used = refl
-then-lastly (some a) worked over nodes noRoom used = rw (off-same nodes) (go (someOff nodes) refl)
+then-lastly (some a) worked over nodes noRoom used = rw (off-same nodes) (go (someNodeOff nodes) refl)
   where
     chain : (s r u : Bool) →
         refuseIf s SplitCollector (refuseIf r NoRoom (refuseIf u NumbersUsedUp (refuseIf (over a) Overload (yes a))))
@@ -119,14 +118,14 @@ then-lastly (some a) worked over nodes noRoom used = rw (off-same nodes) (go (so
     chain false false true = refl
     chain false false false = refl
 
-    go : (t : Bool) → someOff nodes ≡ t →
+    go : (t : Bool) → someNodeOff nodes ≡ t →
         refuseIf t OutOfRange
-        (refuseIf (worked a .direct && apart nodes) SplitCollector
+        (refuseIf (worked a .«rcbli_zero» && apart nodes) SplitCollector
         (refuseIf noRoom NoRoom (refuseIf used NumbersUsedUp (refuseIf (over a) Overload (yes a))))) ≡ lastly
         (refuseIf t OutOfRange
-        (refuseIf (worked a .direct && apartOn (map nodeOf nodes)) SplitCollector
+        (refuseIf (worked a .«rcbli_zero» && apartOn (map nodeOf nodes)) SplitCollector
         (refuseIf noRoom NoRoom (refuseIf used NumbersUsedUp (yes a))))) over
     go true e = refl
     go false e =
-        rw (on-same nodes e, size-at nodes (seatOf C4), size-at nodes (seatOf C1))
-        (chain (worked a .direct && apart nodes) noRoom used)
+        rw (on-same nodes e, size-at nodes (roleIndex C4), size-at nodes (roleIndex C1))
+        (chain (worked a .«rcbli_zero» && apart nodes) noRoom used)

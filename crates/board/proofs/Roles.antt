@@ -10,15 +10,14 @@ use lib.Dec.{eqb, lit<, lit≤}
 use lib.ListN.{length, getD, replicate, length-map}
 use lib.IntN.{ℤ, pos, negℤ, _+ℤ_, _-ℤ_, +ℤ-idl, +ℤ-idr, +ℤ-assoc, +ℤ-comm, negℤ-+ℤ, negℤ-negℤ}
 use borrow.Author.Tests.{eqb-true, eqb-false, ne-eqb}
-use Rattle.branch.specs.Rows.{Role, E1, B1, B2, C1, C2, C4, S, Row}
-use Rattle.branch.specs.Ticks.{seatOf}
+use Rattle.branch.specs.Rows.{Role, E1, B1, B2, C1, C2, C4, S, Row, roleIndex, roles, branches}
 use Rattle.branch.specs.Outcome.{tickLimit}
-use Rattle.board.specs.Counts.{roles, branches, nodesMost}
+use Rattle.branch.specs.Ends.{fromsOf, tosOf}
+use Rattle.board.specs.Counts.{nodesMost}
 use Rattle.board.specs.Desk.{atNode, rowsGive}
 use Rattle.board.specs.inner.Parts.{More, Within, Room, Wired, ends, endsGive, spread, rolesGive}
-use Rattle.branch.specs.Ends.{fromsOf, tosOf}
-use Rattle.board.proofs.Lists.{getD-map}
 use Rattle.board.specs.inner.Sizes.{flowMost}
+use Rattle.board.proofs.Lists.{getD-map}
 use Rattle.board.proofs.Integers.{turned, swap-inner}
 use Rattle.board.proofs.Amounts.{room-more, ends-small}
 
@@ -139,13 +138,13 @@ module _ (nodes : List ℕ) (n : ℕ) where
   ends-are-rows (r ∷ rows) [] h = absurd (omega arith)
   ends-are-rows (r ∷ rows) (x ∷ ticks) h =
       ends-first _ _ (nodesOf nodes n (fromsOf rows)) (nodesOf nodes n (tosOf rows)) x ticks (length rows) n
-      ∙ ap (λ (z : ℤ). ends (getD nodes (seatOf (r .from)) 0) (getD nodes (seatOf (r .to)) 0) x n +ℤ z)
+      ∙ ap (λ (z : ℤ). ends (getD nodes (roleIndex (r .from)) 0) (getD nodes (roleIndex (r .to)) 0) x n +ℤ z)
       (ends-are-rows rows ticks (omega arith))
 
 -- ---- and by their roles
 
 -- every role is one of them
-role-below : (r : Role) → seatOf r < roles
+role-below : (r : Role) → roleIndex r < roles
 role-below E1 = lit< tt
 role-below B1 = lit< tt
 role-below B2 = lit< tt
@@ -154,10 +153,10 @@ role-below C2 = lit< tt
 role-below C4 = lit< tt
 role-below S = lit< tt
 
-wired-by : (end : Row → Role) (rows : List Row) → Wired roles (map (λ (r : Row). seatOf (end r)) rows)
+wired-by : (end : Row → Role) (rows : List Row) → Wired roles (map (λ (r : Row). roleIndex (end r)) rows)
 wired-by end rows = record { wired = go rows }
   where
-    go : (rows : List Row) (k : ℕ) → getD (map (λ (r : Row). seatOf (end r)) rows) k 0 < roles
+    go : (rows : List Row) (k : ℕ) → getD (map (λ (r : Row). roleIndex (end r)) rows) k 0 < roles
     go [] k = lit< tt
     go (r ∷ rows) zero = role-below (end r)
     go (r ∷ rows) (suc k) = go rows k
@@ -171,7 +170,7 @@ wired-tos rows = wired-by (λ (r : Row). r .to) rows
 -- any rows
 module _ (rows : List Row) (nodes : List ℕ) (ticks : List ℤ) (n : ℕ) (h : length ticks ≡ length rows) where
   abbrev rolesOf : (Row → Role) → List ℕ
-  rolesOf end = map (λ (r : Row). seatOf (end r)) rows
+  rolesOf end = map (λ (r : Row). roleIndex (end r)) rows
 
   by-roles : (from to : Row → Role) →
       spread nodes (endsGive (rolesOf from) (rolesOf to) ticks (length rows)) roles n

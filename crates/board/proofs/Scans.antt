@@ -7,17 +7,17 @@ use Prim.Native.Nat.{ℕ, zero, suc, _+_, _-_, _≤_, _<_, zero-le}
 use native.Mathlib.Nat.{zero-add}
 use native.Mathlib.Numerals.{add-one}
 use native.Mathlib.Omega.{arith}
-use lib.Dec.{eqb, ltb}
-use lib.ListN.{length, getD, set, drop, drop-of-length-le, length-set, length-map}
-use lib.Seq.{drop-cons, getD-set-same, getD-set-other, ext-getD}
-use borrow.Author.Tests.{eqb-true, eqb-false, ltb-false}
+use lib.Dec.{ltb}
+use lib.ListN.{length, getD, drop, drop-of-length-le}
+use lib.Seq.{drop-cons}
+use borrow.Author.Tests.{ltb-false}
 use Rattle.name.specs.Name.{same}
+use Rattle.branch.specs.laws.Filled.{Filled, filled-all, up-map}
 use Rattle.board.specs.declared.Card.{Card}
 use Rattle.board.specs.Verdict.{none, some}
 use Rattle.board.specs.Desk.{anyOf, larger}
 use Rattle.board.specs.Model.{first, foundAt, highestAt, noCard}
 use Rattle.board.specs.inner.Parts.{placeOr}
-use Rattle.board.proofs.Lists.{getD-map}
 
 -- none of the first i passes the test, so that the first that does is looked for in the rest
 pub record Passed {A : Type 0} (p : A → Bool) (l : List A) (i : ℕ) : Type 0 where
@@ -126,23 +126,6 @@ highest-none name l i h = rw (drop-of-length-le l h)
 
 -- ---- a list filled from its start with what a function makes of another
 
-pub record Filled {A B : Type 0} (f : A → B) (a : A) (b : B) (l : List A) (k : ℕ) (r : List B) : Type 0 where
-  pub long : length r ≡ length l
-  pub at : (i : ℕ) → i < k → getD r i b ≡ f (getD l i a)
-
-module _ {A B : Type 0} {f : A → B} {a : A} {b : B} {l : List A} where
-  pub filled-none : {r : List B} → length r ≡ length l → Filled f a b l 0 r
-  filled-none h = record { long = h; at = λ i k. absurd (omega arith) }
-
-  pub filled-more : {r : List B} {k : ℕ} (v : B) → k < length l → v ≡ f (getD l k a) → Filled f a b l k r →
-      Filled f a b l (k + 1) (set r k v)
-  filled-more {r} {k} v h e s = record { long = length-set r k v ∙ s .long; at = λ i q. go i q (eqb i k) refl }
-    where
-      go : (i : ℕ) → i < k + 1 → (t : Bool) → eqb i k ≡ t → getD (set r k v) i b ≡ f (getD l i a)
-      go i q true p = let same = eqb-true i k p in rw same (getD-set-same r k v b (rw (s .long) h) ∙ e)
-      go i q false p = let other = eqb-false i k p in getD-set-other r k i v b other ∙ s .at i (omega arith)
-
-  pub filled-all : {r : List B} {k : ℕ} → length l ≤ k → Filled f a b l k r → r ≡ map f l
-  filled-all {r} {k} h s =
-      ext-getD b r (map f l) (s .long ∙ sym (length-map l f))
-      (λ i q. let j : i < length l = rw (s .long) at q in s .at i (omega arith) ∙ sym (getD-map f l i a b j))
+pub filled-map : {A B : Type 0} (g : A → B) (a : A) (l : List A) {d : B} {n k : ℕ} {r : List B} → length l ≡ n →
+    n ≤ k → Filled d n (λ (i : ℕ). g (getD l i a)) k r → r ≡ map g l
+filled-map g a l h m s = filled-all m s ∙ rw (← h) (up-map g a l l 0 (λ i. ap (λ (j : ℕ). getD l j a) (zero-add i)))

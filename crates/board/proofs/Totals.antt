@@ -10,25 +10,24 @@ use lib.Dec.{eqb, eqb·zero-suc, eqb·suc-zero, eqb·suc-suc}
 use lib.ListN.{length, getD}
 use lib.IntN.{ℤ, pos, natAbs, negℤ, _+ℤ_, _-ℤ_, +ℤ-idl, +ℤ-idr, +ℤ-invr}
 use borrow.Author.Tests.{eqb-false}
+use Rattle.refusal.specs.Clash.{clash}
 use Rattle.card.specs.declared.WorkedCard.{WorkedCard}
 use Rattle.branch.specs.declared.Over.{Over}
 use Rattle.branch.specs.declared.Over.the-variants.{Within, Ticks, Injection}
-use Rattle.branch.specs.Rows.{Row, rowsFor}
-use Rattle.branch.specs.Ticks.{seatOf}
-use Rattle.branch.specs.Outcome.{tickLimit, outcomeOf}
+use Rattle.branch.specs.Rows.{Row, rowsFor, roleIndex}
+use Rattle.branch.specs.Outcome.{tickLimit, outcomeOf, isOver}
 use Rattle.branch.proofs.Laws.{ticks-small}
 use Rattle.board.specs.declared.Card.{Card}
 use Rattle.board.specs.declared.Transistor.{Transistor}
 use Rattle.board.specs.declared.Board.{Board}
 use Rattle.board.specs.Counts.{nodesMost}
-use Rattle.board.specs.Desk.{Standing, Call, rolesAt, isOver, overloads, atNode, rowsGive, flow, sumOver, total}
-use Rattle.board.specs.Desk.{after}
+use Rattle.board.specs.Desk.{Standing, Call, rolesAt, overloads, atNode, rowsGive, flow, sumOver, total, after}
 use Rattle.board.specs.Model.{noTransistor, workedAt, placeGives, tabulate, totalsOf, voltsOf, boardAfter}
 use Rattle.board.specs.Model.{Reached}
 use Rattle.board.specs.Perm.{Perm}
 use Rattle.board.specs.Stands.{standingOf, standingIn}
 use Rattle.board.specs.inner.Sizes.{flowMost}
-use Rattle.board.proofs.Integers.{clash, abs-add, abs-ends, turned, swap-inner}
+use Rattle.board.proofs.Integers.{abs-add, abs-ends, turned, swap-inner}
 use Rattle.board.proofs.Perms.{perm-sum}
 use Rattle.board.proofs.Places.{sum-occupied}
 use Rattle.board.proofs.Lists.{tabulate-same, tabulate-at}
@@ -48,8 +47,8 @@ totals-are-sums calls n h =
 
 not-over : (o : Over) → isOver o ≡ false → o ≡ Within
 not-over Within e = refl
-not-over (Ticks k) e = clash (cc)
-not-over (Injection k) e = clash (cc)
+not-over (Ticks k) e = clash cc
+not-over (Injection k) e = clash cc
 
 pub none-overloads : {b : Board} → Reached b → (i : ℕ) → (getD (b .transistors) i noTransistor .issue ≡ 0 → ⊥) →
     outcomeOf (workedAt (b .cards) (getD (b .transistors) i noTransistor .«card_place»))
@@ -100,10 +99,10 @@ unfolding rowsGive
 sum-rows [] nodes ticks h = sum-zeros _ nodesMost (λ n. refl)
 sum-rows (r ∷ rs) nodes [] h = sum-zeros _ nodesMost (λ n. refl)
 sum-rows (r ∷ rs) nodes (x ∷ xs) h =
-    sum-both (λ (n : ℕ). atNode (getD nodes (seatOf (r .from)) 0) n x -ℤ atNode (getD nodes (seatOf (r .to)) 0) n x)
+    sum-both (λ (n : ℕ). atNode (getD nodes (roleIndex (r .from)) 0) n x -ℤ atNode (getD nodes (roleIndex (r .to)) 0) n x)
     (λ (n : ℕ). rowsGive rs nodes xs n) nodesMost
     ∙ rw (
-      sum-ends (getD nodes (seatOf (r .from)) 0) (getD nodes (seatOf (r .to)) 0) nodesMost x (h _) (h _),
+      sum-ends (getD nodes (roleIndex (r .from)) 0) (getD nodes (roleIndex (r .to)) 0) nodesMost x (h _) (h _),
       sum-rows rs nodes xs h,
     )
 
@@ -192,8 +191,8 @@ unfolding rowsGive
 small-rows [] nodes ticks n most h = zero-le
 small-rows (r ∷ rs) nodes [] n most h = zero-le
 small-rows (r ∷ rs) nodes (x ∷ xs) n most h =
-    let a = getD nodes (seatOf (r .from)) 0 in
-    let b = getD nodes (seatOf (r .to)) 0 in
+    let a = getD nodes (roleIndex (r .from)) 0 in
+    let b = getD nodes (roleIndex (r .to)) 0 in
     let p = abs-add (atNode a n x -ℤ atNode b n x) (rowsGive rs nodes xs n) in
     let q = abs-ends (eqb a n) (eqb b n) x in
     let t = small-rows rs nodes xs n most (λ k. h (suc k)) in

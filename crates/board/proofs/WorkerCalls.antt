@@ -2,13 +2,14 @@
 use mathlib.Core.Path.{_≡_, refl, sym, ap, _∙_}
 use mathlib.Core.Bool.{Bool, true, false, cond, _||_}
 use mathlib.Core.List.{List, [], _∷_, map}
-use Prim.Native.Nat.{ℕ, zero, suc, _*_, _≤_, _<_}
+use Prim.Native.Nat.{ℕ, zero, suc, _≤_, _<_}
 use native.Mathlib.Omega.{arith}
 use lib.Dec.{eqb}
 use lib.ListN.{length, getD, set, length-set}
 use lib.IntN.{ℤ, pos, negℤ, +ℤ-idl, +ℤ-idr}
 use borrow.Author.Tests.{eqb-false, eq-eqb, ne-eqb}
-use Rattle.branch.specs.Ready.{lowered, reach}
+use Rattle.refusal.specs.Clash.{clash}
+use Rattle.volts.specs.Volts.{givenBack, span}
 use Rattle.board.specs.declared.Card.{Card}
 use Rattle.board.specs.declared.Transistor.{Transistor}
 use Rattle.board.specs.declared.Board.{Board}
@@ -19,9 +20,7 @@ use Rattle.board.specs.Model.{voltsOf}
 use Rattle.board.specs.inner.Parts.{More, Room, names, standsAt}
 use Rattle.board.specs.inner.Settle.{Volts, HasCard, Settling}
 use Rattle.board.specs.inner.Sizes.{totalMost, workedMost}
-use Rattle.board.proofs.Integers.{clash}
-use Rattle.board.proofs.Lists.{each-set}
-use Rattle.board.proofs.Invariant.{Invariant}
+use Rattle.board.proofs.Invariant.{Invariant, near-set}
 use Rattle.board.proofs.Amounts.{room-less}
 use Rattle.board.proofs.Currents.{named-stands}
 use Rattle.board.proofs.Midway.{totals-room, totals-changed}
@@ -95,44 +94,44 @@ map-other f (x ∷ l) (suc n) zero v h = refl
 map-other f (x ∷ l) (suc n) (suc m) v h = map-other f l n m v (λ q. h (ap suc q))
 
 roles-same : (volts : List ℕ) (n v : ℕ) (nodes : List ℕ) → names n nodes ≡ false →
-    rolesAt (map lowered (set volts n v)) nodes ≡ rolesAt (map lowered volts) nodes
+    rolesAt (map givenBack (set volts n v)) nodes ≡ rolesAt (map givenBack volts) nodes
 unfolding anyOf
 roles-same volts n v [] e = refl
 roles-same volts n v (m ∷ nodes) e = go (eqb m n) refl e (λ q. roles-same volts n v nodes q)
   where
     go : (t : Bool) → eqb m n ≡ t → t || names n nodes ≡ false →
-        (names n nodes ≡ false → rolesAt (map lowered (set volts n v)) nodes ≡ rolesAt (map lowered volts) nodes) →
-        rolesAt (map lowered (set volts n v)) (m ∷ nodes) ≡ rolesAt (map lowered volts) (m ∷ nodes)
-    go true p q next = clash (cc)
-    go false p q next = rw (map-other lowered volts n m v (eqb-false m n p), next q)
+        (names n nodes ≡ false → rolesAt (map givenBack (set volts n v)) nodes ≡ rolesAt (map givenBack volts) nodes) →
+        rolesAt (map givenBack (set volts n v)) (m ∷ nodes) ≡ rolesAt (map givenBack volts) (m ∷ nodes)
+    go true p q next = clash cc
+    go false p q next = rw (map-other givenBack volts n m v (eqb-false m n p), next q)
 
 module _ (cards : List Card) (volts : List ℕ) (n v : ℕ) (t : Transistor) (h : standsAt n t ≡ false) where
   not-named : (t .issue ≡ 0 → ⊥) → names n (t .nodes) ≡ false
   not-named e = rw (ne-eqb (t .issue) 0 e) at h
 
   gives-as-before : (m : ℕ) →
-      placeGives cards (map lowered volts) m t ≡ placeGives cards (map lowered (set volts n v)) m t
+      placeGives cards (map givenBack volts) m t ≡ placeGives cards (map givenBack (set volts n v)) m t
   unfolding placeGives flow
   gives-as-before m = go (eqb (t .issue) 0) refl
     where
       go : (u : Bool) → eqb (t .issue) 0 ≡ u →
-          cond u (pos 0) (flow (workedAt cards (t .«card_place»)) (t .nodes) (map lowered volts) m) ≡ cond u (pos 0)
-          (flow (workedAt cards (t .«card_place»)) (t .nodes) (map lowered (set volts n v)) m)
+          cond u (pos 0) (flow (workedAt cards (t .«card_place»)) (t .nodes) (map givenBack volts) m) ≡ cond u (pos 0)
+          (flow (workedAt cards (t .«card_place»)) (t .nodes) (map givenBack (set volts n v)) m)
       go true e = refl
       go false e = rw (roles-same volts n v (t .nodes) (not-named (eqb-false _ _ e)))
 
   overloads-as-before :
-      placeOverloads cards (map lowered (set volts n v)) t ≡ placeOverloads cards (map lowered volts) t
+      placeOverloads cards (map givenBack (set volts n v)) t ≡ placeOverloads cards (map givenBack volts) t
   unfolding placeOverloads overloads
   overloads-as-before = go (eqb (t .issue) 0) refl
     where
       go : (u : Bool) → eqb (t .issue) 0 ≡ u →
-          cond u false (overloads (workedAt cards (t .«card_place»)) (t .nodes) (map lowered (set volts n v))) ≡ cond
-          u false (overloads (workedAt cards (t .«card_place»)) (t .nodes) (map lowered volts))
+          cond u false (overloads (workedAt cards (t .«card_place»)) (t .nodes) (map givenBack (set volts n v))) ≡ cond
+          u false (overloads (workedAt cards (t .«card_place»)) (t .nodes) (map givenBack volts))
       go true e = refl
       go false e = rw (roles-same volts n v (t .nodes) (not-named (eqb-false _ _ e)))
 
-module _ {b : Board} (g : Invariant b) (n v : ℕ) (near : v ≤ 2 * reach) where
+module _ {b : Board} (g : Invariant b) (n v : ℕ) (near : v ≤ span) where
   pub settling-moved : Settling (b .cards) (b .transistors) (b .volts) (set (b .volts) n v) n (b .totals)
   settling-moved =
       record {
@@ -140,7 +139,7 @@ module _ {b : Board} (g : Invariant b) (n v : ℕ) (near : v ≤ 2 * reach) wher
         volts-are =
             record {
               long = length-set (b .volts) n v ∙ g .volts-long;
-              near = λ k. each-set (λ (x : ℕ). x ≤ 2 * reach) (b .volts) n k v 0 near (g .near k);
+              near = near-set (b .volts) n v near (g .near);
             };
         has-card = λ j e. has-card g j (named-stands n (getD (b .transistors) j noTransistor) e);
         same = λ j e m. gives-as-before (b .cards) (b .volts) n v (getD (b .transistors) j noTransistor) e m;

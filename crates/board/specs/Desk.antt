@@ -9,17 +9,14 @@ use lib.Dec.{eqb, leb, ltb}
 use lib.ListN.{getD, set, replicate, length}
 use lib.IntN.{ℤ, pos, natAbs, _+ℤ_, _-ℤ_}
 use Rattle.refusal.specs.declared.Refusal.{Refusal}
+use Rattle.refusal.specs.Order.{Verdict, no, yes}
 use Rattle.name.specs.Name.{padded, same}
 use Rattle.card.specs.declared.WorkedCard.{WorkedCard}
-use Rattle.branch.specs.declared.Over.{Over}
-use Rattle.branch.specs.declared.Over.the-variants.{Within, Ticks, Injection}
-use Rattle.branch.specs.Rows.{Row, rowsFor}
-use Rattle.branch.specs.Ticks.{seatOf}
-use Rattle.branch.specs.Outcome.{outcomeOf}
-use Rattle.board.specs.Counts.{roles, nodesMost, cardsMost, transistorsMost, issuesMost}
+use Rattle.branch.specs.Rows.{Row, rowsFor, roleIndex, roles}
+use Rattle.branch.specs.Outcome.{isOver, outcomeOf}
+use Rattle.board.specs.Counts.{nodesMost, cardsMost, transistorsMost, issuesMost}
 use Rattle.board.specs.Verdict.{Found, none, some, issueOf, loadVerdict, placeVerdict, moveVerdict, liftVerdict}
 use Rattle.board.specs.Verdict.{withdrawVerdict, lookVerdict, nodeVerdict}
-use Rattle.refusal.specs.Order.{Verdict, no, yes}
 
 pub record Held : Type 0 where
   pub issue : ℕ
@@ -63,11 +60,6 @@ pub record Step : Type 0 where
 abbrev pub rolesAt : List ℤ → List ℕ → List ℤ
 rolesAt volts nodes = map (λ (n : ℕ). getD volts n (pos 0)) nodes
 
-abbrev pub isOver : Over → Bool
-isOver Within = false
-isOver (Ticks k) = true
-isOver (Injection k) = true
-
 unfoldable pub overloads : WorkedCard → List ℕ → List ℤ → Bool
 overloads c nodes volts = isOver (outcomeOf c (rolesAt volts nodes) .over)
 
@@ -80,7 +72,7 @@ unfoldable pub rowsGive : List Row → List ℕ → List ℤ → ℕ → ℤ
 rowsGive [] nodes ticks n = pos 0
 rowsGive (r ∷ rs) nodes [] n = pos 0
 rowsGive (r ∷ rs) nodes (x ∷ xs) n =
-    (atNode (getD nodes (seatOf (r .from)) 0) n x -ℤ atNode (getD nodes (seatOf (r .to)) 0) n x)
+    (atNode (getD nodes (roleIndex (r .from)) 0) n x -ℤ atNode (getD nodes (roleIndex (r .to)) 0) n x)
     +ℤ rowsGive rs nodes xs n
 
 -- what a transistor adds to node n

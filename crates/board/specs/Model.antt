@@ -7,19 +7,20 @@ use lib.Dec.{eqb, leb, ltb}
 use lib.ListN.{getD, set, replicate}
 use lib.IntN.{ℤ, pos, natAbs}
 use Rattle.refusal.specs.declared.Refusal.{Refusal}
-use Rattle.name.specs.Name.{padded, same}
+use Rattle.refusal.specs.Order.{Verdict, no, yes}
+use Rattle.name.specs.Name.{nameLength, padded, same}
+use Rattle.volts.specs.Volts.{givenBack, keptAs}
 use Rattle.card.specs.declared.WorkedCard.{WorkedCard}
-use Rattle.branch.specs.Ready.{readyOf, lowered, raised}
-use Rattle.branch.specs.Empty.{noReady}
+use Rattle.branch.specs.inner.Ready.{readyOf, noReady}
+use Rattle.branch.specs.Rows.{roles}
 use Rattle.board.specs.declared.Card.{Card}
 use Rattle.board.specs.declared.Transistor.{Transistor}
 use Rattle.board.specs.declared.Board.{Board}
 use Rattle.board.specs.declared.Answer.the-variants.{Issue, Done, Node, Refused}
 use Rattle.board.specs.declared.Answered.{Answered}
-use Rattle.board.specs.Counts.{roles, nodesMost, cardsMost, transistorsMost}
+use Rattle.board.specs.Counts.{nodesMost, cardsMost, transistorsMost}
 use Rattle.board.specs.Verdict.{Found, none, some, issueOf, loadVerdict, placeVerdict, moveVerdict, liftVerdict}
 use Rattle.board.specs.Verdict.{withdrawVerdict, lookVerdict, nodeVerdict}
-use Rattle.refusal.specs.Order.{Verdict, no, yes}
 use Rattle.board.specs.Desk.{Call, load, place, move, lift, withdraw, lookUp, node, overloads, flow, sumOver}
 use Rattle.board.specs.Desk.{anyOf, larger, usedUp}
 
@@ -50,7 +51,7 @@ transistorPlace n ts = cond (eqb n 0) none (foundAt transistorsMost (first (isTr
 
 -- what a fresh board has at each place, and what is read past the last place
 abbrev pub emptyCard : Card
-emptyCard = record { issue = 0; name = replicate 16 0; ready = noReady }
+emptyCard = record { issue = 0; name = replicate nameLength 0; ready = noReady }
 
 abbrev pub noCard : Card
 noCard = record { issue = 0; name = []; ready = noReady }
@@ -91,14 +92,14 @@ freshBoard =
     record {
       cards = replicate cardsMost emptyCard;
       transistors = replicate transistorsMost emptyTransistor;
-      volts = replicate nodesMost (raised (pos 0));
+      volts = replicate nodesMost (keptAs (pos 0));
       totals = replicate nodesMost (pos 0);
       next = 1;
     }
 
--- the voltages of a board, which keeps them raised
+-- the voltages of a board
 abbrev pub voltsOf : Board → List ℤ
-voltsOf b = map lowered (b .volts)
+voltsOf b = map givenBack (b .volts)
 
 abbrev pub refuse : Board → Refusal → Answered
 refuse b f = record { board = b; answer = Refused f }
@@ -109,14 +110,14 @@ freeCard cards = first (isCard 0) cards
 abbrev pub freeTransistor : List Transistor → ℕ
 freeTransistor ts = first (isTransistor 0) ts
 
--- with these transistors at these raised voltages, each total anew
+-- with these transistors at these kept voltages, each total anew
 abbrev pub settledAs : Board → List Transistor → List ℕ → ℕ → Board
 settledAs b ts volts next =
     record {
       cards = b .cards;
       transistors = ts;
       volts = volts;
-      totals = totalsOf (b .cards) ts (map lowered volts);
+      totals = totalsOf (b .cards) ts (map givenBack volts);
       next = next;
     }
 
@@ -163,12 +164,12 @@ placedOf b card nodes = placed b nodes (mayPlace b card nodes)
 abbrev pub moved : Board → ℤ → Verdict ℕ → Answered
 moved b v (no f) = refuse b f
 moved b v (yes n) =
-    record { board = settledAs b (b .transistors) (set (b .volts) n (raised v)) (b .next); answer = Done }
+    record { board = settledAs b (b .transistors) (set (b .volts) n (keptAs v)) (b .next); answer = Done }
 
 abbrev pub mayMove : Board → ℤ → ℤ → Verdict ℕ
 mayMove b n v =
     moveVerdict n v
-    (anyOf (placeOverloads (b .cards) (map lowered (set (b .volts) (natAbs n) (raised v)))) (b .transistors))
+    (anyOf (placeOverloads (b .cards) (map givenBack (set (b .volts) (natAbs n) (keptAs v)))) (b .transistors))
 
 unfoldable pub movedOf : Board → ℤ → ℤ → Answered
 movedOf b n v = moved b v (mayMove b n v)
@@ -216,7 +217,7 @@ lookedOf b name = looked b (mayLookUp b name)
 
 abbrev pub showed : Board → Verdict ℕ → Answered
 showed b (no f) = refuse b f
-showed b (yes n) = record { board = b; answer = Node (lowered (getD (b .volts) n 0)) (getD (b .totals) n (pos 0)) }
+showed b (yes n) = record { board = b; answer = Node (givenBack (getD (b .volts) n 0)) (getD (b .totals) n (pos 0)) }
 
 unfoldable pub showedOf : Board → ℤ → Answered
 showedOf b n = showed b (nodeVerdict n)

@@ -11,14 +11,11 @@ use Rattle.refusal.specs.declared.Refusal.the-variants.{Malformed, BadName, Nam
 use Rattle.refusal.specs.declared.Refusal.the-variants.{SplitCollector, Overload, CardInUse, NumbersUsedUp}
 use Rattle.refusal.specs.Order.{Verdict, no, yes, refuseIf, andThen}
 use Rattle.name.specs.Name.{asked}
+use Rattle.volts.specs.Volts.{offVolts}
 use Rattle.card.specs.declared.WorkedCard.{WorkedCard}
-use Rattle.branch.specs.Rows.{C1, C4}
-use Rattle.branch.specs.Ticks.{seatOf}
-use Rattle.branch.specs.Currents.{offVolts}
-use Rattle.card.specs.declared.Judged.{Judged}
-use Rattle.card.specs.declared.Judged.the-variants as judged
 use Rattle.card.specs.Judge.{judgeOf}
 use Rattle.card.specs.Record.{rightLength}
+use Rattle.branch.specs.Rows.{C1, C4, roleIndex}
 use Rattle.board.specs.Counts.{nodesMost, issuesMost}
 
 -- what was looked for, if it is there
@@ -35,30 +32,25 @@ issueOf (negsuc n) = 0
 abbrev pub offNode : ℤ → Bool
 offNode n = ltZ n (pos 0) || leZ (pos nodesMost) n
 
-abbrev pub someOff : List ℤ → Bool
-someOff [] = false
-someOff (n ∷ ns) = offNode n || someOff ns
+abbrev pub someNodeOff : List ℤ → Bool
+someNodeOff [] = false
+someNodeOff (n ∷ ns) = offNode n || someNodeOff ns
 
 -- C4 stands on another node than C1
 abbrev pub apart : List ℤ → Bool
-apart nodes = not (eqb (natAbs (getD nodes (seatOf C4) (pos 0))) (natAbs (getD nodes (seatOf C1) (pos 0))))
+apart nodes = not (eqb (natAbs (getD nodes (roleIndex C4) (pos 0))) (natAbs (getD nodes (roleIndex C1) (pos 0))))
 
 -- what an issue number names, or 12
 abbrev pub known : {A : Type 0} → Found A → Verdict A
 known none = no Unknown
 known (some a) = yes a
 
--- what a record is judged to be
-abbrev pub judgedCard : Judged → Verdict WorkedCard
-judgedCard (judged.Refused f) = no f
-judgedCard (judged.Card c) = yes c
-
 -- Loading: 1, 2, 6 to 10, 11, 17, from what the record is judged to be
-abbrev pub loadOrder : List ℕ → List ℕ → Judged → Bool → Bool → Verdict WorkedCard
-loadOrder name bytes j noRoom usedUp =
+abbrev pub loadOrder : List ℕ → List ℕ → Verdict WorkedCard → Bool → Bool → Verdict WorkedCard
+loadOrder name bytes judged noRoom usedUp =
     refuseIf (not (rightLength bytes)) Malformed
     (refuseIf (not (asked name)) BadName
-    (andThen (judgedCard j)
+    (andThen judged
     (λ (c : WorkedCard). refuseIf noRoom NoRoom
     (refuseIf usedUp NumbersUsedUp (yes c)))))
 
@@ -69,8 +61,8 @@ loadVerdict name bytes noRoom usedUp = loadOrder name bytes (judgeOf bytes) noRo
 unfoldable pub placeVerdict : {A : Type 0} → Found A → (A → WorkedCard) → (A → Bool) → List ℤ → Bool → Bool → Verdict A
 placeVerdict {A} found worked over nodes noRoom usedUp =
     andThen (known found)
-    (λ (a : A). refuseIf (someOff nodes) OutOfRange
-    (refuseIf (worked a .direct && apart nodes) SplitCollector
+    (λ (a : A). refuseIf (someNodeOff nodes) OutOfRange
+    (refuseIf (worked a .«rcbli_zero» && apart nodes) SplitCollector
     (refuseIf noRoom NoRoom
     (refuseIf usedUp NumbersUsedUp
     (refuseIf (over a) Overload (yes a))))))

@@ -76,7 +76,7 @@ pub(crate) fn any_on(ts: [Transistor; Board::TRANSISTORS], n: u32) -> bool
 }
 
 // The card's issue where it has the name, else 0.
-fn issue_if(c: Card, name: &[u8; 16]) -> u32
+fn issue_if(c: Card, name: &[u8; name::LENGTH]) -> u32
     ensures { λ r. ⌜ r ≡ cond (same (c .name) (now (name .entry))) (c .issue) 0 ⌝ }
 {
     let own = c.name;
@@ -94,7 +94,7 @@ fn larger_of(a: u32, b: u32) -> u32
 }
 
 // The highest issue among the cards of a name.
-pub(crate) fn highest(cards: [Card; Board::CARDS], name: &[u8; 16]) -> u32
+pub(crate) fn highest(cards: [Card; Board::CARDS], name: &[u8; name::LENGTH]) -> u32
     ensures { λ r. ⌜ r ≡ highestAt (now (name .entry)) cards ⌝ }
 {
     let mut best: u32 = 0;

@@ -1,16 +1,12 @@
 // Numbers of the caller, each an i64, as the board holds them. Every number has an answer.
 ghost use mathlib.Core.Path.{_≡_};
 ghost use mathlib.Core.List.{map};
-ghost use Rattle.branch.specs.Ready.{lowered};
 ghost use Rattle.board.specs.Verdict.{issueOf};
 ghost use Rattle.board.specs.inner.Parts.{nodeOf};
 use crate::Board;
 use crate::ISSUES;
-use crate::ROLES;
+use branch::ROLES;
 use whole::Int;
-
-// Half the span of the voltages, by which they are raised.
-const REACH: u64 = 2500000;
 
 // An issue number; 0, which is never given, for any number that is none.
 pub(crate) fn issue_of(n: i64) -> u32
@@ -49,11 +45,4 @@ pub(crate) fn nodes_of(nodes: [i64; ROLES]) -> [u8; ROLES]
         on[k] = n;
     }
     on
-}
-
-// The voltage itself.
-pub(crate) fn lowered_of(x: u32) -> i64
-    ensures { λ r. ⌜ r ≡ lowered x ⌝ }
-{
-    whole::difference(x as u64, REACH)
 }

@@ -10,18 +10,16 @@ mod sets; // sets.rt: which transistors name a node
 mod sums; // sums.rt: what branches give to the totals
 mod worker; // worker.rt: currents put into the totals and taken out
 
-use branch::Level;
+use branch::ROLES;
 use branch::Ready;
 use card::Judged;
 use refusal::Refusal;
 use rules::Way;
-
-// The roles of a transistor: E1, B1, B2, C1, C2, C4, S.
-pub const ROLES: usize = 7;
+use volts::Voltage;
 
 pub struct Card {
     pub issue: u32,
-    pub name: [u8; 16],
+    pub name: [u8; name::LENGTH],
     pub ready: Ready,
 }
 
@@ -36,7 +34,7 @@ pub struct Transistor {
 pub struct Board {
     pub cards: [Card; Board::CARDS],
     pub transistors: [Transistor; Board::TRANSISTORS],
-    // microvolts, raised so that none is negative
+    // as `volts` keeps them
     pub volts: [u32; Board::NODES],
     pub totals: [i64; Board::NODES],
     pub next: u32,
@@ -57,9 +55,6 @@ pub struct Answered {
 // The last issue number.
 const ISSUES: u32 = 65535;
 
-// No volts, raised.
-const ZERO: u32 = 2500000;
-
 // What stands at an empty place.
 fn no_card() -> Card
     ensures { λ r. ⌜ r ≡ emptyCard ⌝ }
@@ -67,7 +62,7 @@ fn no_card() -> Card
     let ready = branch::no_ready();
     Card {
         issue: 0,
-        name: [0u8; 16],
+        name: [0u8; name::LENGTH],
         ready,
     }
 }
@@ -110,7 +105,7 @@ impl Board {
         Board {
             cards: [card; Board::CARDS],
             transistors: [t; Board::TRANSISTORS],
-            volts: [ZERO; Board::NODES],
+            volts: [volts::ZERO; Board::NODES],
             totals: [0i64; Board::NODES],
             next: 1,
         }
@@ -211,7 +206,7 @@ impl Board {
         if Board::NODES <= n {
             return refused(self, Refusal::OutOfRange);
         }
-        let Level::At(v) = branch::raise(microvolts) else {
+        let Voltage::Kept(v) = volts::keep(microvolts) else {
             return refused(self, Refusal::OutOfRange);
         };
         let was = self.volts;
@@ -316,11 +311,11 @@ impl Board {
         if Board::NODES <= n {
             return refused(self, Refusal::OutOfRange);
         }
-        let raised = self.volts;
+        let kept = self.volts;
         let totals = self.totals;
-        let v = raised[n];
+        let v = kept[n];
         let t = totals[n];
-        let volts = given::lowered_of(v);
+        let volts = volts::give_back(v);
         Answered {
             board: self,
             answer: Answer::Node(volts, t),

@@ -8,9 +8,9 @@ ghost use Rattle.board.specs.Model.{cardPlace, workedAt, freeTransistor}
 ghost use Rattle.board.specs.inner.Placing.{apartOn, placing, wayOf};
 use crate::Board;
 use crate::Card;
-use crate::ROLES;
 use crate::Transistor;
 use crate::finds;
+use branch::ROLES;
 use refusal::Refusal;
 
 // The places of C1 and C4 among the roles.
@@ -39,11 +39,11 @@ fn any_off(on: [u8; ROLES]) -> bool
 
 // Whether C4 stands apart from C1 on a card that joins them.
 fn is_split(c: Card, on: [u8; ROLES]) -> bool
-    ensures { λ r. ⌜ r ≡ (c .ready .card .direct && apartOn on) ⌝ }
+    ensures { λ r. ⌜ r ≡ (c .ready .card .«rcbli_zero» && apartOn on) ⌝ }
 {
     let ready = c.ready;
     let worked = ready.card;
-    if worked.direct {
+    if worked.rcbli_zero {
         on[C4] != on[C1]
     } else {
         false

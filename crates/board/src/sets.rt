@@ -1,8 +1,8 @@
 // Which transistors name a node.
 ghost use mathlib.Core.Path.{_≡_};
 ghost use Rattle.board.specs.inner.Parts.{names, standsAt};
-use crate::ROLES;
 use crate::Transistor;
+use branch::ROLES;
 
 // Whether one of the nodes is n.
 fn has(nodes: [u8; ROLES], n: u8) -> bool

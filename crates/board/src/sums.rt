@@ -2,15 +2,16 @@
 ghost use Prim.Native.Nat.{ℕ, _≤_, _<_};
 ghost use lib.ListN.{getD};
 ghost use lib.IntN.{natAbs, pos};
-ghost use Rattle.board.specs.Counts.{roles, branches, nodesMost};
+ghost use Rattle.branch.specs.Rows.{roles, branches};
 ghost use Rattle.branch.specs.Outcome.{tickLimit};
+ghost use Rattle.branch.specs.Ends.{fromRoles, toRoles};
+ghost use Rattle.board.specs.Counts.{nodesMost};
 ghost use Rattle.board.specs.inner.Sizes.{flowMost, workedMost, handedMost};
 ghost use Rattle.board.specs.Desk.{atNode};
 ghost use Rattle.board.specs.inner.Parts.{More, Within, Room, Wired, ends, endsGive, spread, rolesGive};
-ghost use Rattle.branch.specs.Ends.{fromRoles, toRoles};
 use crate::Board;
-use crate::ROLES;
 use branch::BRANCHES;
+use branch::ROLES;
 
 // A branch gives x to the role it comes from, and takes as much from the other.
 fn branch(a: &mut [i64; ROLES], from: u8, to: u8, x: i64)

@@ -4,22 +4,23 @@ ghost use mathlib.Core.Bool.{_||_};
 ghost use mathlib.Core.List.{map};
 ghost use Prim.Native.Nat.{_<_};
 ghost use lib.ListN.{length, getD};
-ghost use Rattle.board.specs.Counts.{roles, nodesMost};
-ghost use Rattle.branch.specs.Ready.{lowered};
-ghost use Rattle.branch.specs.Outcome.{outcomeOf};
-ghost use Rattle.board.specs.Desk.{rolesAt, isOver, overloads, flow, anyOf};
+ghost use Rattle.volts.specs.Volts.{givenBack};
+ghost use Rattle.branch.specs.Rows.{roles};
+ghost use Rattle.branch.specs.Outcome.{outcomeOf, isOver};
+ghost use Rattle.board.specs.Counts.{nodesMost};
+ghost use Rattle.board.specs.Desk.{rolesAt, overloads, flow, anyOf};
 ghost use Rattle.board.specs.Model.{placeOverloads, totalsOf};
 ghost use Rattle.board.specs.inner.Parts.{More, Room, Wired, rolesOf, placeOfCard, backFlow};
 ghost use Rattle.board.specs.inner.Sizes.{workedMost};
 ghost use Rattle.board.specs.inner.Settle.{Workable, Settling};
 use crate::Board;
 use crate::Card;
-use crate::ROLES;
 use crate::Transistor;
 use crate::sets;
 use crate::sums;
 use branch::Outcome;
 use branch::Over;
+use branch::ROLES;
 use octave::Table;
 
 fn volt(volts: &[u32; Board::NODES], n: u8) -> u32
@@ -47,7 +48,7 @@ fn role_volts(volts: &[u32; Board::NODES], nodes: &[u8; ROLES]) -> [u32; ROLES]
 // A transistor's currents.
 fn work(table: &Table, c: Card, nodes: &[u8; ROLES], volts: &[u32; Board::NODES]) -> Outcome
     requires { ⌜ Workable (now table) c (now nodes) (now volts) ⌝ }
-    ensures { λ r. ⌜ r ≡ outcomeOf (c .ready .card) (rolesAt (map lowered (now (volts .entry))) (now (nodes .entry))) ⌝ }
+    ensures { λ r. ⌜ r ≡ outcomeOf (c .ready .card) (rolesAt (map givenBack (now (volts .entry))) (now (nodes .entry))) ⌝ }
 {
     let v = role_volts(volts, nodes);
     let ready = c.ready;
@@ -73,8 +74,8 @@ pub(crate) fn put_in(
     volts: &[u32; Board::NODES],
 ) -> bool
     requires { ⌜ Workable (now table) c (now nodes) (now volts) × Room nodesMost workedMost (now l) ⌝ }
-    ensures { λ r. ⌜ r ≡ overloads (c .ready .card) (now (nodes .entry)) (map lowered (now (volts .entry))) ⌝ }
-    ensures { λ _. ⌜ More nodesMost (now (l .entry)) (now (l .exit)) (flow (c .ready .card) (now (nodes .entry)) (map lowered (now (volts .entry)))) ⌝ }
+    ensures { λ r. ⌜ r ≡ overloads (c .ready .card) (now (nodes .entry)) (map givenBack (now (volts .entry))) ⌝ }
+    ensures { λ _. ⌜ More nodesMost (now (l .entry)) (now (l .exit)) (flow (c .ready .card) (now (nodes .entry)) (map givenBack (now (volts .entry)))) ⌝ }
 {
     let o = work(table, c, nodes, volts);
     let ticks = o.ticks;
@@ -92,7 +93,7 @@ pub(crate) fn take_out(
     volts: &[u32; Board::NODES],
 )
     requires { ⌜ Workable (now table) c (now nodes) (now volts) × Room nodesMost workedMost (now l) ⌝ }
-    ensures { λ _. ⌜ More nodesMost (now (l .entry)) (now (l .exit)) (backFlow (c .ready .card) (now (nodes .entry)) (map lowered (now (volts .entry)))) ⌝ }
+    ensures { λ _. ⌜ More nodesMost (now (l .entry)) (now (l .exit)) (backFlow (c .ready .card) (now (nodes .entry)) (map givenBack (now (volts .entry)))) ⌝ }
 {
     let o = work(table, c, nodes, volts);
     let ticks = o.ticks;
@@ -123,8 +124,8 @@ pub(crate) fn settle(
     n: u8,
 ) -> bool
     requires { ⌜ Settling cards ts (now was) (now volts) n (now l) ⌝ }
-    ensures { λ r. ⌜ r ≡ anyOf (placeOverloads cards (map lowered (now (volts .entry)))) ts ⌝ }
-    ensures { λ _. ⌜ now (l .exit) ≡ totalsOf cards ts (map lowered (now (volts .entry))) ⌝ }
+    ensures { λ r. ⌜ r ≡ anyOf (placeOverloads cards (map givenBack (now (volts .entry)))) ts ⌝ }
+    ensures { λ _. ⌜ now (l .exit) ≡ totalsOf cards ts (map givenBack (now (volts .entry))) ⌝ }
 {
     let table = octave::table();
     let mut over = false;

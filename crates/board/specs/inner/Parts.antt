@@ -8,8 +8,9 @@ use lib.Dec.{eqb, ltb}
 use lib.ListN.{getD, length}
 use lib.IntN.{ℤ, pos, natAbs, negℤ, _+ℤ_, _-ℤ_}
 use Rattle.card.specs.declared.WorkedCard.{WorkedCard}
+use Rattle.branch.specs.Rows.{roles, branches}
 use Rattle.board.specs.declared.Transistor.{Transistor}
-use Rattle.board.specs.Counts.{roles, branches, nodesMost, cardsMost}
+use Rattle.board.specs.Counts.{nodesMost, cardsMost}
 use Rattle.board.specs.Verdict.{Found, none, some, offNode}
 use Rattle.board.specs.Desk.{flow, anyOf, atNode}
 
@@ -75,7 +76,7 @@ rolesGive nodes froms tos ticks n = spread nodes (endsGive froms tos ticks branc
 
 -- ---- a transistor with its card
 
--- the raised voltages of its roles
+-- the kept voltages of its roles
 abbrev pub rolesOf : List ℕ → List ℕ → List ℕ
 rolesOf volts nodes = map (λ (n : ℕ). getD volts n 0) nodes
 

@@ -5,26 +5,25 @@ use Prim.Native.Nat.{ℕ}
 use lib.Dec.{eqb, leb}
 use lib.ListN.{getD}
 use Rattle.refusal.specs.declared.Refusal.the-variants.{NoRoom, OutOfRange, SplitCollector, NumbersUsedUp}
+use Rattle.refusal.specs.Order.{Verdict, no, yes, refuseIf, andThen}
 use Rattle.card.specs.declared.WorkedCard.{WorkedCard}
-use Rattle.branch.specs.Rows.{C1, C4}
-use Rattle.branch.specs.Ticks.{seatOf}
+use Rattle.branch.specs.Rows.{C1, C4, roleIndex}
 use Rattle.board.specs.declared.rules.Way.{Way}
 use Rattle.board.specs.declared.rules.Way.the-variants.{Go, Stop}
 use Rattle.board.specs.Counts.{nodesMost}
 use Rattle.board.specs.Verdict.{Found, known}
-use Rattle.refusal.specs.Order.{Verdict, no, yes, refuseIf, andThen}
 use Rattle.board.specs.Desk.{anyOf}
 
 -- C4 stands on another node than C1
 abbrev pub apartOn : List ℕ → Bool
-apartOn on = not (eqb (getD on (seatOf C4) 0) (getD on (seatOf C1) 0))
+apartOn on = not (eqb (getD on (roleIndex C4) 0) (getD on (roleIndex C1) 0))
 
 -- 12, 13, 14, 11, 17
 unfoldable pub placing : {A : Type 0} → Found A → (A → WorkedCard) → List ℕ → Bool → Bool → Verdict A
 placing {A} found worked on noRoom usedUp =
     andThen (known found)
     (λ (a : A). refuseIf (anyOf (leb nodesMost) on) OutOfRange
-    (refuseIf (worked a .direct && apartOn on) SplitCollector
+    (refuseIf (worked a .«rcbli_zero» && apartOn on) SplitCollector
     (refuseIf noRoom NoRoom
     (refuseIf usedUp NumbersUsedUp (yes a)))))
 

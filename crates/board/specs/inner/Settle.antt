@@ -3,21 +3,23 @@
 use mathlib.Core.Path.{_≡_}
 use mathlib.Core.Bool.{true, false}
 use mathlib.Core.List.{List, map}
-use Prim.Native.Nat.{ℕ, _*_, _≤_, _<_}
+use Prim.Native.Nat.{ℕ, _<_}
 use lib.ListN.{getD, length}
 use lib.IntN.{ℤ}
+use Rattle.volts.specs.Volts.{givenBack, AllNear}
 use Rattle.octave.specs.Table.{entries}
-use Rattle.branch.specs.Ready.{lowered, reach, IsReady}
+use Rattle.branch.specs.inner.Ready.{IsReady}
+use Rattle.branch.specs.Rows.{roles}
 use Rattle.board.specs.declared.Card.{Card}
 use Rattle.board.specs.declared.Transistor.{Transistor}
-use Rattle.board.specs.Counts.{roles, nodesMost, cardsMost}
+use Rattle.board.specs.Counts.{nodesMost, cardsMost}
 use Rattle.board.specs.Model.{noCard, noTransistor, placeGives, placeOverloads, totalsOf}
 use Rattle.board.specs.inner.Parts.{standsAt}
 
--- raised voltages of all nodes
+-- kept voltages of all nodes
 pub record Volts (volts : List ℕ) : Type 0 where
   pub long : length volts ≡ nodesMost
-  pub near : (k : ℕ) → getD volts k 0 ≤ 2 * reach
+  pub near : AllNear volts
 
 -- a card and nodes whose currents can be worked
 pub record Workable (table : List ℕ) (c : Card) (nodes volts : List ℕ) : Type 0 where
@@ -42,8 +44,8 @@ pub record Settling (cards : List Card) (ts : List Transistor) (was volts : List
   pub volts-are : Volts volts
   pub has-card : (i : ℕ) → standsAt n (getD ts i noTransistor) ≡ true → HasCard cards (getD ts i noTransistor)
   pub same : (i : ℕ) → standsAt n (getD ts i noTransistor) ≡ false → (m : ℕ) →
-      placeGives cards (map lowered was) m (getD ts i noTransistor) ≡ placeGives cards (map lowered volts) m
+      placeGives cards (map givenBack was) m (getD ts i noTransistor) ≡ placeGives cards (map givenBack volts) m
       (getD ts i noTransistor)
   pub quiet : (i : ℕ) → standsAt n (getD ts i noTransistor) ≡ false →
-      placeOverloads cards (map lowered volts) (getD ts i noTransistor) ≡ false
-  pub balanced : totals ≡ totalsOf cards ts (map lowered was)
+      placeOverloads cards (map givenBack volts) (getD ts i noTransistor) ≡ false
+  pub balanced : totals ≡ totalsOf cards ts (map givenBack was)

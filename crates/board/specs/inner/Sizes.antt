@@ -2,7 +2,8 @@
 -- they have.
 use Prim.Native.Nat.{ℕ, _+_, _*_}
 use Rattle.branch.specs.Outcome.{tickLimit}
-use Rattle.board.specs.Counts.{roles, branches, transistorsMost}
+use Rattle.branch.specs.Rows.{roles, branches}
+use Rattle.board.specs.Counts.{transistorsMost}
 
 -- what a transistor gives to a node, or has at a role: a branch counts once there
 abbrev pub flowMost : ℕ

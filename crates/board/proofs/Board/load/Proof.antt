@@ -4,11 +4,12 @@ use mathlib.Core.Bool.{true}
 use Prim.Native.Nat.{ℕ, _≤_, _<_}
 use borrow.Author.Needs.{needs}
 use borrow.Author.Tests.{not-true, not-false}
+use Rattle.refusal.specs.Order.{yes}
 use Rattle.name.specs.Name.{asked}
-use Rattle.card.specs.declared.Judged.the-variants.{Card}
 use Rattle.card.specs.Judge.{judgeOf}
 use Rattle.card.specs.Record.{rightLength}
-use Rattle.card.proofs.Sure.{judged-is-worked}
+use Rattle.card.specs.laws.Unique.{judged-card, judged-refused}
+use Rattle.card.proofs.WorkedCards.{judged-is-worked}
 use Rattle.board.specs.Counts.{cardsMost}
 use Rattle.board.proofs.Reaches.{after-load}
 use Rattle.board.proofs.Answers.{load-malformed, load-bad-name, load-judged, load-no-room, load-used-up}
@@ -42,8 +43,8 @@ is-name : (c : tie.Else2) → asked (start (c .before .before) .args .name .now)
 is-name c = sym (c .before .is-asked .ensures) ∙ not-false _ (c .if2 .left)
 
 is-card : (c : tie.After-judged2) →
-    judgeOf (start (else1 (c .before)) .args .bytes .now) ≡ Card (c .judged2 .given .0 .0)
-is-card c = sym (c .before .before .judge .ensures) ∙ c .judged2 .given .1
+    judgeOf (start (else1 (c .before)) .args .bytes .now) ≡ yes (c .judged2 .given .0 .0)
+is-card c = judged-card _ (c .before .before .judge .ensures) (c .judged2 .given .1)
 
 returns : tie.Need-returns
 returns c =
@@ -86,7 +87,8 @@ returns-5 c =
     let l = j .before .before .before in
     after-load (start l .pre) _ _
     (c .refused3 .ensures
-    ∙ load-judged _ _ _ (long l) (is-name (j .before)) _ (sym (j .judge .ensures) ∙ c .before .before .judged .given .1))
+    ∙ load-judged _ _ _ (long l) (is-name (j .before)) _
+    (judged-refused _ (j .judge .ensures) (c .before .before .judged .given .1)))
 
 returns-6 : tie.Need-returns-6
 returns-6 c =

@@ -4,7 +4,7 @@ use Prim.Native.Nat.{ℕ, _≤_, _<_}
 use borrow.Author.Needs.{needs}
 use mir.Syntax.{w64}
 use mir.ValLaws.{toZ-ofZ}
-use Rattle.branch.proofs.Levels.{Leveled, leveled, level-off}
+use Rattle.volts.specs.laws.Keeping.{KeptIs, kept-is, outside-is}
 use Rattle.board.specs.Counts.{nodesMost}
 use Rattle.board.specs.inner.Parts.{nodeOf}
 use Rattle.board.proofs.Reaches.{after-move}
@@ -31,10 +31,10 @@ after-totals c = c .before .before .before .before
 number : (c : tie.After-node-of) → c .node-of .result ≡ nodeOf (c .before .args .node)
 number c = c .node-of .ensures ∙ ap nodeOf (toZ-ofZ w64 (c .before .args .node) (c .before .fits .node))
 
-level : (c : tie.After-known-told) → Leveled (start (c .before .before) .args .microvolts) (c .before .v .given .0 .0)
+level : (c : tie.After-known-told) → KeptIs (start (c .before .before) .args .microvolts) (c .before .v .given .0 .0)
 level c =
     let s = (start (c .before .before)) in
-    leveled (toZ-ofZ w64 (s .args .microvolts) (s .fits .microvolts)) (c .before .before .before .raise .ensures)
+    kept-is (toZ-ofZ w64 (s .args .microvolts) (s .fits .microvolts)) (c .before .before .before .keep .ensures)
     (c .before .v .given .1)
 
 returns : tie.Need-returns
@@ -52,7 +52,7 @@ returns-2 c =
     (c .refused2 .ensures
     ∙ move-too-far _ (s .args .node) (s .args .microvolts)
     (subst (λ (k : ℕ). k < nodesMost) (number (else1 c .before)) (else1 c .if1 .left))
-    (level-off (toZ-ofZ w64 (s .args .microvolts) (s .fits .microvolts)) (c .before .before .before .raise .ensures)
+    (outside-is (toZ-ofZ w64 (s .args .microvolts) (s .fits .microvolts)) (c .before .before .before .keep .ensures)
     (c .before .enum-told .given .1)))
 
 settle-requires : tie.Need-settle-requires

@@ -12,7 +12,7 @@ use Rattle.board.proofs.Board.read_node.Statement.{statement}
 use Rattle.board.proofs.Board.read_node.Tie as tie
 
 -- earlier places, from later ones
-abbrev else1 : tie.After-lowered-of → tie.Else1
+abbrev else1 : tie.After-give-back → tie.Else1
 else1 c = c .before .before .before .before
 
 number : (c : tie.After-node-of) → c .node-of .result ≡ nodeOf (c .before .args .node)
@@ -31,7 +31,7 @@ returns-2 c =
     after-node (else1 c .before .before .pre) (else1 c .before .before .args .node)
     (shows-it (else1 c .before .before .args .self) (else1 c .before .before .args .node) _ _ _
     (number (else1 c .before)) (else1 c .if1 .left)
-    (toZ-ofZ w64 (c .lowered-of .result) (search needs) ∙ c .lowered-of .ensures) (search needs))
+    (toZ-ofZ w64 (c .give-back .result) (search needs) ∙ c .give-back .ensures) (search needs))
 
 pub read-node-spec : {M : Type 1} → statement M
 read-node-spec =

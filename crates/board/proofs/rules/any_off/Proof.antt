@@ -6,7 +6,8 @@ use lib.Dec.{leb}
 use lib.ListN.{length}
 use borrow.Author.Needs.{needs}
 use borrow.Author.Tests.{le-leb, lt-leb}
-use Rattle.board.specs.Counts.{roles, nodesMost}
+use Rattle.branch.specs.Rows.{roles}
+use Rattle.board.specs.Counts.{nodesMost}
 use Rattle.board.proofs.Scans.{Passed, at-start, goes-on, any-here, any-nowhere}
 use Rattle.board.proofs.rules.any_off.Statement.{statement}
 use Rattle.board.proofs.rules.any_off.Tie as tie

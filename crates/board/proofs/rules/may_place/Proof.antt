@@ -37,7 +37,7 @@ on : (c : tie.Else2) → anyOf (leb nodesMost) (start c .args .on) ≡ false
 on c = sym (c .before .any-off .ensures) ∙ c .if2 .left
 
 joined : (c : tie.Else3) →
-    workedAt (start (c .before .before .before) .args .t1) (else1 (c .before) .before .card-at .result) .direct
+    workedAt (start (c .before .before .before) .args .t1) (else1 (c .before) .before .card-at .result) .«rcbli_zero»
     && apartOn (start (c .before .before .before) .args .on) ≡ false
 joined c = sym (c .before .is-split .ensures) ∙ c .if3 .left
 

@@ -5,7 +5,7 @@ use native.Mathlib.Omega.{arith}
 use lib.ListN.{getD}
 use lib.IntN.{pos}
 use borrow.Author.Needs.{needs}
-use Rattle.board.specs.Counts.{roles, branches}
+use Rattle.branch.specs.Rows.{roles, branches}
 use Rattle.board.specs.inner.Parts.{More, endsGive}
 use Rattle.board.proofs.Integers.{held, held-is}
 use Rattle.board.proofs.Amounts.{ends-none, ends-more, fair-next}

@@ -5,7 +5,8 @@ use native.Mathlib.Omega.{arith}
 use lib.ListN.{getD}
 use lib.IntN.{pos}
 use borrow.Author.Needs.{needs}
-use Rattle.board.specs.Counts.{roles, nodesMost}
+use Rattle.branch.specs.Rows.{roles}
+use Rattle.board.specs.Counts.{nodesMost}
 use Rattle.board.specs.inner.Parts.{More, spread}
 use Rattle.board.proofs.Integers.{held, held-is}
 use Rattle.board.proofs.Amounts.{spread-none, spread-more, room-next}

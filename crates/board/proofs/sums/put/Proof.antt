@@ -2,8 +2,7 @@
 use mathlib.Core.Path.{sym, subst}
 use mathlib.Core.Bool.{false}
 use borrow.Author.Needs.{needs}
-use Rattle.branch.specs.Rows.{rowsFor}
-use Rattle.board.specs.Counts.{roles}
+use Rattle.branch.specs.Rows.{rowsFor, roles}
 use Rattle.board.specs.inner.Parts.{Wired}
 use Rattle.board.proofs.Roles.{wired-froms, wired-tos, room-nothing, amounts-within, amounts-out}
 use Rattle.board.proofs.sums.put.Statement.{statement}

@@ -8,7 +8,7 @@ use Prim.Native.Nat.{_≤_, _-_}
 use native.Mathlib.Omega.{arith}
 use lib.ListN.{length, getD}
 use borrow.Author.Needs.{needs}
-use Rattle.branch.specs.Ready.{lowered}
+use Rattle.volts.specs.Volts.{givenBack}
 use Rattle.board.specs.declared.Transistor.{Transistor}
 use Rattle.board.specs.Counts.{nodesMost, transistorsMost}
 use Rattle.board.specs.Model.{noTransistor, placeOverloads}
@@ -25,7 +25,7 @@ use Rattle.board.proofs.worker.settle.Tie as tie
 
 abbrev Inv-loop : tie.InvT-loop
 Inv-loop l₀ was volts n cards ts table over₀ i₀ l over i =
-    (i ≤ transistorsMost) × Midway cards ts was volts i l × AnyAmong (placeOverloads cards (map lowered volts)) ts i
+    (i ≤ transistorsMost) × Midway cards ts was volts i l × AnyAmong (placeOverloads cards (map givenBack volts)) ts i
     over
 
 abbrev μ-loop : tie.MeasureT-loop
