@@ -12,7 +12,7 @@ use borrow.Author.Tests.{eqb-true, eqb-false, ne-eqb, leb-false}
 use Rattle.refusal.specs.Order.{Verdict, no, yes}
 use Rattle.refusal.specs.Clash.{clash}
 use Rattle.volts.specs.Volts.{givenBack, keptAs, span, AllNear}
-use Rattle.volts.specs.laws.Keeping.{kept}
+use Rattle.volts.specs.laws.Keeping.{kept, near-replicate, near-set}
 use Rattle.card.specs.declared.WorkedCard.{WorkedCard}
 use Rattle.branch.specs.inner.Ready.{IsReady}
 use Rattle.branch.proofs.Laws.{made-ready}
@@ -112,10 +112,7 @@ invariant-fresh =
       cards-long = length-replicate cardsMost emptyCard;
       transistors-long = length-replicate transistorsMost emptyTransistor;
       volts-long = length-replicate nodesMost (keptAs (pos 0));
-      near =
-          record {
-            each = λ k. each-replicate (λ (x : ℕ). x ≤ span) nodesMost k (keptAs (pos 0)) 0 (lit≤ tt) (lit≤ tt);
-          };
+      near = near-replicate nodesMost (lit≤ tt);
       transistor =
           λ i h. absurd
           (h (each-replicate (λ (t : Transistor). t .issue ≡ 0) transistorsMost i emptyTransistor noTransistor refl refl));
@@ -223,10 +220,6 @@ on-nodes (z ∷ nodes) e k = go (offNode z) refl e k (λ p. on-nodes nodes p)
     go false p q zero next = on-node z p
     go false p q (suc k) next = next q k
 
--- another kept voltage at one node
-pub near-set : (l : List ℕ) (n x : ℕ) → x ≤ span → AllNear l → AllNear (set l n x)
-near-set l n x h near = record { each = λ k. each-set (λ (y : ℕ). y ≤ span) l n k x 0 h (near .each k) }
-
 -- ---- tests of a place that is not empty
 
 standing-quiet : (cards : List Card) (volts : List ℤ) (t : Transistor) → (t .issue ≡ 0 → ⊥) →
@@ -282,7 +275,7 @@ invariant-moved {b} n v g = go _ refl
           cards-long = g .cards-long;
           transistors-long = g .transistors-long;
           volts-long = length-set (b .volts) k (keptAs v) ∙ g .volts-long;
-          near = near-set (b .volts) k (keptAs v) (kept v (m .near) .near) (g .near);
+          near = near-set k (kept v (m .near) .near) (g .near);
           transistor = λ j h. still k j h (m .at) (m .quiet) (g .transistor j h);
           ready = g .ready;
           balanced = refl;

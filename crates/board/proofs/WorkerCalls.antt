@@ -10,6 +10,7 @@ use lib.IntN.{ℤ, pos, negℤ, +ℤ-idl, +ℤ-idr}
 use borrow.Author.Tests.{eqb-false, eq-eqb, ne-eqb}
 use Rattle.refusal.specs.Clash.{clash}
 use Rattle.volts.specs.Volts.{givenBack, span}
+use Rattle.volts.specs.laws.Keeping.{near-set}
 use Rattle.board.specs.declared.Card.{Card}
 use Rattle.board.specs.declared.Transistor.{Transistor}
 use Rattle.board.specs.declared.Board.{Board}
@@ -20,7 +21,7 @@ use Rattle.board.specs.Model.{voltsOf}
 use Rattle.board.specs.inner.Parts.{More, Room, names, standsAt}
 use Rattle.board.specs.inner.Settle.{Volts, HasCard, Settling}
 use Rattle.board.specs.inner.Sizes.{totalMost, workedMost}
-use Rattle.board.proofs.Invariant.{Invariant, near-set}
+use Rattle.board.proofs.Invariant.{Invariant}
 use Rattle.board.proofs.Amounts.{room-less}
 use Rattle.board.proofs.Currents.{named-stands}
 use Rattle.board.proofs.Midway.{totals-room, totals-changed}
@@ -139,7 +140,7 @@ module _ {b : Board} (g : Invariant b) (n v : ℕ) (near : v ≤ span) where
         volts-are =
             record {
               long = length-set (b .volts) n v ∙ g .volts-long;
-              near = near-set (b .volts) n v near (g .near);
+              near = near-set n near (g .near);
             };
         has-card = λ j e. has-card g j (named-stands n (getD (b .transistors) j noTransistor) e);
         same = λ j e m. gives-as-before (b .cards) (b .volts) n v (getD (b .transistors) j noTransistor) e m;

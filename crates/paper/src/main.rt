@@ -106,9 +106,12 @@ fn run_table() {
     shown::line(b"t_64", b"", wide(t[64]), 2147483648);
 }
 
-// The position of -1 microvolt for an octave of 16,000,000 nV.
+// The paper's octave, in nanovolts.
+const OCTAVE: u64 = 16000000;
+
+// The position of -1 microvolt for it.
 fn position() -> i64 {
-    let o = octave::reciprocal_of(16000000);
+    let o = octave::reciprocal_of(OCTAVE);
     let u = volts::across(volts::ZERO - 1, volts::ZERO);
     whole::difference(octave::place(u, o), octave::BIAS * octave::PARTS)
 }

@@ -2,10 +2,10 @@
 use mathlib.Core.Path.{_≡_, refl, sym, ap, subst, _∙_}
 use mathlib.Core.Bool.{Bool, true, false, cond, _||_}
 use mathlib.Core.List.{List, [], _∷_, map}
-use Prim.Native.Nat.{ℕ, zero, suc, _+_, _-_, _≤_, _<_}
+use Prim.Native.Nat.{ℕ, zero, suc, _+_, _-_, _≤_, _<_, zero-le}
 use native.Mathlib.Omega.{arith}
 use lib.Dec.{ltb}
-use lib.ListN.{getD, length}
+use lib.ListN.{getD, set, replicate, length}
 use lib.IntN.{ℤ, pos, negsuc}
 use borrow.Author.Tests.{ltb-false}
 use Rattle.whole.specs.laws.Biased.{sub-up, sub-down}
@@ -68,6 +68,26 @@ pub given-back-at : (l : List ℕ) (k : ℕ) → k < length l → givenBack (get
 given-back-at [] k h = absurd (omega arith)
 given-back-at (x ∷ l) zero h = refl
 given-back-at (x ∷ l) (suc k) h = given-back-at l k (omega arith)
+
+-- as many as are wanted of one near voltage
+pub near-replicate : (n : ℕ) {x : ℕ} → x ≤ span → AllNear (replicate n x)
+near-replicate n {x} h = record { each = go n }
+  where
+    go : (n k : ℕ) → getD (replicate n x) k 0 ≤ span
+    go zero k = zero-le
+    go (suc n) zero = h
+    go (suc n) (suc k) = go n k
+
+-- another near voltage at one place
+pub near-set : {l : List ℕ} (n : ℕ) {x : ℕ} → x ≤ span → AllNear l → AllNear (set l n x)
+near-set {l} n {x} h near = record { each = λ k. go l n k (near .each k) }
+  where
+    go : (l : List ℕ) (n k : ℕ) → getD l k 0 ≤ span → getD (set l n x) k 0 ≤ span
+    go [] n k p = p
+    go (y ∷ l) zero zero p = h
+    go (y ∷ l) zero (suc k) p = p
+    go (y ∷ l) (suc n) zero p = p
+    go (y ∷ l) (suc n) (suc k) p = go l n k p
 
 -- one of a list is near
 pub near-at : {l : List ℕ} → AllNear l → (k : ℕ) → Near (getD l k 0)
