@@ -1,6 +1,5 @@
 -- The ends of the branches: the roles at which they start and at which they end, row by row.
-use mathlib.Core.Path.{_≡_, refl}
-use mathlib.Core.Bool.{Bool, true, false}
+use mathlib.Core.Bool.{false}
 use mathlib.Core.List.{List, map}
 use Prim.Native.Nat.{ℕ}
 use Rattle.branch.specs.Rows.{Row, roleIndex, rowsFor}
@@ -12,18 +11,9 @@ fromsOf rows = map (λ (r : Row). roleIndex (r .from)) rows
 abbrev pub tosOf : List Row → List ℕ
 tosOf rows = map (λ (r : Row). roleIndex (r .to)) rows
 
--- of a transistor's
+-- of a transistor's: EXSUB moves none of them
 abbrev pub fromRoles : List ℕ
 fromRoles = fromsOf (rowsFor false)
 
 abbrev pub toRoles : List ℕ
 toRoles = tosOf (rowsFor false)
-
--- EXSUB moves no end
-pub froms-same : (exsub : Bool) → fromsOf (rowsFor exsub) ≡ fromRoles
-froms-same false = refl
-froms-same true = refl
-
-pub tos-same : (exsub : Bool) → tosOf (rowsFor exsub) ≡ toRoles
-tos-same false = refl
-tos-same true = refl

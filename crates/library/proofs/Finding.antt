@@ -23,11 +23,6 @@ pub record Part (l : RefT (List ℕ)) (at size : ℕ) (p : RefT (List ℕ)) : Ty
   pub width : size ≡ wordBytes * wordsOf (version (now l))
   pub written : size ≡ recordBytes
 
--- and those are
-pub record-bytes : recordBytes ≡ 128
-unfolding wordsOf
-record-bytes = omega arith
-
 -- what an answer of locating says of the part that is found
 abbrev pub Agree : RefT (List ℕ) → Located → RefT (List ℕ) → Type 0
 Agree l (Record at size) p = Part l at size p

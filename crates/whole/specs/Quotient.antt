@@ -6,7 +6,7 @@ use native.Mathlib.Omega.{arith}
 use lib.IntN.{ℤ, pos, negsuc, negℤ, natAbs, subℕ, _*ℤ_}
 use lib.Signed.{quotZ}
 use Rattle.whole.specs.Signed.{signedSpan}
-use Rattle.whole.specs.Scale.{heldAt, stays-below, held-within, held-none}
+use Rattle.whole.specs.Scale.{heldAt, stays-below, held-none}
 use Rattle.whole.specs.laws.Biased.{sub-up, sub-down}
 
 -- of a size
@@ -94,12 +94,6 @@ pub held-size-down : (over n : ℕ) → heldSize over (negℤ (pos n)) ≡ neg�
 unfolding heldSize
 held-size-down over zero = ap pos (held-none over) ∙ ap (λ (m : ℕ). negℤ (pos m)) (sym (held-none over))
 held-size-down over (suc n) = refl
-
--- a held size is no larger than the limit
-pub held-size-within : (over : ℕ) (z : ℤ) → natAbs (heldSize over z) ≤ over
-unfolding heldSize
-held-size-within over (pos n) = held-within over n
-held-size-within over (negsuc n) = le-trans (le-of-eq (same-size (heldAt over (suc n)))) (held-within over (suc n))
 
 -- and a size below it is not changed
 pub held-size-small : (over : ℕ) (z : ℤ) → natAbs z < over → heldSize over z ≡ z
