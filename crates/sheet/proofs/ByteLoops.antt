@@ -15,7 +15,6 @@ use Rattle.sheet.specs.Text.{appended, Adds}
 use Rattle.sheet.specs.Lines.{unpadded}
 use Rattle.sheet.specs.Number.{isDigit, digitOf, allDigits, decimalFrom, firstBeyond}
 use Rattle.sheet.proofs.Texts.{append-two}
-use Rattle.card.specs.Judge.{at}
 
 -- the byte at i and those after it
 split : (s : List ℕ) (i : ℕ) → i < length s → drop i s ≡ getD s i 0 ∷ drop (i + 1) s

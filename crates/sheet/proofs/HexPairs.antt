@@ -9,11 +9,11 @@ use borrow.Author.Tests.{eqb-true, lt-leb, le-leb}
 use lib.Dec.{eqb, leb}
 use lib.ListN.{length, take, drop, getD, set, length-drop}
 use lib.Seq.{take-all, getD-drop, drop-drop}
+use Rattle.bytes_le.specs.Buffer.{over}
 use Rattle.name.proofs.Laws.{Filled, fill-first, fill-more, fill-all}
 use Rattle.sheet.specs.declared.Hex.{Hex}
 use Rattle.sheet.specs.declared.Hex.the-variants.{Bytes, Bad}
 use Rattle.sheet.specs.Hex.{isHex, nibbleOf, allPairs, pairsOf, isDash, spells, hexIf, overIf, ReadsHex}
-use Rattle.bytes_le.specs.Buffer.{over}
 
 -- two bytes, and those after them
 two : (s : List ℕ) → 2 ≤ length s → s ≡ getD s 0 0 ∷ getD s 1 0 ∷ drop 2 s

@@ -22,8 +22,6 @@ use Rattle.sheet.specs.declared.Parsed.{Parsed}
 use Rattle.sheet.specs.declared.Parsed.the-variants.{Number, Nothing}
 use Rattle.sheet.specs.Number.{allDigits, decimalValue, nearest, parsedWith, parsedAfter, parsedOf, firstBeyond}
 use Rattle.sheet.proofs.Texts.{then}
-use Rattle.card.specs.Judge.{at}
-use Rattle.card.proofs.Whole.{below}
 
 -- ---- a digit after those before it
 

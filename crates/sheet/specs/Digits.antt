@@ -5,7 +5,6 @@ use Prim.Native.Nat.{ℕ, zero, suc, _+_, _*_, _/_, _%_, _^_}
 use lib.Dec.{ltb}
 use lib.IntN.{ℤ, pos, negsuc, natAbs}
 use Rattle.sheet.specs.declared.digits.Opened.{Opened}
-use Rattle.card.proofs.Whole.{below}
 
 -- how many hexadecimal digits a clip mask has, and a word of 64 bits
 abbrev pub maskDigits : ℕ

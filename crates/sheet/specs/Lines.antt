@@ -4,9 +4,10 @@ use mathlib.Core.List.{List, [], _∷_, _++_}
 use Prim.Native.Nat.{ℕ}
 use lib.Dec.{eqb, leb}
 use lib.IntN.{ℤ}
-use Rattle.card.specs.Clip.{clipOf}
+use Rattle.refusal.specs.Order.{numberTold}
+use Rattle.card.specs.Limits.{width}
+use Rattle.card.specs.Clip.{maskOf}
 use Rattle.card.specs.Judge.{judgeOf}
-use Rattle.card.specs.Told.{judgedNumber}
 use Rattle.sheet.specs.Digits.{maskDigits, hexDigits, decimalOf, signedDigits, ampereDigits}
 
 abbrev pub space : ℕ
@@ -35,7 +36,7 @@ cardLine name mask number =
 
 -- the listing of a card: the mask that clipping its record gives, and 0 or the number by which loading refuses it
 unfoldable pub listingLine : List ℕ → List ℕ → List ℕ
-listingLine name bytes = cardLine name (clipOf bytes .mask) (judgedNumber (judgeOf bytes))
+listingLine name bytes = cardLine name (maskOf width bytes) (numberTold (judgeOf bytes))
 
 -- a node's number, its microvolts and its ticks
 unfoldable pub readingOf : ℕ → ℤ → ℤ → List ℕ

@@ -7,7 +7,6 @@ use lib.IntN.{ℤ, pos, negℤ}
 use lib.ListN.{length, drop, getD}
 use Rattle.sheet.specs.declared.Parsed.{Parsed}
 use Rattle.sheet.specs.declared.Parsed.the-variants.{Number, Nothing}
-use Rattle.card.proofs.Whole.{below}
 
 abbrev pub isDigit : ℕ → Bool
 isDigit b = leb 48 b && leb b 57

@@ -4,10 +4,10 @@ use Prim.Native.Nat.{_-_}
 use native.Mathlib.Nat.{sub-zero}
 use lib.ListN.{length}
 use borrow.Author.Needs.{needs}
+use Rattle.name.specs.Name.{padded}
 use Rattle.sheet.proofs.ByteLoops.{Bare, bare-on, bare-stop, bare-end}
 use Rattle.sheet.proofs.bare_name.Tie as tie
 use Rattle.sheet.proofs.bare_name.Statement.{statement}
-use Rattle.name.specs.Name.{padded}
 use Rattle.sheet.proofs.Ranges.{within}
 
 abbrev Inv-loop : tie.InvT-loop

@@ -10,7 +10,6 @@ use lib.Arith.{lt-one}
 use lib.Dec.{ltb, lit<}
 use Rattle.sheet.specs.Digits.{glyphOf, plainDigits, decimalOf, mostDigits}
 use Rattle.sheet.specs.Number.{digitOf, decimalFrom, decimalValue}
-use Rattle.card.specs.Judge.{at}
 
 value-two : (x : ℕ) (a b : List ℕ) → decimalFrom x (a ++ b) ≡ decimalFrom (decimalFrom x a) b
 unfolding decimalFrom

@@ -8,9 +8,11 @@ use lib.Dec.{ltb}
 use lib.IntN.{ℤ, natAbs}
 use lib.ListN.{length, take, replicate, length-append}
 use lib.Seq.{take-all, take-append-seam}
-use Rattle.card.specs.Clip.{clipOf}
+use Rattle.refusal.specs.Order.{numberTold}
+use Rattle.name.specs.Name.{nameLength}
+use Rattle.card.specs.Limits.{width}
+use Rattle.card.specs.Clip.{maskOf}
 use Rattle.card.specs.Judge.{judgeOf}
-use Rattle.card.specs.Told.{judgedNumber}
 use Rattle.sheet.specs.Text.{room, textOf, shown}
 use Rattle.sheet.specs.Digits.{glyphOf, digitsOf, hexDigits, plainDigits, signOf, belowZero, picoOf, ampereDigits, decimals, maskDigits, mostDigits, wordDigits}
 use Rattle.sheet.specs.Lines.{newline, labelLine, listedMask, listingLine, readingOf, nodeLine, sheetLine}
@@ -68,12 +70,12 @@ label-whole label n h =
     let k = plain-long mostDigits n in
     text-whole (labelLine label n) (simp length-append (omega arith))
 
-pub listing-whole : (name bytes : List ℕ) → length name ≤ 16
+pub listing-whole : (name bytes : List ℕ) → length name ≤ nameLength
     → shown (textOf (listingLine name bytes)) ≡ listingLine name bytes
 unfolding listingLine
 listing-whole name bytes h =
-    let number = judgedNumber (judgeOf bytes) in
-    let b = digits-long 16 maskDigits (listedMask number (clipOf bytes .mask)) in
+    let number = numberTold (judgeOf bytes) in
+    let b = digits-long 16 maskDigits (listedMask number (maskOf width bytes)) in
     let d = plain-long mostDigits number in
     text-whole (listingLine name bytes) (simp length-append (omega arith))
 
