@@ -1,6 +1,6 @@
 -- From volts to ticks: the numbers that the rows' terms and ratios stand for, and the ticks of a row.
 use mathlib.Core.List.{List}
-use Prim.Native.Nat.{ℕ, _+_, _*_, _^_}
+use Prim.Native.Nat.{ℕ, suc, _+_, _*_, _^_}
 use lib.ListN.{getD}
 use lib.IntN.{ℤ, pos, subℕ, _+ℤ_, _-ℤ_}
 use Rattle.whole.specs.Scale.{floorScale}
@@ -42,13 +42,20 @@ expOf v w = record { digits = mantissaOf (partOf v w); power = wholeOf v w -ℤ 
 abbrev pub times : Scaled → Scaled → Scaled
 times x y = record { digits = x .digits * y .digits; power = x .power +ℤ y .power }
 
--- T(x): whole ticks of 2^-50 ampere not above x
+-- binary places of a tick, 2^-50 ampere, and of the unit in which ratios count, 2^-20
+abbrev pub tickPlaces : ℕ
+tickPlaces = 50
+
+abbrev pub partPlaces : ℕ
+partPlaces = 20
+
+-- T(x): whole ticks not above x
 abbrev pub wholeTicks : Scaled → ℕ
-wholeTicks x = floorScale (x .digits) (x .power +ℤ pos 50)
+wholeTicks x = floorScale (x .digits) (x .power +ℤ pos tickPlaces)
 
 -- floor(x * 2^20)
 abbrev pub wholeParts : Scaled → ℕ
-wholeParts x = floorScale (x .digits) (x .power +ℤ pos 20)
+wholeParts x = floorScale (x .digits) (x .power +ℤ pos partPlaces)
 
 -- the voltage of a junction: that of its first role less that of its second
 abbrev pub biasOf : List ℤ → Role → Role → ℤ
@@ -68,19 +75,27 @@ abbrev pub ratioOf : WorkedCard → (Role → Role → ℤ) → Summand → ℕ
 ratioOf c v unit = 0
 ratioOf c v (root x p q) = wholeParts (times (valueOf c x) (expOf (v p q) (c .octave)))
 
+-- 1 in those parts, 2^20
+abbrev pub oneUnit : ℕ
+oneUnit = 2 ^ partPlaces
+
 -- the greatest R with R^2 <= (2^20 + floor) * 2^20
 unfoldable pub rootFor : ℕ → ℕ
-rootFor ratio = rootOf ((2 ^ 20 + ratio) * 2 ^ 20)
+rootFor ratio = rootOf ((oneUnit + ratio) * oneUnit)
 
 -- 2^20, or the root for a ratio
 abbrev pub summandOf : WorkedCard → (Role → Role → ℤ) → Summand → ℕ
-summandOf c v unit = 2 ^ 20
+summandOf c v unit = oneUnit
 summandOf c v (root x p q) = rootFor (ratioOf c v (root x p q))
+
+-- Q's shift: a divisor of two units changes nothing
+abbrev pub quotientShift : ℕ
+quotientShift = suc partPlaces
 
 -- Q(N, D) = N * 2^21 / D, where there is something to divide by
 abbrev pub dividedBy : WorkedCard → (Role → Role → ℤ) → Divisor → ℤ → ℤ
 dividedBy c v undivided n = n
-dividedBy c v (sumOf s t) n = quotientOf n 21 (summandOf c v s + summandOf c v t)
+dividedBy c v (sumOf s t) n = quotientOf n quotientShift (summandOf c v s + summandOf c v t)
 
 -- the ticks of a row
 abbrev pub rowTicks : WorkedCard → (Role → Role → ℤ) → Row → ℤ

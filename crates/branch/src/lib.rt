@@ -27,6 +27,16 @@ pub const BRANCHES: usize = 7;
 // E1, B1, B2, C1, C2, C4, S.
 pub const ROLES: usize = 7;
 
+// The most that a T may be, and that a ratio's floor may.
+const TICKS_MOST: u64 = 9007199254740992;
+
+const PARTS_MOST: u64 = 1099511627776;
+
+// Binary places of a tick, and of the unit in which ratios count.
+const TICK_PLACES: u64 = 50;
+
+const PART_PLACES: u64 = 20;
+
 // Which row overloads first, by its number from 1, and whether by a T or by a ratio.
 pub enum Over {
     Within,

@@ -8,17 +8,15 @@ ghost use Rattle.branch.specs.inner.Terms.{Small, Below, Most, Fine, ove
 use crate::BRANCHES;
 use crate::Outcome;
 use crate::Over;
+use crate::PART_PLACES;
+use crate::PARTS_MOST;
+use crate::TICKS_MOST;
 use crate::Terms;
 
-// The most that a T may be, and that a ratio's floor may.
-const TICKS_MOST: u64 = 9007199254740992;
-
-const PARTS_MOST: u64 = 1099511627776;
-
 // The unit of ratios, 2^20; Q's shift; and the first size that no row's ticks have.
-const UNIT: u64 = 1048576;
+const UNIT: u64 = 1 << PART_PLACES;
 
-const SHIFT: u64 = 21;
+const SHIFT: u64 = PART_PLACES + 1;
 
 const TICKS_OVER: u64 = TICKS_MOST + 1;
 

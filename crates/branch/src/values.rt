@@ -9,8 +9,11 @@ ghost use Rattle.branch.specs.Ticks.{biasOf, tickOf};
 ghost use Rattle.branch.specs.Outcome.{tickLimit};
 ghost use Rattle.branch.specs.inner.Ready.{aloneOf, Askable};
 ghost use Rattle.branch.specs.inner.Terms.{UpTo, IsExp, Scalable, Junction, scaledOf, TermsOf};
+use crate::PART_PLACES;
 use crate::ROLES;
 use crate::Ready;
+use crate::TICK_PLACES;
+use crate::TICKS_MOST;
 use crate::Terms;
 use float::Split;
 use octave::Exponential;
@@ -18,10 +21,10 @@ use octave::Reciprocal;
 use octave::Table;
 
 // The first number that is too much for a T by itself.
-const TICKS_OVER: u64 = 9007199254740993;
+const TICKS_OVER: u64 = TICKS_MOST + 1;
 
 // By how much more a ratio is shifted down than ticks are: it counts parts of 2^-20, they 2^-50.
-const PARTS: u64 = 30;
+const PARTS: u64 = TICK_PLACES - PART_PLACES;
 
 // Shifted down by so many places or more, nothing is left of a product.
 const NOTHING: u64 = 63;
@@ -42,7 +45,7 @@ const C4: usize = 5;
 const S: usize = 6;
 
 // Ticks of a value whose power is kept as `down`: 2^50 of them make an ampere.
-const ALONE: u64 = float::BIAS as u64 + 50;
+const ALONE: u64 = float::BIAS as u64 + TICK_PLACES;
 
 // T of a value by itself, held at the first number that is too much.
 pub(crate) fn alone(x: Split) -> u64

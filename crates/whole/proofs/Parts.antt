@@ -5,7 +5,7 @@ use native.Mathlib.Nat.{mul-le-mul, mul-le-mul-right, mul-add-div-right, div-add
 use native.Mathlib.Omega.{arith}
 use lib.Pow.{pow-pos, pow-mono}
 use Rattle.whole.specs.Scale.{heldAt, reaches, stays-below}
-use Rattle.whole.specs.Quotient.{shiftedQuotient, divisorMost, shiftMost, Divisor}
+use Rattle.whole.specs.Quotient.{shiftedQuotient, divisorMost, shiftMost, Dividing}
 use Rattle.whole.proofs.Shifts.{uncut}
 
 -- a number below the largest divisor keeps within 64 bits
@@ -16,7 +16,7 @@ short n s l h =
     let c : 2 ^ s ≤ 2 ^ shiftMost = b in
     uncut n s (omega (arith, mul-le-mul a c))
 
-module _ (n s d over : ℕ) (k : Divisor s d) where
+module _ (n s d over : ℕ) (k : Dividing s d) where
   pub at-once : n < divisorMost → heldAt over ((n * 2 ^ s) % 2 ^ 64 / d) ≡ heldAt over (shiftedQuotient n s d)
   at-once h = ap (λ (x : ℕ). heldAt over (x / d)) (short n s (k .shift-small) h)
 

@@ -30,12 +30,12 @@ abbrev pub divisorMost : ℕ
 divisorMost = 2 ^ (64 - shiftMost)
 
 -- asked by `shifted_quotient`: a shift, and a divisor for it
-pub record Divisor (s d : ℕ) : Type 0 where
+pub record Dividing (s d : ℕ) : Type 0 where
   pub shift-small : s ≤ shiftMost
   pub divisor-there : 0 < d
   pub divisor-small : d ≤ divisorMost
 
-pub divisor-one : Divisor shiftMost 1
+pub divisor-one : Dividing shiftMost 1
 divisor-one = record { shift-small = omega arith; divisor-there = omega arith; divisor-small = omega arith }
 
 -- asked by `quotient`: the same, two numbers that can be taken from each other,
@@ -43,7 +43,7 @@ divisor-one = record { shift-small = omega arith; divisor-there = omega arith; d
 pub record Divisible (a b s d over : ℕ) : Type 0 where
   pub first-small : a < signedSpan
   pub second-small : b < signedSpan
-  pub divisor : Divisor s d
+  pub divisor : Dividing s d
   pub limit-small : over < signedSpan
 
 pub divisible-one : Divisible 0 0 shiftMost 1 1

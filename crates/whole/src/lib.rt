@@ -5,7 +5,7 @@ ghost use lib.IntN.{subℕ};
 ghost use Rattle.whole.specs.Signed.{intOf, signedOf, signedSpan, Closable, Subtractable};
 ghost use Rattle.whole.specs.Scale.{floorScale, heldAt};
 ghost use Rattle.whole.specs.Root.{rootOf};
-ghost use Rattle.whole.specs.Quotient.{shiftedQuotient, quotientOf, heldSize, Divisor, Divisible};
+ghost use Rattle.whole.specs.Quotient.{shiftedQuotient, quotientOf, heldSize, Dividing, Divisible};
 
 // Binary places of a word, and those of a signed one beside its sign.
 const PLACES: u64 = 64;
@@ -179,7 +179,7 @@ pub fn root(x: u64) -> u64
 
 // n * 2^s / d, rounded downward and held at `over`.
 pub fn shifted_quotient(n: u64, s: u64, d: u64, over: u64) -> u64
-    requires { ⌜ Divisor s d ⌝ }
+    requires { ⌜ Dividing s d ⌝ }
     ensures { λ r. ⌜ r ≡ heldAt over (shiftedQuotient n s d) ⌝ }
 {
     if n < DIVISOR_MOST {

@@ -21,7 +21,7 @@ use Rattle.branch.specs.declared.Over.the-variants.{Within}
 use Rattle.branch.specs.declared.Outcome.{Outcome}
 use Rattle.branch.specs.declared.Terms.{Terms}
 use Rattle.branch.specs.Rows.{Role, roles, Divisor, undivided, sumOf, Row, rowsFor, branches}
-use Rattle.branch.specs.Ticks.{expOf, tickOf, ratioOf, rootFor}
+use Rattle.branch.specs.Ticks.{tickPlaces, partPlaces, expOf, tickOf, ratioOf, rootFor, quotientShift}
 use Rattle.branch.specs.Outcome.{tickLimit, ratioLimit, someAbove, overAt, outcomeAt}
 use Rattle.branch.specs.inner.Ready.{expAt}
 
@@ -43,7 +43,7 @@ pub record IsExp (w : ℕ) (v : ℤ) (g : Exponential) : Type 0 where
 
 -- by how many places ratios, in parts of 2^-20, are shifted further down than ticks of 2^-50
 abbrev pub moreParts : ℕ
-moreParts = 30
+moreParts = tickPlaces - partPlaces
 
 -- asked by `scaled`: a worked value, an exponential, and no further shift than a ratio's
 pub record Scalable (x : Split) (g : Exponential) (more : ℕ) : Type 0 where
@@ -125,7 +125,7 @@ overUp x (suc n) k = rowOver x k (overUp x n (suc k))
 
 -- Q over the roots for two floors
 unfoldable pub dividedOf : ℕ → ℕ → ℕ → ℕ → ℤ
-dividedOf plus minus left right = quotientOf (subℕ plus minus) 21 (rootFor left + rootFor right)
+dividedOf plus minus left right = quotientOf (subℕ plus minus) quotientShift (rootFor left + rootFor right)
 
 abbrev pub ticksAt : Terms → ℕ → ℤ
 ticksAt x k = dividedOf (getD (x .plus) k 0) (getD (x .minus) k 0) (getD (x .left) k 0) (getD (x .right) k 0)
