@@ -1,14 +1,8 @@
 //! A card: its sixteen numbers clipped and worked, or the refusal's number.
 
-use crate::numbers::floor_scaled;
-use crate::numbers::TICK_LIMIT;
+use crate::numbers::{Octave, Scaled, ONE, TICK_LIMIT};
 
-#[derive(Clone, Copy, Debug, PartialEq)]
-pub struct Scaled {
-    pub a: u64,
-    pub b: i64,
-}
-
+/// A card as its currents need it.
 #[derive(Clone, Copy, Debug, PartialEq)]
 pub struct Card {
     pub sn: Scaled,
@@ -20,12 +14,14 @@ pub struct Card {
     pub sf: Scaled,
     pub rex: Scaled,
     pub rsub: Scaled,
-    pub octave: i64,
-    pub second: i64,
+    pub octave: Octave,
+    pub second: Octave,
     pub exsub: bool,
     pub direct: bool,
-    /// T of bulk, side, nonideal, ex, sub and sf by themselves; nothing where it is above the limit.
-    pub alone: [Option<u64>; 6],
+    /// T of bulk, side, nonideal, ex, sub and sf by themselves.
+    pub alone: [i64; 6],
+    /// Negative where a row overloads by one of those at any voltages.
+    pub over: i64,
 }
 
 pub struct Clipped {
@@ -86,10 +82,10 @@ pub fn clip(record: &[u8]) -> Result<Clipped, u32> {
     Ok(Clipped { numbers, mask })
 }
 
-/// A finite number that is not negative, as a * 2^b.
-fn split(x: f64) -> Scaled {
+/// A finite number that is not negative, as a * 2^b, for its product with m * 2^n in units of 2^-(30 + places).
+fn scaled(x: f64, places: i64) -> Scaled {
     if x == 0.0 {
-        return Scaled { a: 0, b: 0 };
+        return Scaled { a: 0, shift: 0 };
     }
     let bits = x.to_bits();
     let field = (bits >> 52) as i64;
@@ -104,9 +100,19 @@ fn split(x: f64) -> Scaled {
         k -= 1;
     }
     Scaled {
-        a: f >> 22,
-        b: k + 22,
+        a: (f >> 22) as u32,
+        shift: -(k + 22 + places) as i32,
     }
+}
+
+/// In ticks of 2^-50.
+fn current(x: f64) -> Scaled {
+    scaled(x, 20)
+}
+
+/// In parts of 2^-20.
+fn ratio(x: f64) -> Scaled {
+    scaled(x, -10)
 }
 
 pub fn judge(record: &[u8]) -> Result<Card, u32> {
@@ -135,24 +141,25 @@ pub fn judge(record: &[u8]) -> Result<Card, u32> {
     if all.iter().any(|v| !v.is_finite()) || product.trunc() > 1e9 {
         return Err(10);
     }
-    let alone = [bulk, side, nonideal, ex, sub, sf].map(|v| {
-        let s = split(v);
-        floor_scaled(s.a, s.b + 50, TICK_LIMIT)
-    });
+    let exsub = exsub == 1.0;
+    let alone = [bulk, side, nonideal, ex, sub, sf].map(|v| current(v).floor(ONE));
+    let counts = [true, true, true, true, !exsub, true];
+    let over = alone.iter().zip(counts).any(|(t, c)| c && *t > TICK_LIMIT);
     Ok(Card {
-        sn: split(sn),
-        bulk: split(bulk),
-        side: split(side),
-        nonideal: split(nonideal),
-        ex: split(ex),
-        sub: split(sub),
-        sf: split(sf),
-        rex: split(rex),
-        rsub: split(rsub),
-        octave: octave as i64,
-        second: product as i64,
-        exsub: exsub == 1.0,
+        sn: current(sn),
+        bulk: current(bulk),
+        side: current(side),
+        nonideal: current(nonideal),
+        ex: current(ex),
+        sub: current(sub),
+        sf: current(sf),
+        rex: ratio(rex),
+        rsub: ratio(rsub),
+        octave: Octave::of(octave as i64),
+        second: Octave::of(product as i64),
+        exsub,
         direct: rcbli == 0.0,
         alone,
+        over: -(over as i64),
     })
 }

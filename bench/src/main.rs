@@ -65,13 +65,13 @@ fn vectors(folder: &Path) {
         );
     }
     for file in ["currents.tsv", "currents-rich.tsv"] {
-        let table = numbers::table();
+        let curve = numbers::curve();
         for line in std::fs::read_to_string(folder.join(file)).unwrap().lines() {
             let cells: Vec<&str> = line.split('\t').collect();
             let v: Vec<i64> = cells[1].split(' ').map(|x| x.parse().unwrap()).collect();
             let got = match card::judge(&unhex(cells[0])) {
                 Err(k) => format!("refused {k}"),
-                Ok(c) => match currents::currents(&table, &c, &v.try_into().unwrap()) {
+                Ok(c) => match currents::currents(&curve, &c, &v.try_into().unwrap()) {
                     None => "refused".into(),
                     Some(i) => format!("ok {}", i.map(|x| x.to_string()).join(" ")),
                 },
@@ -132,26 +132,26 @@ fn time_root() {
 }
 
 fn time_exponential() {
-    let table = numbers::table();
-    let octave = std::hint::black_box(17_808_740);
+    let curve = numbers::curve();
+    let octave = numbers::Octave::of(std::hint::black_box(17_808_740));
     let (mut x, mut sum) = (1u64, 0u64);
     for _ in 0..50_000_000 {
         x = (x * 1103 + 12345) % 65536;
-        let g = numbers::gain(&table, 10 * x as i64 - 10_000, octave);
+        let g = numbers::gain(&curve, 10 * x as i64 - 10_000, octave);
         sum = (sum + g.m + (g.n + 8192) as u64) % (1 << 30);
     }
     println!("{sum}");
 }
 
 fn time_currents() {
-    let table = numbers::table();
+    let curve = numbers::curve();
     let c = card::judge(&timed_record()).unwrap();
     let (mut x, mut sum) = (1u32, 0u64);
     for _ in 0..20_000_000 {
         x = (x * 1103 + 12345) % 65536;
         let b = 600_000 + 2 * x as i64;
         let h = 2_000_000 - x as i64;
-        let t = currents::currents(&table, &c, &[0, b, b, h, h, h, 0]).unwrap_or([0; 7]);
+        let t = currents::currents(&curve, &c, &[0, b, b, h, h, h, 0]).unwrap_or([0; 7]);
         for (k, t) in t.iter().enumerate() {
             if *t != 3 * k as i64 + 1 {
                 sum = (sum + k as u64 + 1) % 1_000_000_007;
