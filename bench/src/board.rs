@@ -3,7 +3,7 @@
 use crate::card::{judge, Card};
 use crate::currents::{by_role, currents, Currents};
 use crate::library::well_formed;
-use crate::numbers::{curve, Curve};
+use crate::numbers::{Curve, CURVE};
 
 pub const NODES: usize = 32;
 const CARDS: usize = 16;
@@ -90,7 +90,7 @@ impl Default for Board {
 impl Board {
     pub fn fresh() -> Self {
         Board {
-            curve: curve(),
+            curve: *CURVE,
             cards: [const { None }; CARDS],
             issues: [0; PLACES],
             standing: [NOWHERE; PLACES],

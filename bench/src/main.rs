@@ -65,7 +65,7 @@ fn vectors(folder: &Path) {
         );
     }
     for file in ["currents.tsv", "currents-rich.tsv"] {
-        let curve = numbers::curve();
+        let curve = *numbers::CURVE;
         for line in std::fs::read_to_string(folder.join(file)).unwrap().lines() {
             let cells: Vec<&str> = line.split('\t').collect();
             let v: Vec<i64> = cells[1].split(' ').map(|x| x.parse().unwrap()).collect();
@@ -132,7 +132,7 @@ fn time_root() {
 }
 
 fn time_exponential() {
-    let curve = numbers::curve();
+    let curve = *numbers::CURVE;
     let octave = numbers::Octave::of(std::hint::black_box(17_808_740));
     let (mut x, mut sum) = (1u64, 0u64);
     for _ in 0..50_000_000 {
@@ -144,7 +144,7 @@ fn time_exponential() {
 }
 
 fn time_currents() {
-    let curve = numbers::curve();
+    let curve = *numbers::CURVE;
     let c = card::judge(&timed_record()).unwrap();
     let (mut x, mut sum) = (1u32, 0u64);
     for _ in 0..20_000_000 {
@@ -152,11 +152,7 @@ fn time_currents() {
         let b = 600_000 + 2 * x as i64;
         let h = 2_000_000 - x as i64;
         let t = currents::currents(&curve, &c, &[0, b, b, h, h, h, 0]).unwrap_or([0; 7]);
-        for (k, t) in t.iter().enumerate() {
-            if *t != 3 * k as i64 + 1 {
-                sum = (sum + k as u64 + 1) % 1_000_000_007;
-            }
-        }
+        sum = t.iter().fold(sum, |s, t| s.wrapping_add(*t as u64));
     }
     println!("{sum}");
 }

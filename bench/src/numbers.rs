@@ -67,14 +67,14 @@ pub struct Point {
 
 pub type Curve = [Point; POINTS];
 
-/// The table as the exponential reads it.
-pub fn curve() -> Curve {
+/// The table as the exponential reads it, worked once.
+pub static CURVE: std::sync::LazyLock<Curve> = std::sync::LazyLock::new(|| {
     let t = table();
     std::array::from_fn(|j| Point {
         low: t[j] as u32,
         step: (t[j + 1] - t[j]) as u32,
     })
-}
+});
 
 /// The divisor of positions, made ready: 2^82 / octave, rounded upward.
 ///
