@@ -1,6 +1,6 @@
 //! A card: its sixteen numbers clipped and worked, or the refusal's number.
 
-use crate::numbers::{Octave, Scaled, ONE, TICK_LIMIT};
+use crate::numbers::{highest, Octave, Scaled, RATIO_LIMIT, TICK_LIMIT};
 
 /// A card as its currents need it.
 #[derive(Clone, Copy, Debug, PartialEq)]
@@ -18,10 +18,31 @@ pub struct Card {
     pub second: Octave,
     pub exsub: bool,
     pub direct: bool,
-    /// T of bulk, side, nonideal, ex, sub and sf by themselves.
-    pub alone: [i64; 6],
-    /// Negative where a row overloads by one of those at any voltages.
-    pub over: i64,
+    pub alone: Alone,
+    pub highest: Highest,
+}
+
+/// T of values by themselves.
+#[derive(Clone, Copy, Debug, PartialEq)]
+pub struct Alone {
+    pub bulk: i64,
+    pub side: i64,
+    pub nonideal: i64,
+    pub ex: i64,
+    pub sub: i64,
+    pub sf: i64,
+}
+
+/// The highest positions without an overload, for each voltage of the rows.
+#[derive(Clone, Copy, Debug, PartialEq)]
+pub struct Highest {
+    pub b2e1: i64,
+    pub b2c2: i64,
+    pub b1e1: i64,
+    pub second: i64,
+    pub b1c4: i64,
+    pub sc1: i64,
+    pub sc4: i64,
 }
 
 pub struct Clipped {
@@ -83,9 +104,13 @@ pub fn clip(record: &[u8]) -> Result<Clipped, u32> {
 }
 
 /// A finite number that is not negative, as a * 2^b, for its product with m * 2^n in units of 2^-(30 + places).
-fn scaled(x: f64, places: i64) -> Scaled {
+fn scaled(x: f64, places: i64, limit: i64) -> Scaled {
     if x == 0.0 {
-        return Scaled { a: 0, shift: 0 };
+        return Scaled {
+            a: 0,
+            shift: 0,
+            limit,
+        };
     }
     let bits = x.to_bits();
     let field = (bits >> 52) as i64;
@@ -100,19 +125,20 @@ fn scaled(x: f64, places: i64) -> Scaled {
         k -= 1;
     }
     Scaled {
-        a: (f >> 22) as u32,
-        shift: -(k + 22 + places) as i32,
+        a: f >> 22,
+        shift: -(k + 22 + places),
+        limit,
     }
 }
 
 /// In ticks of 2^-50.
 fn current(x: f64) -> Scaled {
-    scaled(x, 20)
+    scaled(x, 20, TICK_LIMIT)
 }
 
 /// In parts of 2^-20.
 fn ratio(x: f64) -> Scaled {
-    scaled(x, -10)
+    scaled(x, -10, RATIO_LIMIT)
 }
 
 pub fn judge(record: &[u8]) -> Result<Card, u32> {
@@ -142,24 +168,49 @@ pub fn judge(record: &[u8]) -> Result<Card, u32> {
         return Err(10);
     }
     let exsub = exsub == 1.0;
-    let alone = [bulk, side, nonideal, ex, sub, sf].map(|v| current(v).floor(ONE));
-    let counts = [true, true, true, true, !exsub, true];
-    let over = alone.iter().zip(counts).any(|(t, c)| c && *t > TICK_LIMIT);
+    let [sn, bulk, side, nonideal, ex, sub, sf] =
+        [sn, bulk, side, nonideal, ex, sub, sf].map(current);
+    let [rex, rsub] = [rex, rsub].map(ratio);
+    let mut highest = Highest {
+        b2e1: highest(&[sn, bulk]),
+        b2c2: highest(&[sn]),
+        b1e1: highest(&[side]),
+        second: highest(&[nonideal]),
+        b1c4: highest(&[ex, sub, rex, rsub]),
+        sc1: highest(&[sf]),
+        sc4: highest(&[sub]),
+    };
+    let mut alone = |v: Scaled, counts: bool| {
+        v.alone().unwrap_or_else(|| {
+            if counts {
+                highest.b2e1 = -(1 << 40); // no voltage is low enough
+            }
+            0
+        })
+    };
+    let alone = Alone {
+        bulk: alone(bulk, true),
+        side: alone(side, true),
+        nonideal: alone(nonideal, true),
+        ex: alone(ex, true),
+        sub: alone(sub, !exsub),
+        sf: alone(sf, true),
+    };
     Ok(Card {
-        sn: current(sn),
-        bulk: current(bulk),
-        side: current(side),
-        nonideal: current(nonideal),
-        ex: current(ex),
-        sub: current(sub),
-        sf: current(sf),
-        rex: ratio(rex),
-        rsub: ratio(rsub),
+        sn,
+        bulk,
+        side,
+        nonideal,
+        ex,
+        sub,
+        sf,
+        rex,
+        rsub,
         octave: Octave::of(octave as i64),
         second: Octave::of(product as i64),
         exsub,
         direct: rcbli == 0.0,
         alone,
-        over: -(over as i64),
+        highest,
     })
 }

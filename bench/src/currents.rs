@@ -1,7 +1,7 @@
 //! The seven branch currents of a transistor.
 
 use crate::card::Card;
-use crate::numbers::{gain, quotient, root, Curve, RATIO_LIMIT, TICK_LIMIT};
+use crate::numbers::{gain, quotient, root, Curve};
 
 /// Voltages of E1, B1, B2, C1, C2, C4 and S, in microvolts.
 pub type Volts = [i64; 7];
@@ -32,44 +32,40 @@ fn shared(n: i64, f: i64) -> i64 {
     quotient(n, (1 << 20) + root(((1 << 20) + f as u64) << 20))
 }
 
-/// The currents, or nothing where the transistor overloads. Each exponential is worked once for the rows that share it, and whether a value is past its limit is asked once, at the end.
-#[inline]
+/// The currents, or nothing where the transistor overloads. Each exponential is worked once for the rows that share it, and judged by its position alone.
+#[inline(always)]
 pub fn currents(curve: &Curve, c: &Card, v: &Volts) -> Option<Currents> {
     let [e1, b1, b2, c1, c2, c4, s] = *v;
-    let g_b2e1 = gain(curve, b2 - e1, c.octave);
-    let g_b2c2 = gain(curve, b2 - c2, c.octave);
-    let g_b1e1 = gain(curve, b1 - e1, c.octave);
-    let g_second = gain(curve, b2 - e1, c.second);
-    let g_b1c4 = gain(curve, b1 - c4, c.octave);
-    let g_sc1 = gain(curve, s - c1, c.octave);
-    let forward = c.sn.floor(g_b2e1);
-    let reverse = c.sn.floor(g_b2c2);
-    let bulk = c.bulk.floor(g_b2e1);
-    let side = c.side.floor(g_b1e1);
-    let nonideal = c.nonideal.floor(g_second);
-    let ex = c.ex.floor(g_b1c4);
-    let sub = c.sub.floor(g_b1c4);
-    let sf = c.sf.floor(g_sc1);
-    let minus = if c.exsub {
-        c.sub.floor(gain(curve, s - c4, c.octave))
-    } else {
-        c.alone[4]
-    };
-    let f_ex = c.rex.floor(g_b1c4);
-    let f_sub = c.rsub.floor(g_b1c4);
-    // a difference is negative where a value is past its limit, and so is the OR of them all
-    let ticks = [forward, reverse, bulk, side, nonideal, ex, sub, sf, minus];
-    let room = ticks.iter().fold(c.over, |o, t| o | (TICK_LIMIT - t));
-    if (room | (RATIO_LIMIT - f_ex) | (RATIO_LIMIT - f_sub)) < 0 {
+    let b2e1 = gain(curve, b2 - e1, c.octave);
+    let b2c2 = gain(curve, b2 - c2, c.octave);
+    let b1e1 = gain(curve, b1 - e1, c.octave);
+    let second = gain(curve, b2 - e1, c.second);
+    let b1c4 = gain(curve, b1 - c4, c.octave);
+    let sc1 = gain(curve, s - c1, c.octave);
+    let most = &c.highest;
+    // a difference is negative where a position is too high, and so is the OR of them all
+    let mut room = (most.b2e1 - b2e1.p)
+        | (most.b2c2 - b2c2.p)
+        | (most.b1e1 - b1e1.p)
+        | (most.second - second.p)
+        | (most.b1c4 - b1c4.p)
+        | (most.sc1 - sc1.p);
+    let mut minus = c.alone.sub;
+    if c.exsub {
+        let sc4 = gain(curve, s - c4, c.octave);
+        room |= most.sc4 - sc4.p;
+        minus = c.sub.floor(sc4);
+    }
+    if room < 0 {
         return None;
     }
     Some([
-        forward - reverse,
-        bulk - c.alone[0],
-        side - c.alone[1],
-        nonideal - c.alone[2],
-        shared(ex - c.alone[3], f_ex),
-        shared(sub - minus, f_sub),
-        sf - c.alone[5],
+        c.sn.floor(b2e1) - c.sn.floor(b2c2),
+        c.bulk.floor(b2e1) - c.alone.bulk,
+        c.side.floor(b1e1) - c.alone.side,
+        c.nonideal.floor(second) - c.alone.nonideal,
+        shared(c.ex.floor(b1c4) - c.alone.ex, c.rex.floor(b1c4)),
+        shared(c.sub.floor(b1c4) - minus, c.rsub.floor(b1c4)),
+        c.sf.floor(sc1) - c.alone.sf,
     ])
 }

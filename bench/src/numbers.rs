@@ -89,48 +89,75 @@ impl Octave {
 
     /// floor(microvolts * 65,536,000 / octave). The product's upper word has 32 places after the point and lacks less than one of the last; with 2 added it is above the
     /// true quotient by less than 2.3 / 2^32, which is less than 10^-9, the least distance of a quotient from the next whole number.
-    #[inline]
+    #[inline(always)]
     fn position(self, microvolts: i64) -> i64 {
         let scaled = microvolts * (65_536_000 << 14);
         (((scaled as i128 * self.0 as i128) >> 64) as i64 + 2) >> 32
     }
 }
 
-/// G(V) = m * 2^(n - 30).
+/// G(V) = m * 2^(n - 30) at the position p of V.
 #[derive(Clone, Copy)]
 pub struct Gain {
     pub m: u64,
     pub n: i64,
+    pub p: i64,
 }
 
-/// G(0).
-pub const ONE: Gain = Gain { m: 1 << 30, n: 0 };
-
-/// The exponential of a voltage in microvolts.
-#[inline]
-pub fn gain(curve: &Curve, microvolts: i64, octave: Octave) -> Gain {
-    let p = octave.position(microvolts);
+/// The exponential at a position.
+#[inline(always)]
+fn gain_at(curve: &Curve, p: i64) -> Gain {
     let f = p as u64 & 0xffff;
     let point = curve[(f / STEPS) as usize];
-    Gain {
-        m: point.low as u64 + ((point.step as u64 * (f % STEPS)) >> 10),
-        n: p >> 16,
-    }
+    let m = point.low as u64 + ((point.step as u64 * (f % STEPS)) >> 10);
+    Gain { m, n: p >> 16, p }
 }
 
-/// A value a * 2^b with the scale of its use: floor(a * m * 2^-(shift - n)) of a gain.
+/// The exponential of a voltage in microvolts.
+#[inline(always)]
+pub fn gain(curve: &Curve, microvolts: i64, octave: Octave) -> Gain {
+    gain_at(curve, octave.position(microvolts))
+}
+
+/// A value a * 2^b with the scale and the limit of its use: floor(a * m * 2^(n - shift)) of a gain is to be at most the limit.
 #[derive(Clone, Copy, Debug, PartialEq)]
 pub struct Scaled {
-    pub a: u32,
-    pub shift: i32,
+    pub a: u64,
+    pub shift: i64,
+    pub limit: i64,
 }
 
 impl Scaled {
-    /// Since a * m is 0 or from 2^60 to 2^62, a shift above 63 gives 0 as 63 does, and one below 0 is past every limit as 0 is.
-    #[inline]
+    /// The floor, where it is within the limit. Since a * m is 0 or from 2^60 to 2^62, a shift above 63 gives 0 as 63 does, and one below 0 is past every limit.
+    #[inline(always)]
     pub fn floor(self, g: Gain) -> i64 {
-        ((self.a as u64 * g.m) >> (self.shift as i64 - g.n).clamp(0, 63)) as i64
+        ((self.a * g.m) >> ((self.shift - g.n) as u64).min(63)) as i64
     }
+
+    fn within(self, g: Gain) -> bool {
+        self.a == 0 || (self.shift >= g.n && self.floor(g) <= self.limit)
+    }
+
+    /// The floor of the value by itself.
+    pub fn alone(self) -> Option<i64> {
+        let g = gain_at(&CURVE, 0);
+        self.within(g).then(|| self.floor(g))
+    }
+}
+
+/// The highest position at which all values are within their limits: the gain grows with the position, so they are at every lower one, and one comparison judges them all.
+pub fn highest(values: &[Scaled]) -> i64 {
+    // no position is as far out as these
+    let (mut low, mut high) = (-(1 << 29), 1 << 29);
+    while high - low > 1 {
+        let middle = (low + high) / 2;
+        if values.iter().all(|v| v.within(gain_at(&CURVE, middle))) {
+            low = middle;
+        } else {
+            high = middle;
+        }
+    }
+    low
 }
 
 /// The greatest whole number whose square is at most x, for x below 2^62. The guess is never too low: a square below 2^62 is off by at most one part in 2^54 of its root
