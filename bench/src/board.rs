@@ -37,8 +37,8 @@ pub struct Board {
     issues: [i64; PLACES],
     standing: [Standing; PLACES],
     currents: [Currents; PLACES],
-    /// Where a move works the currents that are to come.
-    coming: [Currents; PLACES],
+    /// The currents that a move took out, until it is known to be good.
+    taken_out: [Currents; PLACES],
     /// The places that are taken, and for each node those of the transistors that name it.
     taken: u64,
     naming: [u64; NODES],
@@ -95,7 +95,7 @@ impl Board {
             issues: [0; PLACES],
             standing: [NOWHERE; PLACES],
             currents: [[0; 7]; PLACES],
-            coming: [[0; 7]; PLACES],
+            taken_out: [[0; 7]; PLACES],
             taken: 0,
             naming: [0; NODES],
             volts: [0; NODES],
@@ -133,7 +133,7 @@ impl Board {
     }
 
     /// The currents that the transistor at a place would have, or nothing where it would overload.
-    #[inline]
+    #[inline(always)]
     fn worked(&self, t: &Standing) -> Option<Currents> {
         let card = &self.cards[t.card as usize % CARDS].as_ref()?.card;
         let volts = t.nodes.map(|n| self.volts[n as usize % NODES]);
@@ -181,24 +181,33 @@ impl Board {
         }
         let before = self.volts[n];
         self.volts[n] = microvolts;
-        let mut good = true;
         for place in Members(self.naming[n]) {
-            match self.worked(&self.standing[place]) {
-                Some(i) => self.coming[place] = i,
-                None => good = false,
-            }
-        }
-        if !good {
-            self.volts[n] = before;
-            return Err(15);
-        }
-        for place in Members(self.naming[n]) {
-            let (old, new) = (self.currents[place], self.coming[place]);
-            let change = std::array::from_fn(|k| new[k] - old[k]);
-            add(&mut self.totals, &self.standing[place].nodes, change);
-            self.currents[place] = new;
+            let Some(i) = self.worked(&self.standing[place]) else {
+                self.volts[n] = before;
+                self.put_back(self.naming[n] & ((1 << place) - 1));
+                return Err(15);
+            };
+            self.taken_out[place] = self.exchange(place, i);
         }
         Ok(())
+    }
+
+    /// Takes the held currents of a transistor out of the totals and puts others in; gives those that were held.
+    #[inline(always)]
+    fn exchange(&mut self, place: usize, new: Currents) -> Currents {
+        let old = self.currents[place];
+        let change = std::array::from_fn(|k| new[k] - old[k]);
+        add(&mut self.totals, &self.standing[place].nodes, change);
+        self.currents[place] = new;
+        old
+    }
+
+    /// Undoes a move at the places that it has come to.
+    #[cold]
+    fn put_back(&mut self, places: u64) {
+        for place in Members(places) {
+            self.exchange(place, self.taken_out[place]);
+        }
     }
 
     pub fn lift(&mut self, issue: i64) -> Result<(), u32> {
