@@ -2,7 +2,7 @@
 //!
 //!   bench vectors FOLDER    this implementation against a folder of outside vectors
 //!   bench desk SCRIPT       what the desk must answer to a script
-//!   bench time NAME         one of the timed runs: root, exponential, currents, empty, still, move, all, pair, read, find
+//!   bench time NAME TIMES   one of the timed runs: root, exponential, currents, empty, still, move, all, pair, read, find
 //!   bench differ ROUNDS     random inputs through the built programs (`./desk`, `./listing` of the project) and this implementation
 
 mod board;
@@ -122,20 +122,20 @@ fn timed_record() -> Vec<u8> {
     words.map(f64::to_le_bytes).concat()
 }
 
-fn time_root() {
+fn time_root(times: u64) {
     let (mut x, mut sum) = (1u64, 0u64);
-    for n in 0..50_000_000 {
+    for n in 0..times {
         x = (x * 1103 + 12345) % 65536;
         sum = (sum + numbers::root((x << 46) + n)) % (1 << 30);
     }
     println!("{sum}");
 }
 
-fn time_exponential() {
+fn time_exponential(times: u64) {
     let curve = *numbers::CURVE;
     let octave = numbers::Octave::of(std::hint::black_box(17_808_740));
     let (mut x, mut sum) = (1u64, 0u64);
-    for _ in 0..50_000_000 {
+    for _ in 0..times {
         x = (x * 1103 + 12345) % 65536;
         let g = numbers::gain(&curve, 10 * x as i64 - 10_000, octave);
         sum = (sum + g.m + (g.n + 8192) as u64) % (1 << 30);
@@ -143,11 +143,11 @@ fn time_exponential() {
     println!("{sum}");
 }
 
-fn time_currents() {
+fn time_currents(times: u64) {
     let curve = *numbers::CURVE;
     let c = card::judge(&timed_record()).unwrap();
     let (mut x, mut sum) = (1u32, 0u64);
-    for _ in 0..20_000_000 {
+    for _ in 0..times {
         x = (x * 1103 + 12345) % 65536;
         let b = 600_000 + 2 * x as i64;
         let h = 2_000_000 - x as i64;
@@ -158,7 +158,7 @@ fn time_currents() {
 }
 
 /// A voltage moved so often, on a board with so many transistors; the first move brings the collectors to 2 V.
-fn time_moves(times: i64, places: i64, node: impl Fn(i64) -> i64, microvolts: i64) {
+fn time_moves(times: u64, places: i64, node: impl Fn(u64) -> u64, microvolts: i64) {
     let mut b = board::Board::fresh();
     b.load(b"a", &timed_record()).unwrap();
     for i in 0..places {
@@ -170,14 +170,14 @@ fn time_moves(times: i64, places: i64, node: impl Fn(i64) -> i64, microvolts: i6
     for n in 0..times {
         b.shift(next.0, next.1).unwrap();
         x = (x * 1103 + 12345) % 65536;
-        next = (node(n), microvolts + x as i64);
+        next = (node(n) as i64, microvolts + x as i64);
     }
-    println!("{:?}", b.node(20));
+    println!("{:?}", b.reading());
 }
 
-fn time_pair() {
+fn time_pair(times: u64) {
     let mut b = board::Board::fresh();
-    for n in 0..1_000_000 {
+    for n in 0..times {
         if n % 32_000 == 0 {
             b = board::Board::fresh();
             b.load(b"a", &timed_record()).unwrap();
@@ -185,7 +185,7 @@ fn time_pair() {
         let i = b.place(1, &[0, 1, 1, 2, 2, 2, 3]).unwrap();
         b.lift(i).unwrap();
     }
-    println!("{:?}", b.node(3));
+    println!("{:?}", b.reading());
 }
 
 /// A good library of 256 cards.
@@ -202,10 +202,10 @@ fn timed_library() -> Vec<u8> {
     l
 }
 
-fn time_read() {
+fn time_read(times: usize) {
     let mut l = timed_library();
     let (mut names, mut words, mut sum) = (vec![0; 4096], vec![0; 4096], 0);
-    for n in 0..100_000 {
+    for n in 0..times {
         l[4102] = 48 + (n % 10) as u8;
         library::read(std::hint::black_box(&l), &mut names, &mut words).unwrap();
         sum = (sum + 1 + words[n % 4096] % 7 + names[n % 4096] as u64) % (1 << 30);
@@ -213,13 +213,29 @@ fn time_read() {
     println!("{sum}");
 }
 
-fn time_find() {
+fn time_find(times: u64) {
     let (mut l, mut sum) = (timed_library(), 0);
-    for n in 0..100_000 {
+    for n in 0..times {
         l[4102] = 48 + (n % 10) as u8;
         sum += library::locate(std::hint::black_box(&l), b"npn200").unwrap() % 7;
     }
     println!("{sum}");
+}
+
+fn time(name: &str, times: u64) {
+    match name {
+        "root" => time_root(times),
+        "exponential" => time_exponential(times),
+        "currents" => time_currents(times),
+        "empty" => time_moves(times, 0, |n| 1 + n % 8, 600_000),
+        "still" => time_moves(times, 64, |_| 31, 600_000),
+        "move" => time_moves(times, 64, |n| 1 + n % 8, 600_000),
+        "all" => time_moves(times, 64, |_| 20, 2_000_000),
+        "pair" => time_pair(times),
+        "read" => time_read(times as usize),
+        "find" => time_find(times),
+        _ => println!("no timed run {name}"),
+    }
 }
 
 fn main() {
@@ -231,16 +247,7 @@ fn main() {
                 &protocol::Desk::new(read_file).run(&std::fs::read(script).unwrap())
             )
         ),
-        ["time", "root"] => time_root(),
-        ["time", "exponential"] => time_exponential(),
-        ["time", "currents"] => time_currents(),
-        ["time", "empty"] => time_moves(1_000_000, 0, |n| 1 + n % 8, 600_000),
-        ["time", "still"] => time_moves(200_000, 64, |_| 31, 600_000),
-        ["time", "move"] => time_moves(200_000, 64, |n| 1 + n % 8, 600_000),
-        ["time", "all"] => time_moves(50_000, 64, |_| 20, 2_000_000),
-        ["time", "pair"] => time_pair(),
-        ["time", "read"] => time_read(),
-        ["time", "find"] => time_find(),
+        ["time", name, times] => time(name, times.parse().unwrap()),
         ["vectors", folder] => vectors(&std::fs::canonicalize(folder).unwrap()),
         ["differ", rounds] => {
             let top = concat!(env!("CARGO_MANIFEST_DIR"), "/..");
@@ -251,6 +258,8 @@ fn main() {
                 &program("listing"),
             );
         }
-        _ => println!("usage: bench vectors FOLDER | desk SCRIPT | time NAME | differ ROUNDS"),
+        _ => {
+            println!("usage: bench vectors FOLDER | desk SCRIPT | time NAME TIMES | differ ROUNDS")
+        }
     }
 }

@@ -5,23 +5,19 @@ const STEPS: u64 = 1024;
 pub const TICK_LIMIT: i64 = 1 << 53;
 pub const RATIO_LIMIT: i64 = 1 << 40;
 
-/// The table of the exponential over one octave, worked from its rule with long multiplication.
+/// The table of the exponential over one octave: a guess, and its rule with long multiplication.
 fn table() -> [u64; POINTS + 1] {
-    let mut t = [0u64; POINTS + 1];
-    for (j, entry) in t.iter_mut().enumerate() {
-        // the greatest t with t^64 <= 2^(1920 + j), by bisection
-        let (mut low, mut high) = (1u64 << 30, (1u64 << 31) + 1);
-        while high - low > 1 {
-            let middle = (low + high) / 2;
-            if power64_at_most(middle, 1920 + j) {
-                low = middle;
-            } else {
-                high = middle;
-            }
+    std::array::from_fn(|j| {
+        // the greatest t with t^64 <= 2^(1920 + j)
+        let mut t = (30.0 + j as f64 / POINTS as f64).exp2() as u64;
+        while !power64_at_most(t, 1920 + j) {
+            t -= 1;
         }
-        *entry = low;
-    }
-    t
+        while power64_at_most(t + 1, 1920 + j) {
+            t += 1;
+        }
+        t
+    })
 }
 
 /// Whether x^64 <= 2^bits, exactly.
