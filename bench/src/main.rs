@@ -2,7 +2,7 @@
 //!
 //!   bench vectors FOLDER    this implementation against a folder of outside vectors
 //!   bench desk SCRIPT       what the desk must answer to a script
-//!   bench time NAME TIMES   one of the timed runs: root, exponential, currents, empty, still, move, all, pair, read, find
+//!   bench time NAME TIMES   one of the timed runs: root, exponential, currents, saturated, empty, still, move, all, pair, read, find
 //!   bench differ ROUNDS     random inputs through the built programs (`./desk`, `./listing` of the project) and this implementation
 
 mod board;
@@ -143,15 +143,17 @@ fn time_exponential(times: u64) {
     println!("{sum}");
 }
 
-fn time_currents(times: u64) {
+/// Seven voltages of which no two go together, so that no exponential serves two rows by chance.
+fn time_currents(times: u64, collector: i64, slope: i64) {
     let curve = *numbers::CURVE;
     let c = card::judge(&timed_record()).unwrap();
     let (mut x, mut sum) = (1u32, 0u64);
     for _ in 0..times {
         x = (x * 1103 + 12345) % 65536;
-        let b = 600_000 + 2 * x as i64;
-        let h = 2_000_000 - x as i64;
-        let t = currents::currents(&curve, &c, &[0, b, b, h, h, h, 0]).unwrap_or([0; 7]);
+        let y = x as i64;
+        let (b, h) = (600_000 + 2 * y, collector + slope * y);
+        let v = [0, b, b - y / 8, h, h + y / 16, h + y / 32, 0];
+        let t = currents::currents(&curve, &c, &v).unwrap_or([0; 7]);
         sum = t.iter().fold(sum, |s, t| s.wrapping_add(*t as u64));
     }
     println!("{sum}");
@@ -226,7 +228,8 @@ fn time(name: &str, times: u64) {
     match name {
         "root" => time_root(times),
         "exponential" => time_exponential(times),
-        "currents" => time_currents(times),
+        "currents" => time_currents(times, 2_000_000, -1),
+        "saturated" => time_currents(times, 0, 1),
         "empty" => time_moves(times, 0, |n| 1 + n % 8, 600_000),
         "still" => time_moves(times, 64, |_| 31, 600_000),
         "move" => time_moves(times, 64, |n| 1 + n % 8, 600_000),
