@@ -4,17 +4,22 @@ pub fn well_formed(name: &[u8]) -> bool {
     (1..=16).contains(&name.len()) && name.iter().all(|b| (0x21..=0x7e).contains(b))
 }
 
-/// A name with its padding: no branch for a byte, so that sixteen are judged at once.
+const fn sixteen(byte: u8) -> u128 {
+    u128::from_le_bytes([byte; 16])
+}
+
+/// A name with its padding, its sixteen bytes judged at once by the upper bits of sums.
 #[inline]
 fn padded_well(name: &[u8; 16]) -> bool {
-    let mut good = name[0] != 0;
-    for b in name {
-        good &= *b == 0 || (0x21..=0x7e).contains(b);
-    }
-    for k in 1..16 {
-        good &= name[k - 1] != 0 || name[k] == 0;
-    }
-    good
+    let key = u128::from_le_bytes(*name);
+    let upper = |x: u128| x & sixteen(0x80);
+    let filled = upper(key.wrapping_add(sixteen(0x7f)));
+    let from_21 = upper(key.wrapping_add(sixteen(0x5f)));
+    let past_7e = upper(key | key.wrapping_add(sixteen(1)));
+    // 0xff for each filled byte: with 1 added it has no bit in common where they stand first
+    let whole = (filled << 1).wrapping_sub(filled >> 7);
+    let gap = whole & whole.wrapping_add(1);
+    name[0] != 0 && past_7e | (filled ^ from_21) | gap == 0
 }
 
 const SLOTS: usize = 512;

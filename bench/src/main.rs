@@ -159,6 +159,14 @@ fn time_currents(times: u64, collector: i64, slope: i64) {
     println!("{sum}");
 }
 
+/// One number of every total and voltage.
+fn told(b: &board::Board) -> i64 {
+    let (volts, totals) = b.reading();
+    totals.iter().zip(volts).fold(0, |sum, (t, v)| {
+        (sum * 31 + t % 1_000_003 + 1_000_003 + v + 2_500_000) % (1 << 30)
+    })
+}
+
 /// A voltage moved so often, on a board with so many transistors; the first move brings the collectors to 2 V.
 fn time_moves(times: u64, places: i64, node: impl Fn(u64) -> u64, microvolts: i64) {
     let mut b = board::Board::fresh();
@@ -174,7 +182,7 @@ fn time_moves(times: u64, places: i64, node: impl Fn(u64) -> u64, microvolts: i6
         x = (x * 1103 + 12345) % 65536;
         next = (node(n) as i64, microvolts + x as i64);
     }
-    println!("{:?}", b.reading());
+    println!("{}", told(&b));
 }
 
 fn time_pair(times: u64) {
@@ -187,7 +195,7 @@ fn time_pair(times: u64) {
         let i = b.place(1, &[0, 1, 1, 2, 2, 2, 3]).unwrap();
         b.lift(i).unwrap();
     }
-    println!("{:?}", b.reading());
+    println!("{}", told(&b));
 }
 
 /// A good library of 256 cards.
@@ -215,11 +223,12 @@ fn time_read(times: usize) {
     println!("{sum}");
 }
 
-fn time_find(times: u64) {
+fn time_find(times: usize) {
     let (mut l, mut sum) = (timed_library(), 0);
     for n in 0..times {
         l[4102] = 48 + (n % 10) as u8;
-        sum += library::locate(std::hint::black_box(&l), b"npn200").unwrap() % 7;
+        let at = library::locate(std::hint::black_box(&l), b"npn200").unwrap();
+        sum += 1 + l[at + n % 128] as u64;
     }
     println!("{sum}");
 }
@@ -236,7 +245,7 @@ fn time(name: &str, times: u64) {
         "all" => time_moves(times, 64, |_| 20, 2_000_000),
         "pair" => time_pair(times),
         "read" => time_read(times as usize),
-        "find" => time_find(times),
+        "find" => time_find(times as usize),
         _ => println!("no timed run {name}"),
     }
 }
