@@ -179,3 +179,52 @@ pub fn quotient(n: i64, d: u64) -> i64 {
         q as i64
     }
 }
+
+#[cfg(test)]
+mod tests {
+    use super::*;
+
+    #[test]
+    fn the_table_has_the_ends_and_the_middle() {
+        let t = table();
+        assert_eq!((t[0], t[32], t[64]), (1 << 30, 1_518_500_249, 1 << 31));
+    }
+
+    #[test]
+    fn positions_are_floors_of_quotients() {
+        let ends = [1_000_000, 1_000_001, 999_999_999, 1_000_000_000];
+        let between = (0..200).map(|i| 1_000_003 + i * 4_999_937);
+        // those that divide the product leave nothing over, where a floor is missed first
+        let dividing = [1_024_000, 16_384_000, 32_768_000, 65_536_000, 512_000_000];
+        for w in ends.into_iter().chain(between).chain(dividing) {
+            let octave = Octave::of(w);
+            for i in 0..=100_000 {
+                let v = i * 100 - 5_000_000 + w % 100 * i64::from(i < 100_000);
+                let floor = (v * 65_536_000).div_euclid(w);
+                assert_eq!(octave.position(v), floor, "{v} {w}");
+            }
+        }
+    }
+
+    #[test]
+    fn roots_are_floors() {
+        for i in 0..1_000_000u64 {
+            for r in [i + 1, (i * 2147 + 1) % (1 << 31) + 1, (1 << 31) - 1 - i] {
+                assert_eq!(root(r * r), r);
+                assert_eq!(root(r * r - 1), r - 1);
+                assert_eq!(root(r * r + 2 * r), r);
+            }
+        }
+    }
+
+    #[test]
+    fn quotients_go_toward_zero() {
+        for i in 0..100_000i64 {
+            for n in [i, i << 26, (1 << 53) - i, (1 << 43) - 50_000 + i] {
+                let d = (1 << 21) + (i as u64) * 10_007;
+                let q = (n as i128 * (1 << 21) / d as i128) as i64;
+                assert_eq!((quotient(n, d), quotient(-n, d)), (q, -q), "{n} {d}");
+            }
+        }
+    }
+}
