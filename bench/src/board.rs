@@ -1,4 +1,5 @@
-//! The board, changed in place: each transistor's currents are held and each node knows who names it, so that a call works only what it changes.
+//! The board, changed in place: each transistor's currents are held and each node knows who names it, so that a call
+//! works only what it changes.
 
 use crate::card::{judge, Card};
 use crate::currents::{by_role, currents, Currents};

@@ -32,7 +32,8 @@ fn shared(n: i64, f: i64) -> i64 {
     quotient(n, (1 << 20) + root(((1 << 20) + f as u64) << 20))
 }
 
-/// The currents, or nothing where the transistor overloads. Each exponential is worked once for the rows that share it, and judged by its position alone.
+/// The currents, or nothing where the transistor overloads. Each exponential is worked once for the rows that share it,
+/// and judged by its position alone.
 #[inline(always)]
 pub fn currents(curve: &Curve, c: &Card, v: &Volts) -> Option<Currents> {
     let [e1, b1, b2, c1, c2, c4, s] = *v;

@@ -72,23 +72,25 @@ pub static CURVE: std::sync::LazyLock<Curve> = std::sync::LazyLock::new(|| {
     })
 });
 
-/// The divisor of positions, made ready: 2^82 / octave, rounded upward.
-///
-/// Octaves are from 10^6 to 10^9 nanovolts, so it is below 2^63, and for voltages up to 5 * 10^6 microvolts it is at most 0.29 / 2^32 of a position off.
+/// An octave made ready for positions: 65,536,000 * 2^56 / octave, rounded upward. Octaves are from 10^6 to 10^9
+/// nanovolts, so it is below 2^63.
 #[derive(Clone, Copy, Debug, PartialEq)]
 pub struct Octave(i64);
 
 impl Octave {
     pub fn of(nanovolts: i64) -> Self {
-        Octave((1u128 << 82).div_ceil(nanovolts as u128) as i64)
+        Octave((65_536_000u128 << 56).div_ceil(nanovolts as u128) as i64)
     }
 
-    /// floor(microvolts * 65,536,000 / octave). The product's upper word has 32 places after the point and lacks less than one of the last; with 2 added it is above the
-    /// true quotient by less than 2.3 / 2^32, which is less than 10^-9, the least distance of a quotient from the next whole number.
+    /// floor(microvolts * 65,536,000 / octave), for up to 5 * 10^6 microvolts of either sign.
+    ///
+    /// The product's upper word has 32 places after the point. The rounding of the factor moves it by less than 0.3,
+    /// and its own floor by less than 1. With 2 added it is above the true quotient by less than 2.3 / 2^32, and that
+    /// is less than 10^-9, as near as a quotient can come to the next whole number from below.
     #[inline(always)]
     fn position(self, microvolts: i64) -> i64 {
-        let scaled = microvolts * (65_536_000 << 14);
-        (((scaled as i128 * self.0 as i128) >> 64) as i64 + 2) >> 32
+        let product = (microvolts << 40) as i128 * self.0 as i128;
+        ((product >> 64) as i64 + 2) >> 32
     }
 }
 
@@ -115,7 +117,8 @@ pub fn gain(curve: &Curve, microvolts: i64, octave: Octave) -> Gain {
     gain_at(curve, octave.position(microvolts))
 }
 
-/// A value a * 2^b with the scale and the limit of its use: floor(a * m * 2^(n - shift)) of a gain is to be at most the limit.
+/// A value a * 2^b with the scale and the limit of its use: floor(a * m * 2^(n - shift)) of a gain is to be at most
+/// the limit.
 #[derive(Clone, Copy, Debug, PartialEq)]
 pub struct Scaled {
     pub a: u64,
@@ -124,7 +127,8 @@ pub struct Scaled {
 }
 
 impl Scaled {
-    /// The floor, where it is within the limit. Since a * m is 0 or from 2^60 to 2^62, a shift above 63 gives 0 as 63 does, and one below 0 is past every limit.
+    /// The floor, where it is within the limit. Since a * m is 0 or from 2^60 to 2^62, a shift above 63 gives 0 as 63
+    /// does, and one below 0 is past every limit.
     #[inline(always)]
     pub fn floor(self, g: Gain) -> i64 {
         ((self.a * g.m) >> ((self.shift - g.n) as u64).min(63)) as i64
@@ -141,7 +145,8 @@ impl Scaled {
     }
 }
 
-/// The highest position at which all values are within their limits: the gain grows with the position, so they are at every lower one, and one comparison judges them all.
+/// The highest position at which all values are within their limits: the gain grows with the position, so they are at
+/// every lower one too, and one comparison judges them all.
 pub fn highest(values: &[Scaled]) -> i64 {
     // no position is as far out as these
     let (mut low, mut high) = (-(1 << 29), 1 << 29);
@@ -156,8 +161,8 @@ pub fn highest(values: &[Scaled]) -> i64 {
     low
 }
 
-/// The greatest whole number whose square is at most x, for x below 2^62. The guess is never too low: a square below 2^62 is off by at most one part in 2^54 of its root
-/// as an f64, less than half of what parts two numbers there.
+/// The greatest whole number whose square is at most x, for x below 2^62. The guess is never too low: as an f64 a square
+/// moves its root by less than half of what parts two numbers there, so a square's guess is its root.
 #[inline]
 pub fn root(x: u64) -> u64 {
     let r = (x as f64).sqrt() as u64;
