@@ -9,12 +9,12 @@ use lib.Dec.{T, eqb, leb, ltb, leb·suc-suc}
 use lib.ListN.{length, getD, set}
 use lib.IntN.{ℤ, pos, _+ℤ_, +ℤ-idl}
 use borrow.Author.Tests.{eqb-true, eqb-false, eq-eqb, ne-eqb, lt-leb, lt-ltb}
 use Rattle.board.specs.Desk.{sumOver, anyOf, firstWith, without, keepIf}
 use Rattle.board.specs.Verdict.{Found, none, some}
 use Rattle.board.specs.Model.{first, foundAt}
-use Rattle.board.specs.Stands.{occupied}
-use Rattle.board.specs.Perm.{Perm, keep, swap, then}
-use Rattle.board.proofs.Perms.{count, more, perm-self}
+use Rattle.days.specs.Stands.{occupied}
+use Rattle.days.specs.Perm.{Perm, keep, swap, then}
+use Rattle.days.proofs.Perms.{count, more, perm-self}
 
 module _ {A B : Type 0} (key : A → ℕ) (f : A → B) where
   -- a sum, and a search, over all places

@@ -20,33 +20,34 @@ use Rattle.card.specs.declared.WorkedCard.{WorkedCard}
 use Rattle.branch.specs.inner.Ready.{readyOf}
 use Rattle.branch.proofs.Laws.{ready-card}
 use Rattle.branch.specs.Rows.{roles}
 use Rattle.board.specs.declared.Card.{Card}
 use Rattle.board.specs.declared.Transistor.{Transistor}
 use Rattle.board.specs.declared.Board.{Board}
 use Rattle.board.specs.declared.Answered.{Answered}
 use Rattle.board.specs.Counts.{nodesMost, cardsMost, transistorsMost}
 use Rattle.board.specs.Verdict.{Found, none, some, issueOf, placeVerdict, moveVerdict, liftVerdict}
 use Rattle.board.specs.Verdict.{withdrawVerdict, nodeVerdict}
 use Rattle.board.specs.Desk as desk
 use Rattle.board.specs.Desk.{Held, Standing, Desk, Step, Call, load, place, move, lift, withdraw, lookUp, node}
 use Rattle.board.specs.Desk.{overloads, sumOver, anyOf, firstWith, heldAs, standsAs, without, larger, highest}
 use Rattle.board.specs.Desk.{flow, total, someOverloads, step, freshDesk, after}
 use Rattle.board.specs.Model as board
 use Rattle.board.specs.Model.{first, foundAt, isCard, isTransistor, cardPlace, transistorPlace, emptyCard}
-use Rattle.board.specs.Model.{noCard, emptyTransistor, noTransistor, placeGives, placeOverloads, totalsOf}
+use Rattle.board.specs.Model.{noCard, emptyTransistor, noTransistor, placeGives, placeOverloads}
 use Rattle.board.specs.Model.{freshBoard, voltsOf, freeCard, freeTransistor, standsOn, highestAt, loadedOf}
 use Rattle.board.specs.Model.{placedOf, movedOf, liftedOf, withdrawnOf, lookedOf, showedOf, answered, boardAfter}
-use Rattle.board.specs.Perm.{empty}
-use Rattle.board.specs.Stands.{occupied, heldOf, standingOf, heldIn, standingIn, Stands, replyOf}
-use Rattle.board.proofs.Perms.{perm-join, perm-length, perm-sum, perm-any, perm-count, perm-first}
-use Rattle.board.proofs.Perms.{perm-without, perm-highest}
-use Rattle.board.proofs.Places.{sum-occupied, any-occupied, full, join, seen, mapFound, find, find-none}
-use Rattle.board.proofs.Places.{count-occupied, leave}
-use Rattle.board.proofs.Lists.{tabulate-at, getD-map}
+use Rattle.days.specs.Perm.{empty}
+use Rattle.days.specs.Stands.{occupied, heldOf, standingOf, heldIn, standingIn, Stands, replyOf}
+use Rattle.days.proofs.Perms.{perm-join, perm-length, perm-sum, perm-any, perm-count, perm-first}
+use Rattle.days.proofs.Perms.{perm-without, perm-highest}
+use Rattle.days.proofs.Places.{sum-occupied, any-occupied, full, join, seen, mapFound, find, find-none}
+use Rattle.days.proofs.Places.{count-occupied, leave}
+use Rattle.board.proofs.Lists.{getD-map}
+use Rattle.board.proofs.NodeSums.{totals-at}
 use Rattle.board.proofs.Verdicts.{loads, places, moves, lifts, withdraws, shown}
 use Rattle.board.proofs.Invariant.{Invariant, invariant-after, at-card, AtCard, at-transistor, AtTransistor}
 use Rattle.board.proofs.Invariant.{unused-away, worked-same, free-card}
-use Rattle.board.proofs.Orderly.{Orderly, orderly-after}
+use Rattle.days.proofs.Orderly.{Orderly, orderly-after}
 
 -- ---- verdicts on what was found by place, and on the same found by itself
 
@@ -170,9 +171,9 @@ module _ (b : Board) (d : Desk) (g : Invariant b) (o : Orderly d) (s : Stands b 
       (b .transistors)
 
   pub totals-follow : (n : ℕ) → n < nodesMost → getD (b .totals) n (pos 0) ≡ total d n
-  unfolding totalsOf total placeGives
+  unfolding total placeGives
   totals-follow n h =
-      ap (λ (l : List ℤ). getD l n (pos 0)) (g .balanced) ∙ tabulate-at _ nodesMost n (pos 0) h
+      ap (λ (l : List ℤ). getD l n (pos 0)) (g .balanced) ∙ totals-at (b .cards) (b .transistors) (voltsOf b) n h
       ∙ sym
       (sum-occupied (λ (t : Transistor). t .issue) (standingOf (b .cards))
       (λ (t : Standing). flow (t .worked) (t .nodes) (voltsOf b) n) (b .transistors))

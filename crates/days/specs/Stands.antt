@@ -5,14 +5,14 @@ use mathlib.Core.Bool.{not}
 use mathlib.Core.List.{List, [], _∷_}
 use Prim.Native.Nat.{ℕ}
 use lib.Dec.{eqb}
 use Rattle.board.specs.declared.Card.{Card}
 use Rattle.board.specs.declared.Transistor.{Transistor}
 use Rattle.board.specs.declared.Board.{Board}
 use Rattle.board.specs.declared.Answer.{Answer}
 use Rattle.board.specs.declared.Answer.the-variants.{Issue, Done, Node, Refused}
 use Rattle.board.specs.Desk.{Held, Standing, Desk, Reply, issued, done, shows, refused, keepIf}
 use Rattle.board.specs.Model.{workedAt, voltsOf}
-use Rattle.board.specs.Perm.{Perm}
+use Rattle.days.specs.Perm.{Perm}
 
 -- what stands on the places of l, each seen through f; a place whose key is 0 is empty
 unfoldable pub occupied : {A B : Type 0} → (A → ℕ) → (A → B) → List A → List B

@@ -15,24 +15,24 @@ use Rattle.refusal.specs.Order.{Verdict, no, yes}
 use Rattle.refusal.specs.Clash.{clash}
 use Rattle.card.specs.declared.WorkedCard.{WorkedCard}
 use Rattle.branch.specs.Rows.{roles}
 use Rattle.board.specs.declared.Board.{Board}
 use Rattle.board.specs.declared.Answer.{Answer}
 use Rattle.board.specs.declared.Answer.the-variants.{Issue, Done, Node, Refused}
 use Rattle.board.specs.Counts.{issuesMost}
 use Rattle.board.specs.Verdict.{Found, none, some, issueOf, liftVerdict, nodeVerdict}
 use Rattle.board.specs.Desk as desk
 use Rattle.board.specs.Desk.{Held, Standing, Desk, Call, load, place, move, lift, withdraw, lookUp, node}
 use Rattle.board.specs.Desk.{firstWith, ifTrue, standsAs, without, keepIf, total, step, after}
 use Rattle.board.specs.Model as board
 use Rattle.board.specs.Model.{loadedOf, placedOf, movedOf, liftedOf, withdrawnOf, lookedOf, showedOf, answered}
 use Rattle.board.specs.Model.{boardAfter}
-use Rattle.board.specs.Stands.{replyOf}
-use Rattle.board.proofs.Perms.{count, more}
+use Rattle.days.specs.Stands.{replyOf}
+use Rattle.days.proofs.Perms.{count, more}
 use Rattle.board.proofs.Verdicts.{loads, places}
 use Rattle.board.proofs.Invariant.{invariant-after, totals-long}
-use Rattle.board.proofs.Orderly.{Orderly, orderly-after}
-use Rattle.board.proofs.Follows.{stands-after, follows}
-use Rattle.board.proofs.Totals.{totals-are-sums}
+use Rattle.days.proofs.Orderly.{Orderly, orderly-after}
+use Rattle.days.proofs.Follows.{stands-after, follows}
+use Rattle.days.proofs.Totals.{totals-are-sums}
 
 -- ---- no number is given twice
 

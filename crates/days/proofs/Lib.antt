@@ -1,0 +1,6 @@
+pub mod Perms
+pub mod Places
+pub mod Orderly
+pub mod Follows
+pub mod Totals
+pub mod Numbers
