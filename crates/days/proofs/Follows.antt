@@ -37,10 +37,11 @@ use Rattle.board.specs.Model.{noCard, emptyTransistor, noTransistor, placeGives
 use Rattle.board.specs.Model.{freshBoard, voltsOf, freeCard, freeTransistor, standsOn, highestAt, loadedOf}
 use Rattle.board.specs.Model.{placedOf, movedOf, liftedOf, withdrawnOf, lookedOf, showedOf, answered, boardAfter}
 use Rattle.days.specs.Perm.{empty}
-use Rattle.days.specs.Stands.{occupied, heldOf, standingOf, heldIn, standingIn, Stands, replyOf}
+use Rattle.days.specs.Stands.{occupied, heldOf, standingOf, heldIn, standingIn, heldAt, standingAt, mapFound}
+use Rattle.days.specs.Stands.{standsUnder, Stands, Follow}
 use Rattle.days.proofs.Perms.{perm-join, perm-length, perm-sum, perm-any, perm-count, perm-first}
 use Rattle.days.proofs.Perms.{perm-without, perm-highest}
-use Rattle.days.proofs.Places.{sum-occupied, any-occupied, full, join, seen, mapFound, find, find-none}
+use Rattle.days.proofs.Places.{sum-occupied, any-occupied, full, join, seen, find, find-none}
 use Rattle.days.proofs.Places.{count-occupied, leave}
 use Rattle.board.proofs.Lists.{getD-map}
 use Rattle.board.proofs.NodeSums.{totals-at}
@@ -114,7 +115,7 @@ module _ (b : Board) (d : Desk) (g : Invariant b) (o : Orderly d) (s : Stands b 
       rw (← (perm-length (s .standing))) (rw (g .transistors-long) at e)
 
   card-by : (n : ℕ) →
-      heldAs n (d .cards) ≡ mapFound (λ (i : ℕ). heldOf (getD (b .cards) i noCard)) (cardPlace n (b .cards))
+      heldAs n (d .cards) ≡ mapFound (heldAt b) (cardPlace n (b .cards))
   card-by n =
       sym
       (perm-first (λ (h : Held). eqb (h .issue) n)
@@ -123,8 +124,7 @@ module _ (b : Board) (d : Desk) (g : Invariant b) (o : Orderly d) (s : Stands b 
       ∙ go (eqb n 0) refl
     where
       go : (t : Bool) → eqb n 0 ≡ t →
-          firstWith (λ (h : Held). eqb (h .issue) n) (heldIn (b .cards)) ≡ mapFound
-          (λ (i : ℕ). heldOf (getD (b .cards) i noCard))
+          firstWith (λ (h : Held). eqb (h .issue) n) (heldIn (b .cards)) ≡ mapFound (heldAt b)
           (cond t none (foundAt cardsMost (first (isCard n) (b .cards))))
       go true e =
           rw (eqb-true n 0 e)
@@ -134,9 +134,7 @@ module _ (b : Board) (d : Desk) (g : Invariant b) (o : Orderly d) (s : Stands b 
           (find (λ (c : Card). c .issue) heldOf (λ (h : Held). h .issue) (λ c. refl) n (eqb-false n 0 e) noCard
           (b .cards))
 
-  transistor-by : (n : ℕ) →
-      standsAs n (d .standing) ≡ mapFound (λ (i : ℕ). standingOf (b .cards) (getD (b .transistors) i noTransistor))
-      (transistorPlace n (b .transistors))
+  pub transistor-by : (n : ℕ) → standsAs n (d .standing) ≡ standsUnder n b
   transistor-by n =
       sym
       (perm-first (λ (t : Standing). eqb (t .issue) n)
@@ -145,8 +143,7 @@ module _ (b : Board) (d : Desk) (g : Invariant b) (o : Orderly d) (s : Stands b 
       ∙ go (eqb n 0) refl
     where
       go : (t : Bool) → eqb n 0 ≡ t →
-          firstWith (λ (u : Standing). eqb (u .issue) n) (standingIn (b .cards) (b .transistors)) ≡ mapFound
-          (λ (i : ℕ). standingOf (b .cards) (getD (b .transistors) i noTransistor))
+          firstWith (λ (u : Standing). eqb (u .issue) n) (standingIn (b .cards) (b .transistors)) ≡ mapFound (standingAt b)
           (cond t none (foundAt transistorsMost (first (isTransistor n) (b .transistors))))
       go true e =
           rw (eqb-true n 0 e)
@@ -181,18 +178,6 @@ module _ (b : Board) (d : Desk) (g : Invariant b) (o : Orderly d) (s : Stands b 
       ∙ ap (λ (v : List ℤ). sumOver (λ (t : Standing). flow (t .worked) (t .nodes) v n) (d .standing)) (s .volts)
 
 -- ---- one call more
-
--- the card and the transistor at a place
-abbrev heldAt : Board → ℕ → Held
-heldAt b i = heldOf (getD (b .cards) i noCard)
-
-abbrev standingAt : Board → ℕ → Standing
-standingAt b i = standingOf (b .cards) (getD (b .transistors) i noTransistor)
-
--- a board's answer is the desk's, and its next board stands for the next desk
-pub record Follow (a : Answered) (t : Step) : Type 0 where
-  pub reply : replyOf (a .answer) ≡ t .reply
-  pub board : Stands (a .board) (t .desk)
 
 module _ (b : Board) (d : Desk) (g : Invariant b) (o : Orderly d) (s : Stands b d) where
   -- other cards at a place on which nobody stands leave the transistors as they are
@@ -428,7 +413,7 @@ pub stands-fresh : Stands freshBoard freshDesk
 unfolding freshBoard freshDesk occupied
 stands-fresh = record { cards = empty; standing = empty; volts = refl; next = refl }
 
-follow : (b : Board) (d : Desk) → Invariant b → Orderly d → Stands b d → (c : Call) → Follow (answered b c) (step d c)
+pub follow : (b : Board) (d : Desk) → Invariant b → Orderly d → Stands b d → (c : Call) → Follow (answered b c) (step d c)
 unfolding answered
 follow b d g o s (load name bytes) = follow-load b d g o s name bytes
 follow b d g o s (place card nodes sized) = follow-place b d g o s card nodes sized

@@ -4,3 +4,4 @@ pub mod Orderly
 pub mod Follows
 pub mod Totals
 pub mod Numbers
+pub mod Keeps

@@ -1,5 +1,4 @@
--- Issue numbers over any calls: never given twice; who keeps a number keeps its card; and lifting the one just placed
--- brings every total back.
+-- Issue numbers over any calls: never given twice; and lifting the one just placed brings every total back.
 use mathlib.Core.Path.{_≡_, refl, sym, ap, _∙_, subst}
 use mathlib.Core.Bool.{Bool, true, false, cond, not}
 use mathlib.Core.List.{List, [], _∷_}
@@ -27,6 +26,7 @@ use Rattle.board.specs.Model as board
 use Rattle.board.specs.Model.{loadedOf, placedOf, movedOf, liftedOf, withdrawnOf, lookedOf, showedOf, answered}
 use Rattle.board.specs.Model.{boardAfter}
 use Rattle.days.specs.Stands.{replyOf}
+use Rattle.days.specs.Numbers.{withNumber, gives, givenBy, Falls, end, next}
 use Rattle.days.proofs.Perms.{count, more}
 use Rattle.board.proofs.Verdicts.{loads, places}
 use Rattle.board.proofs.Invariant.{invariant-after, totals-long}
@@ -35,32 +35,6 @@ use Rattle.days.proofs.Follows.{stands-after, follows}
 use Rattle.days.proofs.Totals.{totals-are-sums}
 
 -- ---- no number is given twice
-
--- the number that a call gives: only loading and placing give one
-abbrev pub withNumber : Answer → List ℕ → List ℕ
-withNumber (Issue n) earlier = n ∷ earlier
-withNumber Done earlier = earlier
-withNumber (Node v t) earlier = earlier
-withNumber (Refused f) earlier = earlier
-
-abbrev pub gives : Call → Answer → List ℕ → List ℕ
-gives (load name bytes) a earlier = withNumber a earlier
-gives (place card nodes sized) a earlier = withNumber a earlier
-gives (move n v) a earlier = earlier
-gives (lift n) a earlier = earlier
-gives (withdraw n) a earlier = earlier
-gives (lookUp name) a earlier = earlier
-gives (node n) a earlier = earlier
-
--- the numbers given by calls from a fresh board, the last first
-unfoldable pub givenBy : List Call → List ℕ
-givenBy [] = []
-givenBy (c ∷ cs) = gives c (answered (boardAfter cs) c .answer) (givenBy cs)
-
--- each number is below the one before it in the list, the first below top, and all are from 1 to 65,535
-pub data Falls : ℕ → List ℕ → Type 0 where
-  end : {top : ℕ} → Falls top []
-  next : {top n : ℕ} {rest : List ℕ} → n < top → 1 ≤ n → n ≤ issuesMost → Falls n rest → Falls top (n ∷ rest)
 
 one-more : {n : ℕ} {l : List ℕ} → 1 ≤ n → ltb issuesMost n ≡ false → Falls n l → Falls (n + 1) (n ∷ l)
 one-more {n} p q f = let h : n < n + 1 = omega arith in next h p (ltb-false issuesMost n q) f
@@ -117,115 +91,11 @@ module _ (b : Board) (l : List ℕ) (begun : 1 ≤ b .next) (f : Falls (b .next)
       go (no g) = f
       go (yes k) = f
 
-begun-after : (calls : List Call) → 1 ≤ boardAfter calls .next
-begun-after calls = let o = orderly-after calls .begun in let e = stands-after calls .next in omega arith
-
 -- the numbers given rise strictly, over both kinds, within 1 to 65,535
 pub issues-never-twice : (calls : List Call) → Falls (boardAfter calls .next) (givenBy calls)
 unfolding givenBy boardAfter
 issues-never-twice [] = end
-issues-never-twice (c ∷ cs) = falls-call (boardAfter cs) (givenBy cs) (begun-after cs) (issues-never-twice cs) c
-
--- ---- who keeps a number keeps its card and its nodes
-
-find-none-left : {A : Type 0} (p : A → Bool) (l : List A) → count p l ≡ 0 → firstWith p l ≡ none
-unfolding count firstWith
-find-none-left p [] e = refl
-find-none-left p (a ∷ rest) e = go (p a) e (λ h. find-none-left p rest h)
-  where
-    go : (t : Bool) → more t (count p rest) ≡ 0 → (count p rest ≡ 0 → firstWith p rest ≡ none) →
-        ifTrue t a (firstWith p rest) ≡ none
-    go true h n = absurd (omega arith)
-    go false h n = n h
-
--- the one with number k is still found where another is taken away, and is gone where it is itself taken away
-find-without : {A : Type 0} (key : A → ℕ) (k m : ℕ) (l : List A) →
-    firstWith (λ (a : A). eqb (key a) k) (without key m l) ≡ cond (eqb m k) none
-    (firstWith (λ (a : A). eqb (key a) k) l)
-unfolding without firstWith
-find-without key k m [] = go (eqb m k)
-  where
-    go : {B : Type 0} (t : Bool) → _≡_ {A = Found B} none (cond t none none)
-    go true = refl
-    go false = refl
-find-without {A = A} key k m (a ∷ rest) =
-    go (eqb (key a) m) (eqb (key a) k) (eqb m k) refl refl refl (find-without key k m rest)
-  where
-    go : (t u w : Bool) → eqb (key a) m ≡ t → eqb (key a) k ≡ u → eqb m k ≡ w →
-        firstWith (λ (b : A). eqb (key b) k) (without key m rest) ≡ cond w none
-        (firstWith (λ (b : A). eqb (key b) k) rest) →
-        firstWith (λ (b : A). eqb (key b) k) (keepIf (not t) a (without key m rest)) ≡ cond w none
-        (ifTrue u a (firstWith (λ (b : A). eqb (key b) k) rest))
-    go true true true p q r h = h
-    go true true false p q r h = absurd (eqb-false m k r (sym (eqb-true (key a) m p) ∙ eqb-true (key a) k q))
-    go true false true p q r h = h
-    go true false false p q r h = h
-    go false true true p q r h = absurd (eqb-false (key a) m p (eqb-true (key a) k q ∙ sym (eqb-true m k r)))
-    go false true false p q r h = rw q
-    go false false true p q r h = rw q h
-    go false false false p q r h = rw q h
-
--- the new one has a number under which nobody stood
-module _ (d : Desk) (o : Orderly d) where
-  nobody : (k : ℕ) → d .next ≤ k → standsAs k (d .standing) ≡ none
-  nobody k h = find-none-left (λ (t : Standing). eqb (t .issue) k) (d .standing) (o .standing .below k h)
-
-  keeps-place : (nodes : List ℤ) (v : Verdict Held) (k : ℕ) (t u : Standing) → standsAs k (d .standing) ≡ some t →
-      standsAs k (desk.placed d nodes v .desk .standing) ≡ some u → t ≡ u
-  unfolding firstWith
-  keeps-place nodes (no f) k t u p q = cc
-  keeps-place nodes (yes h) k t u p q = go _ (eqb (d .next) k) refl q
-    where
-      go : (n : Standing) (b : Bool) → eqb (d .next) k ≡ b → ifTrue b n (standsAs k (d .standing)) ≡ some u → t ≡ u
-      go n true e r = let l : d .next ≤ k = le-of-eq (eqb-true (d .next) k e) in let m = nobody k l in clash cc
-      go n false e r = cc
-
-  keeps-lift : (v : Verdict Standing) (k : ℕ) (t u : Standing) → standsAs k (d .standing) ≡ some t →
-      standsAs k (desk.lifted d v .desk .standing) ≡ some u → t ≡ u
-  keeps-lift (no f) k t u p q = cc
-  keeps-lift (yes x) k t u p q =
-      go (eqb (x .issue) k) (sym (find-without (λ (w : Standing). w .issue) k (x .issue) (d .standing)) ∙ q)
-    where
-      go : (b : Bool) → cond b none (standsAs k (d .standing)) ≡ some u → t ≡ u
-      go true r = clash cc
-      go false r = cc
-
-  keeps : (c : Call) (k : ℕ) (t u : Standing) → standsAs k (d .standing) ≡ some t →
-      standsAs k (step d c .desk .standing) ≡ some u → t ≡ u
-  unfolding step
-  keeps (load name bytes) k t u p q = go (desk.mayLoad d name bytes) q
-    where
-      go : (v : Verdict WorkedCard) → standsAs k (desk.loaded d name v .desk .standing) ≡ some u → t ≡ u
-      go (no f) r = cc
-      go (yes c) r = cc
-  keeps (place card nodes sized) k t u p q = keeps-place nodes (desk.mayPlace d card nodes) k t u p q
-  keeps (move n v) k t u p q = go (desk.mayMove d n v) q
-    where
-      go : (w : Verdict ℕ) → standsAs k (desk.moved d v w .desk .standing) ≡ some u → t ≡ u
-      go (no f) r = cc
-      go (yes c) r = cc
-  keeps (lift n) k t u p q = keeps-lift (desk.mayLift d n) k t u p q
-  keeps (withdraw n) k t u p q = go (desk.mayWithdraw d n) q
-    where
-      go : (w : Verdict Held) → standsAs k (desk.withdrawn d w .desk .standing) ≡ some u → t ≡ u
-      go (no f) r = cc
-      go (yes c) r = cc
-  keeps (lookUp name) k t u p q = go (desk.mayLookUp d name) q
-    where
-      go : (w : Verdict ℕ) → standsAs k (desk.looked d w .desk .standing) ≡ some u → t ≡ u
-      go (no f) r = cc
-      go (yes c) r = cc
-  keeps (node n) k t u p q = go (nodeVerdict n) q
-    where
-      go : (w : Verdict ℕ) → standsAs k (desk.showed d w .desk .standing) ≡ some u → t ≡ u
-      go (no f) r = cc
-      go (yes c) r = cc
-
--- one who stands under the same number before and after a call is the same: same card, same nodes
-pub others-keep-their-card : (calls : List Call) (c : Call) (k : ℕ) (t u : Standing) →
-    standsAs k (after calls .standing) ≡ some t → standsAs k (after (c ∷ calls) .standing) ≡ some u → t ≡ u
-unfolding after
-others-keep-their-card calls c k t u p q = keeps (after calls) (orderly-after calls) c k t u p q
+issues-never-twice (c ∷ cs) = falls-call (boardAfter cs) (givenBy cs) (invariant-after cs .begun) (issues-never-twice cs) c
 
 -- ---- lifting the one just placed
 

@@ -24,6 +24,7 @@ use Rattle.board.specs.Model.{noTransistor, workedAt, placeGives, tabulate, tot
 use Rattle.board.specs.Model.{Reached}
 use Rattle.days.specs.Perm.{Perm}
 use Rattle.days.specs.Stands.{standingOf, standingIn}
+use Rattle.days.specs.Fitted.{sumAll, Fitted, fittedOf, fittedIn}
 use Rattle.board.proofs.Integers.{turned, swap-inner}
 use Rattle.days.proofs.Perms.{perm-sum}
 use Rattle.days.proofs.Places.{sum-occupied}
@@ -54,10 +55,6 @@ unfolding overloads
 none-overloads r i h = not-over _ (invariant r .transistor i h .quiet)
 
 -- ---- all of them add to zero
-
-unfoldable pub sumAll : List ℤ → ℤ
-unfolding sumOver
-sumAll l = sumOver (λ (x : ℤ). x) l
 
 -- a table of sums is summed part by part
 sum-both : (f g : ℕ → ℤ) (k : ℕ) →
@@ -138,17 +135,6 @@ totals-add-to-zero {b} r =
     (sum-places (b .cards) (voltsOf b) (b .transistors) (λ i h. invariant r .transistor i h .wired))
 
 -- ---- the same transistors on the same cards and nodes, at the same voltages
-
--- what a transistor counts by: its card and its nodes, and no number
-pub record Fitted : Type 0 where
-  pub worked : WorkedCard
-  pub nodes : List ℕ
-
-abbrev pub fittedOf : Standing → Fitted
-fittedOf t = record { worked = t .worked; nodes = t .nodes }
-
-abbrev pub fittedIn : Board → List Fitted
-fittedIn b = map fittedOf (standingIn (b .cards) (b .transistors))
 
 sum-map : {A B : Type 0} (f : B → ℤ) (g : A → B) (l : List A) → sumOver f (map g l) ≡ sumOver (λ (a : A). f (g a)) l
 unfolding sumOver
