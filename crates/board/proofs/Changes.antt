@@ -32,8 +32,6 @@ use Rattle.board.specs.inner.Placing.{placing, wayOf}
 use Rattle.board.specs.inner.Sizes.{workedMost}
 use Rattle.board.proofs.Lists.{first-passes}
 use Rattle.board.proofs.Invariant.{invariant, AtCard, at-card, at-transistor, AtTransistor, on-nodes}
-use Rattle.board.proofs.Orderly.{orderly-after}
-use Rattle.board.proofs.Follows.{stands-after}
 use Rattle.board.proofs.Verdicts.{Places, places}
 use Rattle.board.proofs.Answers.{off-board, on-board}
 use Rattle.board.proofs.PlacingTests.{way, stopped, went, lastly, on-same, then-lastly}
@@ -122,10 +120,7 @@ module _ {b : Board} (reached : Reached b) (z v : ℤ) (n x : ℕ) (ne : n ≡ n
 
 -- the next number is never 0
 begun : {b : Board} → Reached b → b .next ≡ 0 → ⊥
-begun {b} k e =
-    let o = orderly-after (k .calls) .begun in
-    let s = stands-after (k .calls) .next in
-    let l = ap (λ (c : Board). c .next) (k .leaves) in omega arith
+begun k e = let h = invariant k .begun in omega arith
 
 -- what is known of a placing once its tests are made, all but the last
 pub record Tested (b : Board) (card : ℤ) (nodes : List ℤ) (on : List ℕ) (w : Way) : Type 0 where

@@ -26,7 +26,7 @@ use Rattle.board.specs.inner.Settle.{Volts, Workable, HasCard}
 use Rattle.board.specs.inner.Sizes.{flowMost}
 use Rattle.board.proofs.Integers.{abs-neg}
 use Rattle.board.proofs.Lists.{getD-map}
-use Rattle.board.proofs.Totals.{small-flow}
+use Rattle.board.proofs.NodeSums.{small-flow}
 use Rattle.board.proofs.Roles.{roles-are-rows, roles-turned}
 
 -- ---- the voltages of the roles

@@ -4,6 +4,7 @@ use mathlib.Core.Path.{_≡_, refl, sym, ap, _∙_, subst}
 use mathlib.Core.Bool.{Bool, true, false, cond, _||_}
 use mathlib.Core.List.{List, [], _∷_, map}
 use Prim.Native.Nat.{ℕ, zero, suc, _+_, _≤_, _<_}
+use native.Mathlib.Omega.{arith}
 use lib.Dec.{eqb, leb, lit<, lit≤}
 use lib.ListN.{length, getD, set, replicate, length-set, length-replicate, length-map}
 use lib.Seq.{getD-set-other}
@@ -30,8 +31,8 @@ use Rattle.board.specs.Model.{freshBoard, voltsOf, freeCard, freeTransis
 use Rattle.board.specs.Model.{moved, movedOf, lifted, liftedOf, withdrawn, withdrawnOf, standsOn, looked}
 use Rattle.board.specs.Model.{lookedOf, showed, showedOf, mayLoad, mayPlace, mayMove, mayLift, mayWithdraw}
 use Rattle.board.specs.Model.{answered, boardAfter, Reached}
-use Rattle.board.proofs.Lists.{each-set, each-replicate, first-passes, found-is, none-of, sum-same}
-use Rattle.board.proofs.Lists.{tabulate-same, tabulate-none, tabulate-long, stands}
+use Rattle.board.proofs.Lists.{each-set, each-replicate, first-passes, found-is, none-of, stands}
+use Rattle.board.proofs.NodeSums.{sum-same, tabulate-same, tabulate-none, totals-count}
 use Rattle.board.proofs.Verdicts.{loads, places, moves, withdraws, on-node}
 
 -- a transistor that stands: on a card that is there, on nodes of the board, and within its limits
@@ -48,6 +49,7 @@ pub record Invariant (b : Board) : Type 0 where
   pub transistors-long : length (b .transistors) ≡ transistorsMost
   pub volts-long : length (b .volts) ≡ nodesMost
   pub near : AllNear (b .volts)
+  pub begun : 1 ≤ b .next
   pub transistor : (i : ℕ) → (getD (b .transistors) i noTransistor .issue ≡ 0 → ⊥) →
       TransistorInvariant (b .cards) (voltsOf b) (getD (b .transistors) i noTransistor)
   pub ready : (i : ℕ) → (getD (b .cards) i noCard .issue ≡ 0 → ⊥) → IsReady (getD (b .cards) i noCard .ready)
@@ -113,6 +115,7 @@ invariant-fresh =
       transistors-long = length-replicate transistorsMost emptyTransistor;
       volts-long = length-replicate nodesMost (keptAs (pos 0));
       near = near-replicate nodesMost (lit≤ tt);
+      begun = lit≤ tt;
       transistor =
           λ i h. absurd
           (h (each-replicate (λ (t : Transistor). t .issue ≡ 0) transistorsMost i emptyTransistor noTransistor refl refl));
@@ -158,6 +161,7 @@ invariant-loaded {b} name bytes g = go (mayLoad b name bytes) refl
           transistors-long = g .transistors-long;
           volts-long = g .volts-long;
           near = g .near;
+          begun = omega arith;
           transistor =
               λ i h. transistor-keeps (b .cards) p _ (voltsOf b) (getD (b .transistors) i noTransistor) (away i h)
               (g .transistor i h);
@@ -247,6 +251,7 @@ invariant-placed {b} card nodes sized g = go _ refl
           transistors-long = length-set (b .transistors) (freeTransistor (b .transistors)) _ ∙ g .transistors-long;
           volts-long = g .volts-long;
           near = g .near;
+          begun = omega arith;
           transistor =
               λ j. each-set (λ (t : Transistor). (t .issue ≡ 0 → ⊥) → TransistorInvariant (b .cards) (voltsOf b) t)
               (b .transistors) (freeTransistor (b .transistors)) j _ noTransistor
@@ -276,6 +281,7 @@ invariant-moved {b} n v g = go _ refl
           transistors-long = g .transistors-long;
           volts-long = length-set (b .volts) k (keptAs v) ∙ g .volts-long;
           near = near-set k (kept v (m .near) .near) (g .near);
+          begun = g .begun;
           transistor = λ j h. still k j h (m .at) (m .quiet) (g .transistor j h);
           ready = g .ready;
           balanced = refl;
@@ -313,6 +319,7 @@ invariant-lifted {b} n g = go _ refl
           transistors-long = length-set (b .transistors) i emptyTransistor ∙ g .transistors-long;
           volts-long = g .volts-long;
           near = g .near;
+          begun = g .begun;
           transistor =
               λ j. each-set (λ (t : Transistor). (t .issue ≡ 0 → ⊥) → TransistorInvariant (b .cards) (voltsOf b) t)
               (b .transistors) i j emptyTransistor noTransistor (λ h. absurd (h refl)) (g .transistor j);
@@ -344,6 +351,7 @@ invariant-withdrawn {b} n g = go _ refl
           transistors-long = g .transistors-long;
           volts-long = g .volts-long;
           near = g .near;
+          begun = g .begun;
           transistor =
               λ i h. transistor-keeps (b .cards) p emptyCard (voltsOf b) (getD (b .transistors) i noTransistor)
               (away i h) (g .transistor i h);
@@ -388,5 +396,4 @@ pub invariant : {b : Board} → Reached b → Invariant b
 invariant r = subst Invariant (r .leaves) (invariant-after (r .calls))
 
 pub totals-long : {b : Board} → Invariant b → length (b .totals) ≡ nodesMost
-unfolding totalsOf
-totals-long g = ap length (g .balanced) ∙ tabulate-long _ nodesMost
+totals-long {b} g = ap length (g .balanced) ∙ totals-count (b .cards) (b .transistors) (voltsOf b)

@@ -1,13 +1,8 @@
 pub mod Integers
-pub mod Perms
-pub mod Places
 pub mod Verdicts
 pub mod Lists
+pub mod NodeSums
 pub mod Invariant
-pub mod Orderly
-pub mod Follows
-pub mod Totals
-pub mod Numbers
 pub mod CallerNumbers
 pub mod Scans
 pub mod Reaches

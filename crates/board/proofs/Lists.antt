@@ -1,18 +1,17 @@
--- Lists by their places: what holds of each element, the first place that passes a test, sums place by place, and
--- tables of a function.
-use mathlib.Core.Path.{_≡_, refl, ap}
+-- Lists by their places: what holds of each element, the first place that passes a test, and what a
+-- function makes of it.
+use mathlib.Core.Path.{_≡_, refl}
 use mathlib.Core.Bool.{Bool, true, false, cond, _||_}
 use mathlib.Core.List.{List, [], _∷_, map}
 use Prim.Native.Nat.{ℕ, zero, suc, _<_}
 use native.Mathlib.Omega.{arith}
 use lib.Dec.{ltb}
 use lib.ListN.{length, getD, set, replicate}
-use lib.IntN.{ℤ}
 use borrow.Author.Tests.{ltb-true}
 use Rattle.refusal.specs.Clash.{clash}
-use Rattle.board.specs.Desk.{sumOver, anyOf}
+use Rattle.board.specs.Desk.{anyOf}
 use Rattle.board.specs.Verdict.{none, some}
-use Rattle.board.specs.Model.{first, foundAt, tabulate}
+use Rattle.board.specs.Model.{first, foundAt}
 
 -- what holds of the element at i, and of one put in somewhere, holds of the element at i then
 pub each-set : {A : Type 0} (P : A → Type 0) (l : List A) (n i : ℕ) (v d : A) → P v → P (getD l i d) →
@@ -59,37 +58,6 @@ none-of p (a ∷ rest) d e i h = go (p a) refl e i h (λ k j q. none-of p rest d
     go true q e i h next = clash cc
     go false q e zero h next = q
     go false q e (suc i) h next = next e i (omega arith)
-
-pub sum-same : {A : Type 0} (f g : A → ℤ) (d : A) (l : List A) →
-    ((i : ℕ) → i < length l → f (getD l i d) ≡ g (getD l i d)) → sumOver f l ≡ sumOver g l
-unfolding sumOver
-sum-same f g d [] h = refl
-sum-same f g d (a ∷ rest) h = rw (h 0 (omega arith), sum-same f g d rest (λ i k. h (suc i) (omega arith)))
-
-pub tabulate-same : {A : Type 0} (f g : ℕ → A) (n : ℕ) → ((i : ℕ) → i < n → f i ≡ g i) → tabulate f n ≡ tabulate g n
-unfolding tabulate
-tabulate-same f g zero h = refl
-tabulate-same f g (suc n) h =
-    rw
-    (h 0 (omega arith), tabulate-same (λ (i : ℕ). f (suc i)) (λ (i : ℕ). g (suc i)) n (λ i k. h (suc i) (omega arith)))
-
-pub tabulate-at : {A : Type 0} (f : ℕ → A) (n i : ℕ) (d : A) → i < n → getD (tabulate f n) i d ≡ f i
-unfolding tabulate
-tabulate-at f zero i d h = absurd (omega arith)
-tabulate-at f (suc n) zero d h = refl
-tabulate-at f (suc n) (suc i) d h = tabulate-at (λ (j : ℕ). f (suc j)) n i d (omega arith)
-
-pub tabulate-long : {A : Type 0} (f : ℕ → A) (n : ℕ) → length (tabulate f n) ≡ n
-unfolding tabulate
-tabulate-long f zero = refl
-tabulate-long f (suc n) = ap suc (tabulate-long (λ (j : ℕ). f (suc j)) n)
-
-pub tabulate-none : {A : Type 0} (f : ℕ → A) (a : A) (n : ℕ) → ((i : ℕ) → i < n → f i ≡ a) →
-    replicate n a ≡ tabulate f n
-unfolding tabulate
-tabulate-none f a zero h = refl
-tabulate-none f a (suc n) h =
-    rw (h 0 (omega arith), ← (tabulate-none (λ (i : ℕ). f (suc i)) a n (λ i k. h (suc i) (omega arith))))
 
 -- what is not the default stands in the list
 pub stands : {A : Type 0} (key : A → ℕ) (d : A) (l : List A) (i : ℕ) → key d ≡ 0 → (key (getD l i d) ≡ 0 → ⊥) →

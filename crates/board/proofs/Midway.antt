@@ -7,7 +7,6 @@ use native.Mathlib.Nat.{suc-mul}
 use native.Mathlib.Numerals.{add-one}
 use native.Mathlib.Omega.{arith}
 use lib.ListN.{length, getD, set, List·getD-eq-default}
-use lib.Seq.{ext-getD}
 use lib.IntN.{ℤ, pos, natAbs, negℤ, _+ℤ_, +ℤ-idr, +ℤ-assoc, +ℤ-comm, +ℤ-invr, -ℤ-+ℤ-cancel}
 use mathlib.Core.Logic.{_⊎_, inl, inr}
 use Rattle.whole.specs.laws.Biased.{below-or-not}
@@ -20,8 +19,7 @@ use Rattle.board.specs.Model.{noTransistor, placeGives, totalsOf}
 use Rattle.board.specs.inner.Parts.{More, Room}
 use Rattle.board.specs.inner.Sizes.{flowMost, totalMost}
 use Rattle.board.proofs.Integers.{abs-add}
-use Rattle.board.proofs.Lists.{tabulate-at, tabulate-long}
-use Rattle.board.proofs.Totals.{small-sum, small-place}
+use Rattle.board.proofs.NodeSums.{small-sum, small-place, totals-at, totals-count, are-totals}
 
 -- ---- sums half way
 
@@ -97,39 +95,6 @@ module _ (cards : List Card) (ts : List Transistor) (was volts : List ℕ) where
     pub long : length l ≡ nodesMost
     pub at : (n : ℕ) → n < nodesMost →
         getD l n (pos 0) ≡ midway (givesKept cards volts n) (givesKept cards was n) i ts
-
--- totals worked anew, node by node
-totals-at : (cards : List Card) (ts : List Transistor) (volts : List ℤ) (n : ℕ) → n < nodesMost →
-    getD (totalsOf cards ts volts) n (pos 0) ≡ sumOver (placeGives cards volts n) ts
-unfolding totalsOf
-totals-at cards ts volts n h = tabulate-at (λ (m : ℕ). sumOver (placeGives cards volts m) ts) nodesMost n (pos 0) h
-
-pub totals-count : (cards : List Card) (ts : List Transistor) (volts : List ℤ) →
-    length (totalsOf cards ts volts) ≡ nodesMost
-unfolding totalsOf
-totals-count cards ts volts = tabulate-long _ nodesMost
-
--- a list with these sums is the totals
-are-totals : (cards : List Card) (ts : List Transistor) (volts : List ℤ) (l : List ℤ) → length l ≡ nodesMost →
-    ((n : ℕ) → n < nodesMost → getD l n (pos 0) ≡ sumOver (placeGives cards volts n) ts) → l ≡ totalsOf cards ts volts
-are-totals cards ts volts l h at =
-    ext-getD (pos 0) l (totalsOf cards ts volts) (h ∙ sym (totals-count cards ts volts))
-    (λ n q. let b = subst (λ (x : ℕ). n < x) h q in at n b ∙ sym (totals-at cards ts volts n b))
-
--- no total is above what each place can give
-pub totals-room : (cards : List Card) (ts : List Transistor) (volts : List ℤ) → length ts ≡ transistorsMost →
-    Room nodesMost totalMost (totalsOf cards ts volts)
-totals-room cards ts volts h =
-    record { long = totals-count cards ts volts; within = λ n. go n (below-or-not n nodesMost) }
-  where
-    go : (n : ℕ) → (n < nodesMost) ⊎ (nodesMost ≤ n) → natAbs (getD (totalsOf cards ts volts) n (pos 0)) ≤ totalMost
-    go n (inl b) =
-        let s = small-sum (placeGives cards volts n) flowMost (small-place cards volts n) ts in
-        rw (totals-at cards ts volts n b)
-        (subst (λ (k : ℕ). natAbs (sumOver (placeGives cards volts n) ts) ≤ k * flowMost) h s)
-    go n (inr b) =
-        rw (List·getD-eq-default (totalsOf cards ts volts) (pos 0) {n = n} (rw (totals-count cards ts volts) b))
-        zero-le
 
 module _ {cards : List Card} {ts : List Transistor} {was volts : List ℕ} where
   pub midway-start : {totals : List ℤ} → totals ≡ totalsOf cards ts (map givenBack was) →

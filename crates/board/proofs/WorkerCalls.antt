@@ -24,7 +24,8 @@ use Rattle.board.specs.inner.Sizes.{totalMost, workedMost}
 use Rattle.board.proofs.Invariant.{Invariant}
 use Rattle.board.proofs.Amounts.{room-less}
 use Rattle.board.proofs.Currents.{named-stands}
-use Rattle.board.proofs.Midway.{totals-room, totals-changed}
+use Rattle.board.proofs.NodeSums.{totals-room}
+use Rattle.board.proofs.Midway.{totals-changed}
 
 -- ---- on a board that calls leave
 

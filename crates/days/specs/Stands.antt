@@ -5,14 +5,17 @@ use mathlib.Core.Bool.{not}
 use mathlib.Core.List.{List, [], _∷_}
 use Prim.Native.Nat.{ℕ}
 use lib.Dec.{eqb}
+use lib.ListN.{getD}
 use Rattle.board.specs.declared.Card.{Card}
 use Rattle.board.specs.declared.Transistor.{Transistor}
 use Rattle.board.specs.declared.Board.{Board}
 use Rattle.board.specs.declared.Answer.{Answer}
 use Rattle.board.specs.declared.Answer.the-variants.{Issue, Done, Node, Refused}
-use Rattle.board.specs.Desk.{Held, Standing, Desk, Reply, issued, done, shows, refused, keepIf}
-use Rattle.board.specs.Model.{workedAt, voltsOf}
-use Rattle.board.specs.Perm.{Perm}
+use Rattle.board.specs.declared.Answered.{Answered}
+use Rattle.board.specs.Verdict.{Found, none, some}
+use Rattle.board.specs.Desk.{Held, Standing, Desk, Step, Reply, issued, done, shows, refused, keepIf}
+use Rattle.board.specs.Model.{noCard, noTransistor, workedAt, transistorPlace, voltsOf}
+use Rattle.days.specs.Perm.{Perm}
 
 -- what stands on the places of l, each seen through f; a place whose key is 0 is empty
 unfoldable pub occupied : {A B : Type 0} → (A → ℕ) → (A → B) → List A → List B
@@ -33,6 +36,22 @@ heldIn cards = occupied (λ (c : Card). c .issue) heldOf cards
 abbrev pub standingIn : List Card → List Transistor → List Standing
 standingIn cards ts = occupied (λ (t : Transistor). t .issue) (standingOf cards) ts
 
+-- the card and the transistor at a place
+abbrev pub heldAt : Board → ℕ → Held
+heldAt b i = heldOf (getD (b .cards) i noCard)
+
+abbrev pub standingAt : Board → ℕ → Standing
+standingAt b i = standingOf (b .cards) (getD (b .transistors) i noTransistor)
+
+-- what was found, seen through a function
+abbrev pub mapFound : {A B : Type 0} → (A → B) → Found A → Found B
+mapFound g none = none
+mapFound g (some a) = some (g a)
+
+-- who stands on a board under an issue number
+abbrev pub standsUnder : ℕ → Board → Found Standing
+standsUnder k b = mapFound (standingAt b) (transistorPlace k (b .transistors))
+
 pub record Stands (b : Board) (d : Desk) : Type 0 where
   pub cards : Perm (heldIn (b .cards)) (d .cards)
   pub standing : Perm (standingIn (b .cards) (b .transistors)) (d .standing)
@@ -45,3 +64,8 @@ replyOf (Issue n) = issued n
 replyOf Done = done
 replyOf (Node v t) = shows v t
 replyOf (Refused f) = refused f
+
+-- a board's answer is the desk's, and its next board stands for the next desk
+pub record Follow (a : Answered) (t : Step) : Type 0 where
+  pub reply : replyOf (a .answer) ≡ t .reply
+  pub board : Stands (a .board) (t .desk)

@@ -20,33 +20,35 @@ use Rattle.card.specs.declared.WorkedCard.{WorkedCard}
 use Rattle.branch.specs.inner.Ready.{readyOf}
 use Rattle.branch.proofs.Laws.{ready-card}
 use Rattle.branch.specs.Rows.{roles}
 use Rattle.board.specs.declared.Card.{Card}
 use Rattle.board.specs.declared.Transistor.{Transistor}
 use Rattle.board.specs.declared.Board.{Board}
 use Rattle.board.specs.declared.Answered.{Answered}
 use Rattle.board.specs.Counts.{nodesMost, cardsMost, transistorsMost}
 use Rattle.board.specs.Verdict.{Found, none, some, issueOf, placeVerdict, moveVerdict, liftVerdict}
 use Rattle.board.specs.Verdict.{withdrawVerdict, nodeVerdict}
 use Rattle.board.specs.Desk as desk
 use Rattle.board.specs.Desk.{Held, Standing, Desk, Step, Call, load, place, move, lift, withdraw, lookUp, node}
 use Rattle.board.specs.Desk.{overloads, sumOver, anyOf, firstWith, heldAs, standsAs, without, larger, highest}
 use Rattle.board.specs.Desk.{flow, total, someOverloads, step, freshDesk, after}
 use Rattle.board.specs.Model as board
 use Rattle.board.specs.Model.{first, foundAt, isCard, isTransistor, cardPlace, transistorPlace, emptyCard}
-use Rattle.board.specs.Model.{noCard, emptyTransistor, noTransistor, placeGives, placeOverloads, totalsOf}
+use Rattle.board.specs.Model.{noCard, emptyTransistor, noTransistor, placeGives, placeOverloads}
 use Rattle.board.specs.Model.{freshBoard, voltsOf, freeCard, freeTransistor, standsOn, highestAt, loadedOf}
 use Rattle.board.specs.Model.{placedOf, movedOf, liftedOf, withdrawnOf, lookedOf, showedOf, answered, boardAfter}
-use Rattle.board.specs.Perm.{empty}
-use Rattle.board.specs.Stands.{occupied, heldOf, standingOf, heldIn, standingIn, Stands, replyOf}
-use Rattle.board.proofs.Perms.{perm-join, perm-length, perm-sum, perm-any, perm-count, perm-first}
-use Rattle.board.proofs.Perms.{perm-without, perm-highest}
-use Rattle.board.proofs.Places.{sum-occupied, any-occupied, full, join, seen, mapFound, find, find-none}
-use Rattle.board.proofs.Places.{count-occupied, leave}
-use Rattle.board.proofs.Lists.{tabulate-at, getD-map}
+use Rattle.days.specs.Perm.{empty}
+use Rattle.days.specs.Stands.{occupied, heldOf, standingOf, heldIn, standingIn, heldAt, standingAt, mapFound}
+use Rattle.days.specs.Stands.{standsUnder, Stands, Follow}
+use Rattle.days.proofs.Perms.{perm-join, perm-length, perm-sum, perm-any, perm-count, perm-first}
+use Rattle.days.proofs.Perms.{perm-without, perm-highest}
+use Rattle.days.proofs.Places.{sum-occupied, any-occupied, full, join, seen, find, find-none}
+use Rattle.days.proofs.Places.{count-occupied, leave}
+use Rattle.board.proofs.Lists.{getD-map}
+use Rattle.board.proofs.NodeSums.{totals-at}
 use Rattle.board.proofs.Verdicts.{loads, places, moves, lifts, withdraws, shown}
 use Rattle.board.proofs.Invariant.{Invariant, invariant-after, at-card, AtCard, at-transistor, AtTransistor}
 use Rattle.board.proofs.Invariant.{unused-away, worked-same, free-card}
-use Rattle.board.proofs.Orderly.{Orderly, orderly-after}
+use Rattle.days.proofs.Orderly.{Orderly, orderly-after}
 
 -- ---- verdicts on what was found by place, and on the same found by itself
 
@@ -113,7 +115,7 @@ module _ (b : Board) (d : Desk) (g : Invariant b) (o : Orderly d) (s : Stands b 
       rw (← (perm-length (s .standing))) (rw (g .transistors-long) at e)
 
   card-by : (n : ℕ) →
-      heldAs n (d .cards) ≡ mapFound (λ (i : ℕ). heldOf (getD (b .cards) i noCard)) (cardPlace n (b .cards))
+      heldAs n (d .cards) ≡ mapFound (heldAt b) (cardPlace n (b .cards))
   card-by n =
       sym
       (perm-first (λ (h : Held). eqb (h .issue) n)
@@ -122,8 +124,7 @@ module _ (b : Board) (d : Desk) (g : Invariant b) (o : Orderly d) (s : Stands b 
       ∙ go (eqb n 0) refl
     where
       go : (t : Bool) → eqb n 0 ≡ t →
-          firstWith (λ (h : Held). eqb (h .issue) n) (heldIn (b .cards)) ≡ mapFound
-          (λ (i : ℕ). heldOf (getD (b .cards) i noCard))
+          firstWith (λ (h : Held). eqb (h .issue) n) (heldIn (b .cards)) ≡ mapFound (heldAt b)
           (cond t none (foundAt cardsMost (first (isCard n) (b .cards))))
       go true e =
           rw (eqb-true n 0 e)
@@ -133,9 +134,7 @@ module _ (b : Board) (d : Desk) (g : Invariant b) (o : Orderly d) (s : Stands b 
           (find (λ (c : Card). c .issue) heldOf (λ (h : Held). h .issue) (λ c. refl) n (eqb-false n 0 e) noCard
           (b .cards))
 
-  transistor-by : (n : ℕ) →
-      standsAs n (d .standing) ≡ mapFound (λ (i : ℕ). standingOf (b .cards) (getD (b .transistors) i noTransistor))
-      (transistorPlace n (b .transistors))
+  pub transistor-by : (n : ℕ) → standsAs n (d .standing) ≡ standsUnder n b
   transistor-by n =
       sym
       (perm-first (λ (t : Standing). eqb (t .issue) n)
@@ -144,8 +143,7 @@ module _ (b : Board) (d : Desk) (g : Invariant b) (o : Orderly d) (s : Stands b 
       ∙ go (eqb n 0) refl
     where
       go : (t : Bool) → eqb n 0 ≡ t →
-          firstWith (λ (u : Standing). eqb (u .issue) n) (standingIn (b .cards) (b .transistors)) ≡ mapFound
-          (λ (i : ℕ). standingOf (b .cards) (getD (b .transistors) i noTransistor))
+          firstWith (λ (u : Standing). eqb (u .issue) n) (standingIn (b .cards) (b .transistors)) ≡ mapFound (standingAt b)
           (cond t none (foundAt transistorsMost (first (isTransistor n) (b .transistors))))
       go true e =
           rw (eqb-true n 0 e)
@@ -170,9 +168,9 @@ module _ (b : Board) (d : Desk) (g : Invariant b) (o : Orderly d) (s : Stands b 
       (b .transistors)
 
   pub totals-follow : (n : ℕ) → n < nodesMost → getD (b .totals) n (pos 0) ≡ total d n
-  unfolding totalsOf total placeGives
+  unfolding total placeGives
   totals-follow n h =
-      ap (λ (l : List ℤ). getD l n (pos 0)) (g .balanced) ∙ tabulate-at _ nodesMost n (pos 0) h
+      ap (λ (l : List ℤ). getD l n (pos 0)) (g .balanced) ∙ totals-at (b .cards) (b .transistors) (voltsOf b) n h
       ∙ sym
       (sum-occupied (λ (t : Transistor). t .issue) (standingOf (b .cards))
       (λ (t : Standing). flow (t .worked) (t .nodes) (voltsOf b) n) (b .transistors))
@@ -180,18 +178,6 @@ module _ (b : Board) (d : Desk) (g : Invariant b) (o : Orderly d) (s : Stands b 
       ∙ ap (λ (v : List ℤ). sumOver (λ (t : Standing). flow (t .worked) (t .nodes) v n) (d .standing)) (s .volts)
 
 -- ---- one call more
-
--- the card and the transistor at a place
-abbrev heldAt : Board → ℕ → Held
-heldAt b i = heldOf (getD (b .cards) i noCard)
-
-abbrev standingAt : Board → ℕ → Standing
-standingAt b i = standingOf (b .cards) (getD (b .transistors) i noTransistor)
-
--- a board's answer is the desk's, and its next board stands for the next desk
-pub record Follow (a : Answered) (t : Step) : Type 0 where
-  pub reply : replyOf (a .answer) ≡ t .reply
-  pub board : Stands (a .board) (t .desk)
 
 module _ (b : Board) (d : Desk) (g : Invariant b) (o : Orderly d) (s : Stands b d) where
   -- other cards at a place on which nobody stands leave the transistors as they are
@@ -427,7 +413,7 @@ pub stands-fresh : Stands freshBoard freshDesk
 unfolding freshBoard freshDesk occupied
 stands-fresh = record { cards = empty; standing = empty; volts = refl; next = refl }
 
-follow : (b : Board) (d : Desk) → Invariant b → Orderly d → Stands b d → (c : Call) → Follow (answered b c) (step d c)
+pub follow : (b : Board) (d : Desk) → Invariant b → Orderly d → Stands b d → (c : Call) → Follow (answered b c) (step d c)
 unfolding answered
 follow b d g o s (load name bytes) = follow-load b d g o s name bytes
 follow b d g o s (place card nodes sized) = follow-place b d g o s card nodes sized

@@ -1,13 +1,12 @@
 -- What the stored totals are on every board that calls leave: sums over what stands, zero in all, small, and the same
 -- for the same transistors.
-use mathlib.Core.Path.{_≡_, refl, sym, ap, _∙_, subst}
+use mathlib.Core.Path.{_≡_, refl, sym, ap, _∙_}
 use mathlib.Core.Bool.{Bool, true, false, cond}
 use mathlib.Core.List.{List, [], _∷_, map}
-use Prim.Native.Nat.{ℕ, zero, suc, _+_, _-_, _*_, _^_, _≤_, _<_, zero-le}
-use native.Mathlib.Nat.{suc-mul}
+use Prim.Native.Nat.{ℕ, zero, suc, _-_, _^_, _<_}
 use native.Mathlib.Omega.{arith}
 use lib.Dec.{eqb, eqb·zero-suc, eqb·suc-zero, eqb·suc-suc}
-use lib.ListN.{length, getD}
+use lib.ListN.{getD}
 use lib.IntN.{ℤ, pos, natAbs, negℤ, _+ℤ_, _-ℤ_, +ℤ-idl, +ℤ-idr, +ℤ-invr}
 use borrow.Author.Tests.{eqb-false}
 use Rattle.refusal.specs.Clash.{clash}
@@ -15,25 +14,24 @@ use Rattle.card.specs.declared.WorkedCard.{WorkedCard}
 use Rattle.branch.specs.declared.Over.{Over}
 use Rattle.branch.specs.declared.Over.the-variants.{Within, Ticks, Injection}
 use Rattle.branch.specs.Rows.{Row, rowsFor, roleIndex}
-use Rattle.branch.specs.Outcome.{tickLimit, outcomeOf, isOver}
-use Rattle.branch.proofs.Laws.{ticks-small}
+use Rattle.branch.specs.Outcome.{outcomeOf, isOver}
 use Rattle.board.specs.declared.Card.{Card}
 use Rattle.board.specs.declared.Transistor.{Transistor}
 use Rattle.board.specs.declared.Board.{Board}
 use Rattle.board.specs.Counts.{nodesMost}
 use Rattle.board.specs.Desk.{Standing, Call, rolesAt, overloads, atNode, rowsGive, flow, sumOver, total, after}
 use Rattle.board.specs.Model.{noTransistor, workedAt, placeGives, tabulate, totalsOf, voltsOf, boardAfter}
 use Rattle.board.specs.Model.{Reached}
-use Rattle.board.specs.Perm.{Perm}
-use Rattle.board.specs.Stands.{standingOf, standingIn}
-use Rattle.board.specs.inner.Sizes.{flowMost}
-use Rattle.board.proofs.Integers.{abs-add, abs-ends, turned, swap-inner}
-use Rattle.board.proofs.Perms.{perm-sum}
-use Rattle.board.proofs.Places.{sum-occupied}
-use Rattle.board.proofs.Lists.{tabulate-same, tabulate-at}
+use Rattle.days.specs.Perm.{Perm}
+use Rattle.days.specs.Stands.{standingOf, standingIn}
+use Rattle.days.specs.Fitted.{sumAll, Fitted, fittedOf, fittedIn}
+use Rattle.board.proofs.Integers.{turned, swap-inner}
+use Rattle.days.proofs.Perms.{perm-sum}
+use Rattle.days.proofs.Places.{sum-occupied}
+use Rattle.board.proofs.NodeSums.{tabulate-same, totals-room}
 use Rattle.board.proofs.Invariant.{invariant, invariant-after}
-use Rattle.board.proofs.Orderly.{orderly-after}
-use Rattle.board.proofs.Follows.{stands-after, totals-follow}
+use Rattle.days.proofs.Orderly.{orderly-after}
+use Rattle.days.proofs.Follows.{stands-after, totals-follow}
 
 -- ---- each total is the sum over the transistors standing
 
@@ -57,10 +55,6 @@ unfolding overloads
 none-overloads r i h = not-over _ (invariant r .transistor i h .quiet)
 
 -- ---- all of them add to zero
-
-unfoldable pub sumAll : List ℤ → ℤ
-unfolding sumOver
-sumAll l = sumOver (λ (x : ℤ). x) l
 
 -- a table of sums is summed part by part
 sum-both : (f g : ℕ → ℤ) (k : ℕ) →
@@ -142,17 +136,6 @@ totals-add-to-zero {b} r =
 
 -- ---- the same transistors on the same cards and nodes, at the same voltages
 
--- what a transistor counts by: its card and its nodes, and no number
-pub record Fitted : Type 0 where
-  pub worked : WorkedCard
-  pub nodes : List ℕ
-
-abbrev pub fittedOf : Standing → Fitted
-fittedOf t = record { worked = t .worked; nodes = t .nodes }
-
-abbrev pub fittedIn : Board → List Fitted
-fittedIn b = map fittedOf (standingIn (b .cards) (b .transistors))
-
 sum-map : {A B : Type 0} (f : B → ℤ) (g : A → B) (l : List A) → sumOver f (map g l) ≡ sumOver (λ (a : A). f (g a)) l
 unfolding sumOver
 sum-map f g [] = refl
@@ -183,58 +166,9 @@ same-standing-same-totals {b} {c} r s p e =
     ∙ sym (sum-fitted c n))
     ∙ sym (invariant s .balanced)
 
--- ---- sizes: a row counts at most once at a node
-
-small-rows : (rows : List Row) (nodes : List ℕ) (ticks : List ℤ) (n most : ℕ) →
-    ((k : ℕ) → natAbs (getD ticks k (pos 0)) ≤ most) → natAbs (rowsGive rows nodes ticks n) ≤ length rows * most
-unfolding rowsGive
-small-rows [] nodes ticks n most h = zero-le
-small-rows (r ∷ rs) nodes [] n most h = zero-le
-small-rows (r ∷ rs) nodes (x ∷ xs) n most h =
-    let a = getD nodes (roleIndex (r .from)) 0 in
-    let b = getD nodes (roleIndex (r .to)) 0 in
-    let p = abs-add (atNode a n x -ℤ atNode b n x) (rowsGive rs nodes xs n) in
-    let q = abs-ends (eqb a n) (eqb b n) x in
-    let t = small-rows rs nodes xs n most (λ k. h (suc k)) in
-    let u = h 0 in
-    rw (suc-mul (length rs) most) (omega arith)
-
-pub small-flow : (c : WorkedCard) (nodes : List ℕ) (volts : List ℤ) (n : ℕ) → natAbs (flow c nodes volts n) ≤ flowMost
-unfolding flow
-small-flow c nodes volts n =
-    small-rows (rowsFor (c .exsub)) nodes (outcomeOf c (rolesAt volts nodes) .ticks) n tickLimit
-    (ticks-small c (rolesAt volts nodes))
-
-pub small-place : (cards : List Card) (volts : List ℤ) (n : ℕ) (t : Transistor) →
-    natAbs (placeGives cards volts n t) ≤ flowMost
-unfolding placeGives
-small-place cards volts n t = go (eqb (t .issue) 0)
-  where
-    go : (u : Bool) → natAbs (cond u (pos 0) (flow (workedAt cards (t .«card_place»)) (t .nodes) volts n)) ≤ flowMost
-    go true = zero-le
-    go false = small-flow (workedAt cards (t .«card_place»)) (t .nodes) volts n
-
-pub small-sum : {A : Type 0} (f : A → ℤ) (most : ℕ) → ((a : A) → natAbs (f a) ≤ most) → (l : List A) →
-    natAbs (sumOver f l) ≤ length l * most
-unfolding sumOver
-small-sum f most h [] = zero-le
-small-sum f most h (a ∷ rest) =
-    let p = abs-add (f a) (sumOver f rest) in
-    let q = h a in
-    let t = small-sum f most h rest in rw (suc-mul (length rest) most) (omega arith)
+-- ---- and stay small
 
 pub totals-are-small : {b : Board} → Reached b → (n : ℕ) → n < nodesMost → natAbs (getD (b .totals) n (pos 0)) < 2 ^ 62
-unfolding totalsOf
 totals-are-small {b} r n h =
-    let g = invariant r in
-    let s =
-    small-sum (placeGives (b .cards) (voltsOf b) n) flowMost (small-place (b .cards) (voltsOf b) n)
-    (b .transistors) in
-    let k =
-    subst (λ (l : ℕ). natAbs (sumOver (placeGives (b .cards) (voltsOf b) n) (b .transistors)) ≤ l * flowMost)
-    (g .transistors-long) s in
-    rw (
-      g .balanced,
-      tabulate-at (λ (m : ℕ). sumOver (placeGives (b .cards) (voltsOf b) m) (b .transistors)) nodesMost n (pos 0) h,
-    )
-    (omega arith)
+    let s = totals-room (b .cards) (b .transistors) (voltsOf b) (invariant r .transistors-long) .within n in
+    rw (invariant r .balanced) (omega arith)

@@ -9,12 +9,12 @@ use lib.Dec.{T, eqb, leb, ltb, leb·suc-suc}
 use lib.ListN.{length, getD, set}
 use lib.IntN.{ℤ, pos, _+ℤ_, +ℤ-idl}
 use borrow.Author.Tests.{eqb-true, eqb-false, eq-eqb, ne-eqb, lt-leb, lt-ltb}
 use Rattle.board.specs.Desk.{sumOver, anyOf, firstWith, without, keepIf}
 use Rattle.board.specs.Verdict.{Found, none, some}
 use Rattle.board.specs.Model.{first, foundAt}
-use Rattle.board.specs.Stands.{occupied}
-use Rattle.board.specs.Perm.{Perm, keep, swap, then}
-use Rattle.board.proofs.Perms.{count, more, perm-self}
+use Rattle.days.specs.Stands.{occupied, mapFound}
+use Rattle.days.specs.Perm.{Perm, keep, swap, then}
+use Rattle.days.proofs.Perms.{count, more, perm-self}
 
 module _ {A B : Type 0} (key : A → ℕ) (f : A → B) where
   -- a sum, and a search, over all places
@@ -111,11 +111,6 @@ find-none {B = B} key f id knows (a ∷ rest) = go (eqb (key a) 0) refl (find-no
         firstWith (λ (b : B). eqb (id b) 0) (keepIf (not t) (f a) (occupied key f rest)) ≡ none
     go true e h = h
     go false e h = rw (knows a, e) h
-
--- what was found, seen through a function
-abbrev pub mapFound : {A B : Type 0} → (A → B) → Found A → Found B
-mapFound g none = none
-mapFound g (some a) = some (g a)
 
 -- elements that know their key
 module _ {A B : Type 0} (key : A → ℕ) (f : A → B) (id : B → ℕ) (knows : (a : A) → id (f a) ≡ key a) (n : ℕ)
