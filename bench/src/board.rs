@@ -1,54 +1,84 @@
-//! The board: each total worked anew from what stands, so that nothing can be carried wrongly from call to call.
+//! The board, changed in place: each transistor's currents are held and each node knows who names it, so that a call
+//! works only what it changes.
 
 use crate::card::{judge, Card};
-use crate::currents::{currents, ENDS};
+use crate::currents::{by_role, currents, Currents};
 use crate::library::well_formed;
-use crate::numbers::{table, POINTS};
+use crate::numbers::{Curve, CURVE};
 
 pub const NODES: usize = 32;
+const CARDS: usize = 16;
+const PLACES: usize = 64;
+const LAST_ISSUE: i64 = 65_535;
 
 struct Held {
     issue: i64,
     name: Vec<u8>,
     card: Card,
+    /// How many transistors stand on it.
+    standing: usize,
 }
 
+#[derive(Clone, Copy)]
 struct Standing {
-    issue: i64,
-    card_issue: i64,
-    card: Card,
-    nodes: [usize; 7],
+    /// The place of its card.
+    card: u8,
+    nodes: [u8; 7],
 }
+
+const NOWHERE: Standing = Standing {
+    card: 0,
+    nodes: [0; 7],
+};
 
 pub struct Board {
-    table: [u64; POINTS + 1],
-    cards: Vec<Held>,
-    standing: Vec<Standing>,
+    curve: Curve,
+    cards: [Option<Held>; CARDS],
+    /// The transistors' issue numbers; 0 at a free place.
+    issues: [i64; PLACES],
+    standing: [Standing; PLACES],
+    currents: [Currents; PLACES],
+    /// The currents that a move took out, until it is known to be good.
+    taken_out: [Currents; PLACES],
+    /// The places that are taken, and for each node those of the transistors that name it.
+    taken: u64,
+    naming: [u64; NODES],
     volts: [i64; NODES],
+    totals: [i64; NODES],
     next: i64,
 }
 
-fn sums(
-    table: &[u64; POINTS + 1],
-    standing: &[Standing],
-    volts: &[i64; NODES],
-) -> Option<[i64; NODES]> {
-    let mut totals = [0; NODES];
-    for t in standing {
-        let i = currents(table, &t.card, &t.nodes.map(|n| volts[n]))?;
-        for (k, (from, to)) in ENDS.iter().enumerate() {
-            totals[t.nodes[*from]] += i[k];
-            totals[t.nodes[*to]] -= i[k];
+/// The places of a set, lowest first.
+struct Members(u64);
+
+impl Iterator for Members {
+    type Item = usize;
+
+    #[inline]
+    fn next(&mut self) -> Option<usize> {
+        if self.0 == 0 {
+            return None;
         }
+        let place = self.0.trailing_zeros() as usize;
+        self.0 &= self.0 - 1;
+        Some(place)
     }
-    Some(totals)
 }
 
+#[inline]
 fn node(n: i64) -> Result<usize, u32> {
     if (0..NODES as i64).contains(&n) {
         Ok(n as usize)
     } else {
         Err(13)
+    }
+}
+
+/// Adds a transistor's currents to the totals of its nodes.
+#[inline]
+fn add(totals: &mut [i64; NODES], nodes: &[u8; 7], i: Currents) {
+    for (n, gives) in nodes.iter().zip(by_role(i)) {
+        totals[*n as usize % NODES] += gives;
     }
 }
 
@@ -61,17 +91,23 @@ impl Default for Board {
 impl Board {
     pub fn fresh() -> Self {
         Board {
-            table: table(),
-            cards: Vec::new(),
-            standing: Vec::new(),
+            curve: *CURVE,
+            cards: [const { None }; CARDS],
+            issues: [0; PLACES],
+            standing: [NOWHERE; PLACES],
+            currents: [[0; 7]; PLACES],
+            taken_out: [[0; 7]; PLACES],
+            taken: 0,
+            naming: [0; NODES],
             volts: [0; NODES],
+            totals: [0; NODES],
             next: 1,
         }
     }
 
-    fn issue(&mut self) -> i64 {
-        self.next += 1;
-        self.next - 1
+    fn held(&self, issue: i64) -> Option<usize> {
+        let is_it = |c: &Option<Held>| c.as_ref().is_some_and(|c| c.issue == issue);
+        self.cards.iter().position(is_it)
     }
 
     pub fn load(&mut self, name: &[u8], record: &[u8]) -> Result<i64, u32> {
@@ -82,45 +118,61 @@ impl Board {
             return Err(2);
         }
         let card = judge(record)?;
-        if self.cards.len() == 16 {
-            return Err(11);
-        }
-        if self.next > 65_535 {
+        let free = self.cards.iter().position(Option::is_none).ok_or(11u32)?;
+        if self.next > LAST_ISSUE {
             return Err(17);
         }
-        let issue = self.issue();
-        let name = name.to_vec();
-        self.cards.push(Held { issue, name, card });
+        let issue = self.next;
+        self.next += 1;
+        self.cards[free] = Some(Held {
+            issue,
+            name: name.to_vec(),
+            card,
+            standing: 0,
+        });
         Ok(issue)
     }
 
+    /// The currents that the transistor at a place would have, or nothing where it would overload.
+    #[inline(always)]
+    fn worked(&self, t: &Standing) -> Option<Currents> {
+        let card = &self.cards[t.card as usize % CARDS].as_ref()?.card;
+        let volts = t.nodes.map(|n| self.volts[n as usize % NODES]);
+        currents(&self.curve, card, &volts)
+    }
+
     pub fn place(&mut self, card: i64, nodes: &[i64; 7]) -> Result<i64, u32> {
-        let held = self.cards.iter().find(|c| c.issue == card).ok_or(12u32)?;
-        let (card_issue, card) = (held.issue, held.card);
-        let mut at = [0; 7];
-        for (a, n) in at.iter_mut().zip(nodes) {
-            *a = node(*n)?;
+        let at = self.held(card).ok_or(12u32)?;
+        let mut t = NOWHERE;
+        t.card = at as u8;
+        for (to, n) in t.nodes.iter_mut().zip(nodes) {
+            *to = node(*n)? as u8;
         }
-        if card.direct && at[5] != at[3] {
+        let direct = self.cards[at].as_ref().is_some_and(|c| c.card.direct);
+        if direct && t.nodes[5] != t.nodes[3] {
             return Err(14);
         }
-        if self.standing.len() == 64 {
+        if self.taken == u64::MAX {
             return Err(11);
         }
-        if self.next > 65_535 {
+        if self.next > LAST_ISSUE {
             return Err(17);
         }
-        let t = Standing {
-            issue: self.next,
-            card_issue,
-            card,
-            nodes: at,
-        };
-        if sums(&self.table, std::slice::from_ref(&t), &self.volts).is_none() {
-            return Err(15);
+        let i = self.worked(&t).ok_or(15u32)?;
+        let place = (!self.taken).trailing_zeros() as usize;
+        self.taken |= 1 << place;
+        for n in t.nodes {
+            self.naming[n as usize % NODES] |= 1 << place;
         }
-        self.standing.push(t);
-        Ok(self.issue())
+        add(&mut self.totals, &t.nodes, i);
+        self.issues[place] = self.next;
+        self.standing[place] = t;
+        self.currents[place] = i;
+        if let Some(c) = &mut self.cards[at] {
+            c.standing += 1;
+        }
+        self.next += 1;
+        Ok(self.issues[place])
     }
 
     pub fn shift(&mut self, n: i64, microvolts: i64) -> Result<(), u32> {
@@ -128,28 +180,62 @@ impl Board {
         if !(-2_500_000..=2_500_000).contains(&microvolts) {
             return Err(13);
         }
-        let mut volts = self.volts;
-        volts[n] = microvolts;
-        if sums(&self.table, &self.standing, &volts).is_none() {
-            return Err(15);
+        let before = self.volts[n];
+        self.volts[n] = microvolts;
+        for place in Members(self.naming[n]) {
+            let Some(i) = self.worked(&self.standing[place]) else {
+                self.volts[n] = before;
+                self.put_back(self.naming[n] & ((1 << place) - 1));
+                return Err(15);
+            };
+            self.taken_out[place] = self.exchange(place, i);
         }
-        self.volts = volts;
         Ok(())
     }
 
+    /// Takes the held currents of a transistor out of the totals and puts others in; gives those that were held.
+    #[inline(always)]
+    fn exchange(&mut self, place: usize, new: Currents) -> Currents {
+        let old = self.currents[place];
+        let change = std::array::from_fn(|k| new[k] - old[k]);
+        add(&mut self.totals, &self.standing[place].nodes, change);
+        self.currents[place] = new;
+        old
+    }
+
+    /// Undoes a move at the places that it has come to.
+    #[cold]
+    fn put_back(&mut self, places: u64) {
+        for place in Members(places) {
+            self.exchange(place, self.taken_out[place]);
+        }
+    }
+
     pub fn lift(&mut self, issue: i64) -> Result<(), u32> {
-        let at = self.standing.iter().position(|t| t.issue == issue);
-        self.standing.remove(at.ok_or(12u32)?);
+        if issue < 1 {
+            return Err(12);
+        }
+        let is_it = |i: &i64| *i == issue;
+        let place = self.issues.iter().position(is_it).ok_or(12u32)?;
+        let t = self.standing[place];
+        self.taken &= !(1 << place);
+        for n in t.nodes {
+            self.naming[n as usize % NODES] &= !(1 << place);
+        }
+        add(&mut self.totals, &t.nodes, self.currents[place].map(|i| -i));
+        self.issues[place] = 0;
+        if let Some(c) = &mut self.cards[t.card as usize % CARDS] {
+            c.standing -= 1;
+        }
         Ok(())
     }
 
     pub fn withdraw(&mut self, issue: i64) -> Result<(), u32> {
-        let at = self.cards.iter().position(|c| c.issue == issue);
-        let at = at.ok_or(12u32)?;
-        if self.standing.iter().any(|t| t.card_issue == issue) {
+        let at = self.held(issue).ok_or(12u32)?;
+        if self.cards[at].as_ref().is_some_and(|c| c.standing > 0) {
             return Err(16);
         }
-        self.cards.remove(at);
+        self.cards[at] = None;
         Ok(())
     }
 
@@ -157,19 +243,17 @@ impl Board {
         if !well_formed(name) {
             return Err(2);
         }
-        let of_name = self.cards.iter().filter(|c| c.name == name);
+        let of_name = self.cards.iter().flatten().filter(|c| c.name == name);
         of_name.map(|c| c.issue).max().ok_or(4)
     }
 
     /// All voltages and totals.
     pub fn reading(&self) -> ([i64; NODES], [i64; NODES]) {
-        let totals = sums(&self.table, &self.standing, &self.volts);
-        (self.volts, totals.expect("nothing that stands overloads"))
+        (self.volts, self.totals)
     }
 
     pub fn node(&self, n: i64) -> Result<(i64, i64), u32> {
         let n = node(n)?;
-        let (volts, totals) = self.reading();
-        Ok((volts[n], totals[n]))
+        Ok((self.volts[n], self.totals[n]))
     }
 }

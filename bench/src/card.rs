@@ -1,14 +1,8 @@
 //! A card: its sixteen numbers clipped and worked, or the refusal's number.
 
-use crate::numbers::floor_scaled;
-use crate::numbers::TICK_LIMIT;
+use crate::numbers::{highest, Octave, Scaled, RATIO_LIMIT, TICK_LIMIT};
 
-#[derive(Clone, Copy, Debug, PartialEq)]
-pub struct Scaled {
-    pub a: u64,
-    pub b: i64,
-}
-
+/// A card as its currents need it.
 #[derive(Clone, Copy, Debug, PartialEq)]
 pub struct Card {
     pub sn: Scaled,
@@ -20,12 +14,35 @@ pub struct Card {
     pub sf: Scaled,
     pub rex: Scaled,
     pub rsub: Scaled,
-    pub octave: i64,
-    pub second: i64,
+    pub octave: Octave,
+    pub second: Octave,
     pub exsub: bool,
     pub direct: bool,
-    /// T of bulk, side, nonideal, ex, sub and sf by themselves; nothing where it is above the limit.
-    pub alone: [Option<u64>; 6],
+    pub alone: Alone,
+    pub highest: Highest,
+}
+
+/// T of values by themselves.
+#[derive(Clone, Copy, Debug, PartialEq)]
+pub struct Alone {
+    pub bulk: i64,
+    pub side: i64,
+    pub nonideal: i64,
+    pub ex: i64,
+    pub sub: i64,
+    pub sf: i64,
+}
+
+/// The highest positions without an overload, for each voltage of the rows.
+#[derive(Clone, Copy, Debug, PartialEq)]
+pub struct Highest {
+    pub b2e1: i64,
+    pub b2c2: i64,
+    pub b1e1: i64,
+    pub second: i64,
+    pub b1c4: i64,
+    pub sc1: i64,
+    pub sc4: i64,
 }
 
 pub struct Clipped {
@@ -86,10 +103,14 @@ pub fn clip(record: &[u8]) -> Result<Clipped, u32> {
     Ok(Clipped { numbers, mask })
 }
 
-/// A finite number that is not negative, as a * 2^b.
-fn split(x: f64) -> Scaled {
+/// A finite number that is not negative, as a * 2^b, for its product with m * 2^n in units of 2^-(30 + places).
+fn scaled(x: f64, places: i64, limit: i64) -> Scaled {
     if x == 0.0 {
-        return Scaled { a: 0, b: 0 };
+        return Scaled {
+            a: 0,
+            shift: 0,
+            limit,
+        };
     }
     let bits = x.to_bits();
     let field = (bits >> 52) as i64;
@@ -105,8 +126,19 @@ fn split(x: f64) -> Scaled {
     }
     Scaled {
         a: f >> 22,
-        b: k + 22,
+        shift: -(k + 22 + places),
+        limit,
     }
+}
+
+/// In ticks of 2^-50.
+fn current(x: f64) -> Scaled {
+    scaled(x, 20, TICK_LIMIT)
+}
+
+/// In parts of 2^-20.
+fn ratio(x: f64) -> Scaled {
+    scaled(x, -10, RATIO_LIMIT)
 }
 
 pub fn judge(record: &[u8]) -> Result<Card, u32> {
@@ -135,24 +167,50 @@ pub fn judge(record: &[u8]) -> Result<Card, u32> {
     if all.iter().any(|v| !v.is_finite()) || product.trunc() > 1e9 {
         return Err(10);
     }
-    let alone = [bulk, side, nonideal, ex, sub, sf].map(|v| {
-        let s = split(v);
-        floor_scaled(s.a, s.b + 50, TICK_LIMIT)
-    });
+    let exsub = exsub == 1.0;
+    let [sn, bulk, side, nonideal, ex, sub, sf] =
+        [sn, bulk, side, nonideal, ex, sub, sf].map(current);
+    let [rex, rsub] = [rex, rsub].map(ratio);
+    let mut highest = Highest {
+        b2e1: highest(&[sn, bulk]),
+        b2c2: highest(&[sn]),
+        b1e1: highest(&[side]),
+        second: highest(&[nonideal]),
+        b1c4: highest(&[ex, sub, rex, rsub]),
+        sc1: highest(&[sf]),
+        sc4: highest(&[sub]),
+    };
+    let mut alone = |v: Scaled, counts: bool| {
+        v.alone().unwrap_or_else(|| {
+            if counts {
+                highest.b2e1 = -(1 << 40); // no voltage is low enough
+            }
+            0
+        })
+    };
+    let alone = Alone {
+        bulk: alone(bulk, true),
+        side: alone(side, true),
+        nonideal: alone(nonideal, true),
+        ex: alone(ex, true),
+        sub: alone(sub, !exsub),
+        sf: alone(sf, true),
+    };
     Ok(Card {
-        sn: split(sn),
-        bulk: split(bulk),
-        side: split(side),
-        nonideal: split(nonideal),
-        ex: split(ex),
-        sub: split(sub),
-        sf: split(sf),
-        rex: split(rex),
-        rsub: split(rsub),
-        octave: octave as i64,
-        second: product as i64,
-        exsub: exsub == 1.0,
+        sn,
+        bulk,
+        side,
+        nonideal,
+        ex,
+        sub,
+        sf,
+        rex,
+        rsub,
+        octave: Octave::of(octave as i64),
+        second: Octave::of(product as i64),
+        exsub,
         direct: rcbli == 0.0,
         alone,
+        highest,
     })
 }

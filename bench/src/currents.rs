@@ -1,55 +1,72 @@
 //! The seven branch currents of a transistor.
 
-use crate::card::{Card, Scaled};
-use crate::numbers::{floor_scaled, gain, quotient, root, Gain, POINTS, RATIO_LIMIT, TICK_LIMIT};
+use crate::card::Card;
+use crate::numbers::{gain, quotient, root, Curve};
 
 /// Voltages of E1, B1, B2, C1, C2, C4 and S, in microvolts.
 pub type Volts = [i64; 7];
 
-/// From-role and to-role of each branch, as places among the seven.
-pub const ENDS: [(usize, usize); 7] = [(4, 0), (2, 0), (1, 0), (2, 0), (1, 5), (1, 6), (6, 3)];
+/// The currents of the branches, in ticks.
+pub type Currents = [i64; 7];
 
+/// What a transistor gives to the totals of the nodes of its roles.
 #[inline]
-fn ticks(x: Scaled, g: Gain) -> Option<u64> {
-    floor_scaled(x.a * g.m, x.b + g.n + 20, TICK_LIMIT)
+pub fn by_role([i1, i2, i3, i4, i5, i6, i7]: Currents) -> [i64; 7] {
+    [
+        -i1 - i2 - i3 - i4,
+        i3 + i5 + i6,
+        i2 + i4,
+        -i7,
+        i1,
+        -i5,
+        i7 - i6,
+    ]
 }
 
+/// n shared out by a ratio's floor.
 #[inline]
-fn ratio(x: Scaled, g: Gain) -> Option<u64> {
-    floor_scaled(x.a * g.m, x.b + g.n - 10, RATIO_LIMIT)
-}
-
-#[inline]
-fn shared(n: i64, f: u64) -> i64 {
+fn shared(n: i64, f: i64) -> i64 {
     if f == 0 || n == 0 {
         return n;
     }
-    quotient(n, (1 << 20) + root(((1 << 20) + f) << 20))
+    quotient(n, (1 << 20) + root(((1 << 20) + f as u64) << 20))
 }
 
-/// The currents, or nothing where the transistor overloads.
-#[inline]
-pub fn currents(table: &[u64; POINTS + 1], c: &Card, v: &Volts) -> Option<[i64; 7]> {
+/// The currents, or nothing where the transistor overloads. Each exponential is worked once for the rows that share it,
+/// and judged by its position alone.
+#[inline(always)]
+pub fn currents(curve: &Curve, c: &Card, v: &Volts) -> Option<Currents> {
     let [e1, b1, b2, c1, c2, c4, s] = *v;
-    let g_b2e1 = gain(table, b2 - e1, c.octave);
-    let g_b2c2 = gain(table, b2 - c2, c.octave);
-    let g_b1e1 = gain(table, b1 - e1, c.octave);
-    let g_second = gain(table, b2 - e1, c.second);
-    let g_b1c4 = gain(table, b1 - c4, c.octave);
-    let g_sc1 = gain(table, s - c1, c.octave);
-    let minus = if c.exsub {
-        ticks(c.sub, gain(table, s - c4, c.octave))?
-    } else {
-        c.alone[4]?
-    };
-    let i1 = ticks(c.sn, g_b2e1)? as i64 - ticks(c.sn, g_b2c2)? as i64;
-    let i2 = ticks(c.bulk, g_b2e1)? as i64 - c.alone[0]? as i64;
-    let i3 = ticks(c.side, g_b1e1)? as i64 - c.alone[1]? as i64;
-    let i4 = ticks(c.nonideal, g_second)? as i64 - c.alone[2]? as i64;
-    let n5 = ticks(c.ex, g_b1c4)? as i64 - c.alone[3]? as i64;
-    let i5 = shared(n5, ratio(c.rex, g_b1c4)?);
-    let n6 = ticks(c.sub, g_b1c4)? as i64 - minus as i64;
-    let i6 = shared(n6, ratio(c.rsub, g_b1c4)?);
-    let i7 = ticks(c.sf, g_sc1)? as i64 - c.alone[5]? as i64;
-    Some([i1, i2, i3, i4, i5, i6, i7])
+    let b2e1 = gain(curve, b2 - e1, c.octave);
+    let b2c2 = gain(curve, b2 - c2, c.octave);
+    let b1e1 = gain(curve, b1 - e1, c.octave);
+    let second = gain(curve, b2 - e1, c.second);
+    let b1c4 = gain(curve, b1 - c4, c.octave);
+    let sc1 = gain(curve, s - c1, c.octave);
+    let most = &c.highest;
+    // a difference is negative where a position is too high, and so is the OR of them all
+    let mut room = (most.b2e1 - b2e1.p)
+        | (most.b2c2 - b2c2.p)
+        | (most.b1e1 - b1e1.p)
+        | (most.second - second.p)
+        | (most.b1c4 - b1c4.p)
+        | (most.sc1 - sc1.p);
+    let mut minus = c.alone.sub;
+    if c.exsub {
+        let sc4 = gain(curve, s - c4, c.octave);
+        room |= most.sc4 - sc4.p;
+        minus = c.sub.floor(sc4);
+    }
+    if room < 0 {
+        return None;
+    }
+    Some([
+        c.sn.floor(b2e1) - c.sn.floor(b2c2),
+        c.bulk.floor(b2e1) - c.alone.bulk,
+        c.side.floor(b1e1) - c.alone.side,
+        c.nonideal.floor(second) - c.alone.nonideal,
+        shared(c.ex.floor(b1c4) - c.alone.ex, c.rex.floor(b1c4)),
+        shared(c.sub.floor(b1c4) - minus, c.rsub.floor(b1c4)),
+        c.sf.floor(sc1) - c.alone.sf,
+    ])
 }

@@ -4,21 +4,50 @@ pub fn well_formed(name: &[u8]) -> bool {
     (1..=16).contains(&name.len()) && name.iter().all(|b| (0x21..=0x7e).contains(b))
 }
 
-fn padded_well(name: &[u8]) -> bool {
-    let end = name.iter().position(|&b| b == 0).unwrap_or(16);
-    well_formed(&name[..end]) && name[end..].iter().all(|&b| b == 0)
+const fn sixteen(byte: u8) -> u128 {
+    u128::from_le_bytes([byte; 16])
+}
+
+/// A name with its padding, its sixteen bytes judged at once by the upper bits of sums.
+#[inline]
+fn padded_well(name: &[u8; 16]) -> bool {
+    let key = u128::from_le_bytes(*name);
+    let upper = |x: u128| x & sixteen(0x80);
+    let filled = upper(key.wrapping_add(sixteen(0x7f)));
+    let from_21 = upper(key.wrapping_add(sixteen(0x5f)));
+    let past_7e = upper(key | key.wrapping_add(sixteen(1)));
+    // 0xff for each filled byte: with 1 added it has no bit in common where they stand first
+    let whole = (filled << 1).wrapping_sub(filled >> 7);
+    let gap = whole & whole.wrapping_add(1);
+    name[0] != 0 && past_7e | (filled ^ from_21) | gap == 0
+}
+
+const SLOTS: usize = 512;
+
+/// Whether no name, of at most 256, stands twice: each takes the first free slot after that of its hash.
+fn all_different(names: &[[u8; 16]]) -> bool {
+    let mut slots = [u16::MAX; SLOTS];
+    for (i, name) in names.iter().enumerate() {
+        let key = u128::from_le_bytes(*name);
+        let mixed = (key as u64).wrapping_mul(0x9e37_79b9_7f4a_7c15) ^ (key >> 64) as u64;
+        let mut at = (mixed.wrapping_mul(0xd6e8_feb8_6659_fd93) >> 55) as usize;
+        while let Some(other) = names.get(slots[at] as usize) {
+            if other == name {
+                return false;
+            }
+            at = (at + 1) % SLOTS;
+        }
+        slots[at] = i as u16;
+    }
+    true
 }
 
 fn names_judged(names: &[u8]) -> Result<(), u32> {
-    if !names.chunks(16).all(padded_well) {
+    let names = names.as_chunks().0;
+    if !names.iter().all(padded_well) {
         return Err(2);
     }
-    let mut keys: Vec<u128> = names
-        .chunks(16)
-        .map(|n| u128::from_le_bytes(n.try_into().unwrap()))
-        .collect();
-    keys.sort_unstable();
-    if keys.windows(2).any(|pair| pair[0] == pair[1]) {
+    if !all_different(names) {
         return Err(3);
     }
     Ok(())

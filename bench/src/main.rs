@@ -2,7 +2,7 @@
 //!
 //!   bench vectors FOLDER    this implementation against a folder of outside vectors
 //!   bench desk SCRIPT       what the desk must answer to a script
-//!   bench time NAME         one of the timed runs: root, exponential, currents, empty, still, move, all, pair, read, find
+//!   bench time NAME TIMES   one of the timed runs: root, exponential, currents, saturated, empty, still, move, all, pair, read, find
 //!   bench differ ROUNDS     random inputs through the built programs (`./desk`, `./listing` of the project) and this implementation
 
 mod board;
@@ -65,13 +65,13 @@ fn vectors(folder: &Path) {
         );
     }
     for file in ["currents.tsv", "currents-rich.tsv"] {
-        let table = numbers::table();
+        let curve = *numbers::CURVE;
         for line in std::fs::read_to_string(folder.join(file)).unwrap().lines() {
             let cells: Vec<&str> = line.split('\t').collect();
             let v: Vec<i64> = cells[1].split(' ').map(|x| x.parse().unwrap()).collect();
             let got = match card::judge(&unhex(cells[0])) {
                 Err(k) => format!("refused {k}"),
-                Ok(c) => match currents::currents(&table, &c, &v.try_into().unwrap()) {
+                Ok(c) => match currents::currents(&curve, &c, &v.try_into().unwrap()) {
                     None => "refused".into(),
                     Some(i) => format!("ok {}", i.map(|x| x.to_string()).join(" ")),
                 },
@@ -122,47 +122,53 @@ fn timed_record() -> Vec<u8> {
     words.map(f64::to_le_bytes).concat()
 }
 
-fn time_root() {
+fn time_root(times: u64) {
     let (mut x, mut sum) = (1u64, 0u64);
-    for n in 0..50_000_000 {
+    for n in 0..times {
         x = (x * 1103 + 12345) % 65536;
         sum = (sum + numbers::root((x << 46) + n)) % (1 << 30);
     }
     println!("{sum}");
 }
 
-fn time_exponential() {
-    let table = numbers::table();
-    let octave = std::hint::black_box(17_808_740);
+fn time_exponential(times: u64) {
+    let curve = *numbers::CURVE;
+    let octave = numbers::Octave::of(std::hint::black_box(17_808_740));
     let (mut x, mut sum) = (1u64, 0u64);
-    for _ in 0..50_000_000 {
+    for _ in 0..times {
         x = (x * 1103 + 12345) % 65536;
-        let g = numbers::gain(&table, 10 * x as i64 - 10_000, octave);
+        let g = numbers::gain(&curve, 10 * x as i64 - 10_000, octave);
         sum = (sum + g.m + (g.n + 8192) as u64) % (1 << 30);
     }
     println!("{sum}");
 }
 
-fn time_currents() {
-    let table = numbers::table();
+/// Seven voltages of which no two go together, so that no exponential serves two rows by chance.
+fn time_currents(times: u64, collector: i64, slope: i64) {
+    let curve = *numbers::CURVE;
     let c = card::judge(&timed_record()).unwrap();
     let (mut x, mut sum) = (1u32, 0u64);
-    for _ in 0..20_000_000 {
+    for _ in 0..times {
         x = (x * 1103 + 12345) % 65536;
-        let b = 600_000 + 2 * x as i64;
-        let h = 2_000_000 - x as i64;
-        let t = currents::currents(&table, &c, &[0, b, b, h, h, h, 0]).unwrap_or([0; 7]);
-        for (k, t) in t.iter().enumerate() {
-            if *t != 3 * k as i64 + 1 {
-                sum = (sum + k as u64 + 1) % 1_000_000_007;
-            }
-        }
+        let y = x as i64;
+        let (b, h) = (600_000 + 2 * y, collector + slope * y);
+        let v = [0, b, b - y / 8, h, h + y / 16, h + y / 32, 0];
+        let t = currents::currents(&curve, &c, &v).unwrap_or([0; 7]);
+        sum = t.iter().fold(sum, |s, t| s.wrapping_add(*t as u64));
     }
     println!("{sum}");
 }
 
+/// One number of every total and voltage.
+fn told(b: &board::Board) -> i64 {
+    let (volts, totals) = b.reading();
+    totals.iter().zip(volts).fold(0, |sum, (t, v)| {
+        (sum * 31 + t % 1_000_003 + 1_000_003 + v + 2_500_000) % (1 << 30)
+    })
+}
+
 /// A voltage moved so often, on a board with so many transistors; the first move brings the collectors to 2 V.
-fn time_moves(times: i64, places: i64, node: impl Fn(i64) -> i64, microvolts: i64) {
+fn time_moves(times: u64, places: i64, node: impl Fn(u64) -> u64, microvolts: i64) {
     let mut b = board::Board::fresh();
     b.load(b"a", &timed_record()).unwrap();
     for i in 0..places {
@@ -174,14 +180,14 @@ fn time_moves(times: i64, places: i64, node: impl Fn(i64) -> i64, microvolts: i6
     for n in 0..times {
         b.shift(next.0, next.1).unwrap();
         x = (x * 1103 + 12345) % 65536;
-        next = (node(n), microvolts + x as i64);
+        next = (node(n) as i64, microvolts + x as i64);
     }
-    println!("{:?}", b.node(20));
+    println!("{}", told(&b));
 }
 
-fn time_pair() {
+fn time_pair(times: u64) {
     let mut b = board::Board::fresh();
-    for n in 0..1_000_000 {
+    for n in 0..times {
         if n % 32_000 == 0 {
             b = board::Board::fresh();
             b.load(b"a", &timed_record()).unwrap();
@@ -189,7 +195,7 @@ fn time_pair() {
         let i = b.place(1, &[0, 1, 1, 2, 2, 2, 3]).unwrap();
         b.lift(i).unwrap();
     }
-    println!("{:?}", b.node(3));
+    println!("{}", told(&b));
 }
 
 /// A good library of 256 cards.
@@ -206,10 +212,10 @@ fn timed_library() -> Vec<u8> {
     l
 }
 
-fn time_read() {
+fn time_read(times: usize) {
     let mut l = timed_library();
     let (mut names, mut words, mut sum) = (vec![0; 4096], vec![0; 4096], 0);
-    for n in 0..100_000 {
+    for n in 0..times {
         l[4102] = 48 + (n % 10) as u8;
         library::read(std::hint::black_box(&l), &mut names, &mut words).unwrap();
         sum = (sum + 1 + words[n % 4096] % 7 + names[n % 4096] as u64) % (1 << 30);
@@ -217,13 +223,31 @@ fn time_read() {
     println!("{sum}");
 }
 
-fn time_find() {
+fn time_find(times: usize) {
     let (mut l, mut sum) = (timed_library(), 0);
-    for n in 0..100_000 {
+    for n in 0..times {
         l[4102] = 48 + (n % 10) as u8;
-        sum += library::locate(std::hint::black_box(&l), b"npn200").unwrap() % 7;
+        let at = library::locate(std::hint::black_box(&l), b"npn200").unwrap();
+        sum += 1 + l[at + n % 128] as u64;
     }
     println!("{sum}");
+}
+
+fn time(name: &str, times: u64) {
+    match name {
+        "root" => time_root(times),
+        "exponential" => time_exponential(times),
+        "currents" => time_currents(times, 2_000_000, -1),
+        "saturated" => time_currents(times, 0, 1),
+        "empty" => time_moves(times, 0, |n| 1 + n % 8, 600_000),
+        "still" => time_moves(times, 64, |_| 31, 600_000),
+        "move" => time_moves(times, 64, |n| 1 + n % 8, 600_000),
+        "all" => time_moves(times, 64, |_| 20, 2_000_000),
+        "pair" => time_pair(times),
+        "read" => time_read(times as usize),
+        "find" => time_find(times as usize),
+        _ => println!("no timed run {name}"),
+    }
 }
 
 fn main() {
@@ -235,16 +259,7 @@ fn main() {
                 &protocol::Desk::new(read_file).run(&std::fs::read(script).unwrap())
             )
         ),
-        ["time", "root"] => time_root(),
-        ["time", "exponential"] => time_exponential(),
-        ["time", "currents"] => time_currents(),
-        ["time", "empty"] => time_moves(1_000_000, 0, |n| 1 + n % 8, 600_000),
-        ["time", "still"] => time_moves(200_000, 64, |_| 31, 600_000),
-        ["time", "move"] => time_moves(200_000, 64, |n| 1 + n % 8, 600_000),
-        ["time", "all"] => time_moves(50_000, 64, |_| 20, 2_000_000),
-        ["time", "pair"] => time_pair(),
-        ["time", "read"] => time_read(),
-        ["time", "find"] => time_find(),
+        ["time", name, times] => time(name, times.parse().unwrap()),
         ["vectors", folder] => vectors(&std::fs::canonicalize(folder).unwrap()),
         ["differ", rounds] => {
             let top = concat!(env!("CARGO_MANIFEST_DIR"), "/..");
@@ -255,6 +270,8 @@ fn main() {
                 &program("listing"),
             );
         }
-        _ => println!("usage: bench vectors FOLDER | desk SCRIPT | time NAME | differ ROUNDS"),
+        _ => {
+            println!("usage: bench vectors FOLDER | desk SCRIPT | time NAME TIMES | differ ROUNDS")
+        }
     }
 }

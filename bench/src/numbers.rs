@@ -1,27 +1,23 @@
 //! Whole-number arithmetic of the desk, written from its rules alone: the octave's table, positions, roots and quotients.
 
-pub const POINTS: usize = 64;
-pub const STEPS: i64 = 1024;
-pub const TICK_LIMIT: u64 = 1 << 53;
-pub const RATIO_LIMIT: u64 = 1 << 40;
+const POINTS: usize = 64;
+const STEPS: u64 = 1024;
+pub const TICK_LIMIT: i64 = 1 << 53;
+pub const RATIO_LIMIT: i64 = 1 << 40;
 
-/// The table of the exponential over one octave, worked from its rule with long multiplication.
-pub fn table() -> [u64; POINTS + 1] {
-    let mut t = [0u64; POINTS + 1];
-    for (j, entry) in t.iter_mut().enumerate() {
-        // the greatest t with t^64 <= 2^(1920 + j), by bisection
-        let (mut low, mut high) = (1u64 << 30, (1u64 << 31) + 1);
-        while high - low > 1 {
-            let middle = (low + high) / 2;
-            if power64_at_most(middle, 1920 + j) {
-                low = middle;
-            } else {
-                high = middle;
-            }
+/// The table of the exponential over one octave: a guess, and its rule with long multiplication.
+fn table() -> [u64; POINTS + 1] {
+    std::array::from_fn(|j| {
+        // the greatest t with t^64 <= 2^(1920 + j)
+        let mut t = (30.0 + j as f64 / POINTS as f64).exp2() as u64;
+        while !power64_at_most(t, 1920 + j) {
+            t -= 1;
         }
-        *entry = low;
-    }
-    t
+        while power64_at_most(t + 1, 1920 + j) {
+            t += 1;
+        }
+        t
+    })
 }
 
 /// Whether x^64 <= 2^bits, exactly.
@@ -58,75 +54,182 @@ fn compare(a: &[u32], b: &[u32]) -> std::cmp::Ordering {
         .then_with(|| a.iter().rev().cmp(b.iter().rev()))
 }
 
-/// G(V) = m * 2^(n - 30).
+/// A point of the table beside the step to the next, so that one load serves both.
+#[derive(Clone, Copy)]
+pub struct Point {
+    low: u32,
+    step: u32,
+}
+
+pub type Curve = [Point; POINTS];
+
+/// The table as the exponential reads it, worked once.
+pub static CURVE: std::sync::LazyLock<Curve> = std::sync::LazyLock::new(|| {
+    let t = table();
+    std::array::from_fn(|j| Point {
+        low: t[j] as u32,
+        step: (t[j + 1] - t[j]) as u32,
+    })
+});
+
+/// An octave made ready for positions: 65,536,000 * 2^56 / octave, rounded upward. Octaves are from 10^6 to 10^9
+/// nanovolts, so it is below 2^63.
+#[derive(Clone, Copy, Debug, PartialEq)]
+pub struct Octave(i64);
+
+impl Octave {
+    pub fn of(nanovolts: i64) -> Self {
+        Octave((65_536_000u128 << 56).div_ceil(nanovolts as u128) as i64)
+    }
+
+    /// floor(microvolts * 65,536,000 / octave), for up to 5 * 10^6 microvolts of either sign.
+    ///
+    /// The product's upper word has 32 places after the point. The rounding of the factor moves it by less than 0.3,
+    /// and its own floor by less than 1. With 2 added it is above the true quotient by less than 2.3 / 2^32, and that
+    /// is less than 10^-9, as near as a quotient can come to the next whole number from below.
+    #[inline(always)]
+    fn position(self, microvolts: i64) -> i64 {
+        let product = (microvolts << 40) as i128 * self.0 as i128;
+        ((product >> 64) as i64 + 2) >> 32
+    }
+}
+
+/// G(V) = m * 2^(n - 30) at the position p of V.
 #[derive(Clone, Copy)]
 pub struct Gain {
     pub m: u64,
     pub n: i64,
+    pub p: i64,
 }
 
-/// The exponential of a voltage in microvolts for an octave in nanovolts.
-#[inline]
-pub fn gain(table: &[u64; POINTS + 1], microvolts: i64, octave: i64) -> Gain {
-    let p = (microvolts * 65_536_000).div_euclid(octave);
-    let n = p >> 16;
-    let f = p & 0xffff;
-    let (j, r) = ((f / STEPS) as usize, (f % STEPS) as u64);
-    let low = table[j];
-    Gain {
-        m: low + (((table[j + 1] - low) * r) >> 10),
-        n,
+/// The exponential at a position.
+#[inline(always)]
+fn gain_at(curve: &Curve, p: i64) -> Gain {
+    let f = p as u64 & 0xffff;
+    let point = curve[(f / STEPS) as usize];
+    let m = point.low as u64 + ((point.step as u64 * (f % STEPS)) >> 10);
+    Gain { m, n: p >> 16, p }
+}
+
+/// The exponential of a voltage in microvolts.
+#[inline(always)]
+pub fn gain(curve: &Curve, microvolts: i64, octave: Octave) -> Gain {
+    gain_at(curve, octave.position(microvolts))
+}
+
+/// A value a * 2^b with the scale and the limit of its use: floor(a * m * 2^(n - shift)) of a gain is to be at most
+/// the limit.
+#[derive(Clone, Copy, Debug, PartialEq)]
+pub struct Scaled {
+    pub a: u64,
+    pub shift: i64,
+    pub limit: i64,
+}
+
+impl Scaled {
+    /// The floor, where it is within the limit. Since a * m is 0 or from 2^60 to 2^62, a shift above 63 gives 0 as 63
+    /// does, and one below 0 is past every limit.
+    #[inline(always)]
+    pub fn floor(self, g: Gain) -> i64 {
+        ((self.a * g.m) >> ((self.shift - g.n) as u64).min(63)) as i64
+    }
+
+    fn within(self, g: Gain) -> bool {
+        self.a == 0 || (self.shift >= g.n && self.floor(g) <= self.limit)
+    }
+
+    /// The floor of the value by itself.
+    pub fn alone(self) -> Option<i64> {
+        let g = gain_at(&CURVE, 0);
+        self.within(g).then(|| self.floor(g))
     }
 }
 
-/// floor(x * 2^e), or nothing where it is above the limit.
-#[inline]
-pub fn floor_scaled(x: u64, e: i64, limit: u64) -> Option<u64> {
-    if x == 0 {
-        return Some(0);
-    }
-    let v = if e >= 0 {
-        if e >= 64 || x.leading_zeros() as i64 <= e {
-            return None;
+/// The highest position at which all values are within their limits: the gain grows with the position, so they are at
+/// every lower one too, and one comparison judges them all.
+pub fn highest(values: &[Scaled]) -> i64 {
+    // no position is as far out as these
+    let (mut low, mut high) = (-(1 << 29), 1 << 29);
+    while high - low > 1 {
+        let middle = (low + high) / 2;
+        if values.iter().all(|v| v.within(gain_at(&CURVE, middle))) {
+            low = middle;
+        } else {
+            high = middle;
         }
-        x << e
-    } else if e <= -64 {
-        0
-    } else {
-        x >> -e
-    };
-    if v > limit {
-        None
-    } else {
-        Some(v)
     }
+    low
 }
 
-/// The greatest whole number whose square is at most x.
+/// The greatest whole number whose square is at most x, for x below 2^62. The guess is never too low: as an f64 a square
+/// moves its root by less than half of what parts two numbers there, so a square's guess is its root.
 #[inline]
 pub fn root(x: u64) -> u64 {
-    let mut r = (x as f64).sqrt() as u64;
-    while r as u128 * r as u128 > x as u128 {
-        r -= 1;
-    }
-    while (r + 1) as u128 * (r + 1) as u128 <= x as u128 {
-        r += 1;
-    }
-    r
+    let r = (x as f64).sqrt() as u64;
+    r - (r * r > x) as u64
 }
 
-/// n * 2^21 / d toward zero.
+/// n * 2^21 / d toward zero, for n up to 2^54 in size and d below 2^42.
 #[inline]
 pub fn quotient(n: i64, d: u64) -> i64 {
     let size = n.unsigned_abs();
     let q = if size < 1 << 43 {
         (size << 21) / d
     } else {
-        ((size as u128) << 21).wrapping_div(d as u128) as u64
+        ((size / d) << 21) + ((size % d) << 21) / d
     };
     if n < 0 {
         -(q as i64)
     } else {
         q as i64
+    }
+}
+
+#[cfg(test)]
+mod tests {
+    use super::*;
+
+    #[test]
+    fn the_table_has_the_ends_and_the_middle() {
+        let t = table();
+        assert_eq!((t[0], t[32], t[64]), (1 << 30, 1_518_500_249, 1 << 31));
+    }
+
+    #[test]
+    fn positions_are_floors_of_quotients() {
+        let ends = [1_000_000, 1_000_001, 999_999_999, 1_000_000_000];
+        let between = (0..200).map(|i| 1_000_003 + i * 4_999_937);
+        // those that divide the product leave nothing over, where a floor is missed first
+        let dividing = [1_024_000, 16_384_000, 32_768_000, 65_536_000, 512_000_000];
+        for w in ends.into_iter().chain(between).chain(dividing) {
+            let octave = Octave::of(w);
+            for i in 0..=100_000 {
+                let v = i * 100 - 5_000_000 + w % 100 * i64::from(i < 100_000);
+                let floor = (v * 65_536_000).div_euclid(w);
+                assert_eq!(octave.position(v), floor, "{v} {w}");
+            }
+        }
+    }
+
+    #[test]
+    fn roots_are_floors() {
+        for i in 0..1_000_000u64 {
+            for r in [i + 1, (i * 2147 + 1) % (1 << 31) + 1, (1 << 31) - 1 - i] {
+                assert_eq!(root(r * r), r);
+                assert_eq!(root(r * r - 1), r - 1);
+                assert_eq!(root(r * r + 2 * r), r);
+            }
+        }
+    }
+
+    #[test]
+    fn quotients_go_toward_zero() {
+        for i in 0..100_000i64 {
+            for n in [i, i << 26, (1 << 53) - i, (1 << 43) - 50_000 + i] {
+                let d = (1 << 21) + (i as u64) * 10_007;
+                let q = (n as i128 * (1 << 21) / d as i128) as i64;
+                assert_eq!((quotient(n, d), quotient(-n, d)), (q, -q), "{n} {d}");
+            }
+        }
     }
 }

@@ -9,22 +9,28 @@ use lib.ListN.{getD, set}
 use lib.IntN.{ℤ, pos, natAbs}
 use borrow.Author.Tests.{ne-eqb, le-leb, lt-leb, lt-ltb, le-ltb, ltb-true}
 use Rattle.refusal.specs.declared.Refusal.{Refusal}
-use Rattle.refusal.specs.declared.Refusal.the-variants.{Malformed, BadName, NameNotHeld, NoRoom, Unknown, OutOfRange, CardInUse, NumbersUsedUp}
+use Rattle.refusal.specs.declared.Refusal.the-variants.{Malformed, BadName, NameNotHeld, NoRoom, Unknown, OutOfRange}
+use Rattle.refusal.specs.declared.Refusal.the-variants.{CardInUse, NumbersUsedUp}
+use Rattle.refusal.specs.Order.{no, yes}
 use Rattle.name.specs.Name.{asked, padded}
+use Rattle.volts.specs.Volts.{givenBack}
 use Rattle.card.specs.declared.WorkedCard.{WorkedCard}
-use Rattle.card.specs.declared.Judged.the-variants as judged
 use Rattle.card.specs.Judge.{judgeOf}
 use Rattle.card.specs.Record.{rightLength}
 use Rattle.branch.specs.declared.Ready.{Ready}
-use Rattle.branch.specs.Ready.{readyOf, lowered}
+use Rattle.branch.specs.inner.Ready.{readyOf}
 use Rattle.board.specs.declared.Card.{Card}
 use Rattle.board.specs.declared.Transistor.{Transistor}
 use Rattle.board.specs.declared.Board.{Board}
-use Rattle.board.specs.declared.Answer.the-variants.{Issue, Done, Node, Refused}
-use Rattle.board.specs.Verdict.{nodesMost, cardsMost, transistorsMost, Found, none, some, issueOf, offNode, loadVerdict, withdrawVerdict, lookVerdict, nodeVerdict}
+use Rattle.board.specs.declared.Answer.the-variants.{Issue, Done, Node}
+use Rattle.board.specs.Counts.{nodesMost, cardsMost, transistorsMost, issuesMost}
+use Rattle.board.specs.Verdict.{Found, none, some, issueOf, offNode, loadVerdict, withdrawVerdict, lookVerdict}
+use Rattle.board.specs.Verdict.{nodeVerdict}
 use Rattle.board.specs.Desk.{anyOf}
-use Rattle.board.specs.Model.{first, isCard, isTransistor, cardPlace, transistorPlace, foundAt, emptyCard, refuse, freeCard, withCards, loadedOf, withdrawnOf, standsOn, highestAt, lookedOf, showedOf}
-use Rattle.board.specs.Parts.{nodeOf, placeOr}
+use Rattle.board.specs.Model.{first, isCard, isTransistor, cardPlace, transistorPlace, foundAt, emptyCard}
+use Rattle.board.specs.Model.{refuse, freeCard, withCards, loadedOf, withdrawnOf, standsOn, highestAt, lookedOf}
+use Rattle.board.specs.Model.{showedOf}
+use Rattle.board.specs.inner.Parts.{nodeOf, placeOr}
 use Rattle.board.proofs.Verdicts.{on-node}
 
 -- ---- places and nodes as numbers
@@ -43,17 +49,20 @@ below most i false = go (ltb i most) refl
     go false e = tt
 
 -- so that its number tells whether there was one
-not-there : (most i : ℕ) (t : Bool) → most ≤ placeOr most (cond t none (foundAt most i)) → cond t none (foundAt most i) ≡ none
+not-there : (most i : ℕ) (t : Bool) → most ≤ placeOr most (cond t none (foundAt most i)) →
+    cond t none (foundAt most i) ≡ none
 not-there most i t h = go (cond t none (foundAt most i)) (below most i t) h
   where
     go : (f : Found ℕ) → Below most f → most ≤ placeOr most f → f ≡ none
     go none b k = refl
     go (some j) b k = absurd (omega arith)
 
-pub no-card-there : (n : ℕ) (cards : List Card) → cardsMost ≤ placeOr cardsMost (cardPlace n cards) → cardPlace n cards ≡ none
+pub no-card-there : (n : ℕ) (cards : List Card) → cardsMost ≤ placeOr cardsMost (cardPlace n cards) →
+    cardPlace n cards ≡ none
 no-card-there n cards h = not-there cardsMost (first (isCard n) cards) (eqb n 0) h
 
-pub no-transistor-there : (n : ℕ) (ts : List Transistor) → transistorsMost ≤ placeOr transistorsMost (transistorPlace n ts) → transistorPlace n ts ≡ none
+pub no-transistor-there : (n : ℕ) (ts : List Transistor) →
+    transistorsMost ≤ placeOr transistorsMost (transistorPlace n ts) → transistorPlace n ts ≡ none
 no-transistor-there n ts h = not-there transistorsMost (first (isTransistor n) ts) (eqb n 0) h
 
 pub is-there : (most : ℕ) (f : Found ℕ) → placeOr most f < most → f ≡ some (placeOr most f)
@@ -71,7 +80,8 @@ off-board z h = go (offNode z) refl h
 pub on-board : (z : ℤ) → nodeOf z < nodesMost → (offNode z ≡ false) × (nodeOf z ≡ natAbs z)
 on-board z h = go (offNode z) refl h
   where
-    go : (t : Bool) → offNode z ≡ t → cond t nodesMost (natAbs z) < nodesMost → (offNode z ≡ false) × (cond t nodesMost (natAbs z) ≡ natAbs z)
+    go : (t : Bool) → offNode z ≡ t → cond t nodesMost (natAbs z) < nodesMost →
+        (offNode z ≡ false) × (cond t nodesMost (natAbs z) ≡ natAbs z)
     go true e k = absurd (omega arith)
     go false e k = (e, refl)
 
@@ -82,7 +92,8 @@ module _ (b : Board) (z : ℤ) where
   unfolding showedOf nodeVerdict
   show-off h = rw (off-board z h)
 
-  pub shows-it : (n : ℕ) (v t : ℤ) → n ≡ nodeOf z → n < nodesMost → v ≡ lowered (getD (b .volts) n 0) → t ≡ getD (b .totals) n (pos 0) → record { board = b; answer = Node v t } ≡ showedOf b z
+  pub shows-it : (n : ℕ) (v t : ℤ) → n ≡ nodeOf z → n < nodesMost → v ≡ givenBack (getD (b .volts) n 0) →
+      t ≡ getD (b .totals) n (pos 0) → record { board = b; answer = Node v t } ≡ showedOf b z
   unfolding showedOf nodeVerdict
   shows-it n v t e h p q =
       let o = on-board z (subst (λ (k : ℕ). k < nodesMost) e h) in
@@ -95,11 +106,13 @@ module _ (b : Board) (name : List ℕ) where
   unfolding lookedOf lookVerdict
   look-malformed e = rw e
 
-  pub look-not-held : asked name ≡ true → highestAt (padded name) (b .cards) ≡ 0 → refuse b NameNotHeld ≡ lookedOf b name
+  pub look-not-held : asked name ≡ true → highestAt (padded name) (b .cards) ≡ 0 →
+      refuse b NameNotHeld ≡ lookedOf b name
   unfolding lookedOf lookVerdict
   look-not-held e h = rw (e, h)
 
-  pub looks-up : (n : ℕ) → asked name ≡ true → n ≡ highestAt (padded name) (b .cards) → (n ≡ 0 → ⊥) → record { board = b; answer = Issue n } ≡ lookedOf b name
+  pub looks-up : (n : ℕ) → asked name ≡ true → n ≡ highestAt (padded name) (b .cards) → (n ≡ 0 → ⊥) →
+      record { board = b; answer = Issue n } ≡ lookedOf b name
   unfolding lookedOf lookVerdict
   looks-up n e h z = rw (e, ← h, ne-eqb n 0 z)
 
@@ -110,11 +123,14 @@ module _ (b : Board) (z : ℤ) where
   unfolding withdrawnOf withdrawVerdict
   withdraw-unknown e = rw e
 
-  pub withdraw-in-use : (i : ℕ) → cardPlace (issueOf z) (b .cards) ≡ some i → anyOf (standsOn (issueOf z)) (b .transistors) ≡ true → refuse b CardInUse ≡ withdrawnOf b z
+  pub withdraw-in-use : (i : ℕ) → cardPlace (issueOf z) (b .cards) ≡ some i →
+      anyOf (standsOn (issueOf z)) (b .transistors) ≡ true → refuse b CardInUse ≡ withdrawnOf b z
   unfolding withdrawnOf withdrawVerdict
   withdraw-in-use i e u = rw (e, u)
 
-  pub withdraws-it : (i : ℕ) → cardPlace (issueOf z) (b .cards) ≡ some i → anyOf (standsOn (issueOf z)) (b .transistors) ≡ false → record { board = withCards b (set (b .cards) i emptyCard) (b .next); answer = Done } ≡ withdrawnOf b z
+  pub withdraws-it : (i : ℕ) → cardPlace (issueOf z) (b .cards) ≡ some i →
+      anyOf (standsOn (issueOf z)) (b .transistors) ≡ false →
+      record { board = withCards b (set (b .cards) i emptyCard) (b .next); answer = Done } ≡ withdrawnOf b z
   unfolding withdrawnOf withdrawVerdict
   withdraws-it i e u = rw (e, u)
 
@@ -131,19 +147,23 @@ module _ (b : Board) (name bytes : List ℕ) where
     load-bad-name e = rw (l, e)
 
     module _ (e : asked name ≡ true) where
-      pub load-judged : (f : Refusal) → judgeOf bytes ≡ judged.Refused f → refuse b f ≡ loadedOf b name bytes
+      pub load-judged : (f : Refusal) → judgeOf bytes ≡ no f → refuse b f ≡ loadedOf b name bytes
       unfolding loadedOf loadVerdict
       load-judged f j = rw (l, e, j)
 
-      module _ (w : WorkedCard) (j : judgeOf bytes ≡ judged.Card w) where
+      module _ (w : WorkedCard) (j : judgeOf bytes ≡ yes w) where
         pub load-no-room : cardsMost ≤ freeCard (b .cards) → refuse b NoRoom ≡ loadedOf b name bytes
         unfolding loadedOf loadVerdict
         load-no-room h = rw (l, e, j, le-leb _ _ h)
 
-        pub load-used-up : freeCard (b .cards) < cardsMost → 65535 < b .next → refuse b NumbersUsedUp ≡ loadedOf b name bytes
+        pub load-used-up : freeCard (b .cards) < cardsMost → issuesMost < b .next →
+            refuse b NumbersUsedUp ≡ loadedOf b name bytes
         unfolding loadedOf loadVerdict
         load-used-up h k = rw (l, e, j, lt-leb _ _ h, lt-ltb _ _ k)
 
-        pub loads-it : (i : ℕ) (held : List ℕ) (ready : Ready) → i ≡ freeCard (b .cards) → i < cardsMost → b .next ≤ 65535 → held ≡ padded name → ready ≡ readyOf w → record { board = withCards b (set (b .cards) i (record { issue = b .next; name = held; ready = ready })) (b .next + 1); answer = Issue (b .next) } ≡ loadedOf b name bytes
+        pub loads-it : (i : ℕ) (held : List ℕ) (ready : Ready) → i ≡ freeCard (b .cards) → i < cardsMost →
+            b .next ≤ issuesMost → held ≡ padded name → ready ≡ readyOf w →
+            record { board = withCards b (set (b .cards) i (record { issue = b .next; name = held; ready = ready })) (b .next + 1); answer = Issue (b .next) }
+            ≡ loadedOf b name bytes
         unfolding loadedOf loadVerdict
         loads-it i held ready p h k q r = rw (l, e, j, ← p, lt-leb _ _ h, le-ltb _ _ k, q, r) (rw p)

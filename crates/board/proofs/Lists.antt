@@ -1,19 +1,21 @@
--- Lists by their places: what holds of each element, the first place that passes a test, sums place by place, and tables of a function.
-use mathlib.Core.Path.{_≡_, refl, ap}
+-- Lists by their places: what holds of each element, the first place that passes a test, and what a
+-- function makes of it.
+use mathlib.Core.Path.{_≡_, refl}
 use mathlib.Core.Bool.{Bool, true, false, cond, _||_}
 use mathlib.Core.List.{List, [], _∷_, map}
 use Prim.Native.Nat.{ℕ, zero, suc, _<_}
 use native.Mathlib.Omega.{arith}
 use lib.Dec.{ltb}
 use lib.ListN.{length, getD, set, replicate}
-use lib.IntN.{ℤ}
 use borrow.Author.Tests.{ltb-true}
-use Rattle.board.specs.Desk.{sumOver, anyOf}
+use Rattle.refusal.specs.Clash.{clash}
+use Rattle.board.specs.Desk.{anyOf}
 use Rattle.board.specs.Verdict.{none, some}
-use Rattle.board.specs.Model.{first, foundAt, tabulate}
+use Rattle.board.specs.Model.{first, foundAt}
 
 -- what holds of the element at i, and of one put in somewhere, holds of the element at i then
-pub each-set : {A : Type 0} (P : A → Type 0) (l : List A) (n i : ℕ) (v d : A) → P v → P (getD l i d) → P (getD (set l n v) i d)
+pub each-set : {A : Type 0} (P : A → Type 0) (l : List A) (n i : ℕ) (v d : A) → P v → P (getD l i d) →
+    P (getD (set l n v) i d)
 each-set P [] n i v d p h = h
 each-set P (x ∷ l) zero zero v d p h = p
 each-set P (x ∷ l) zero (suc i) v d p h = h
@@ -25,12 +27,15 @@ each-replicate P zero i v d p q = q
 each-replicate P (suc n) zero v d p q = p
 each-replicate P (suc n) (suc i) v d p q = each-replicate P n i v d p q
 
-pub first-passes : {A : Type 0} (p : A → Bool) (d : A) (l : List A) → first p l < length l → p (getD l (first p l) d) ≡ true
+pub first-passes : {A : Type 0} (p : A → Bool) (d : A) (l : List A) → first p l < length l →
+    p (getD l (first p l) d) ≡ true
 unfolding first
 first-passes p d [] h = absurd (omega arith)
 first-passes p d (a ∷ rest) h = go (p a) refl h (λ k. first-passes p d rest k)
   where
-    go : (t : Bool) → p a ≡ t → cond t 0 (suc (first p rest)) < suc (length rest) → (first p rest < length rest → p (getD rest (first p rest) d) ≡ true) → p (getD (a ∷ rest) (cond t 0 (suc (first p rest))) d) ≡ true
+    go : (t : Bool) → p a ≡ t → cond t 0 (suc (first p rest)) < suc (length rest) →
+        (first p rest < length rest → p (getD rest (first p rest) d) ≡ true) →
+        p (getD (a ∷ rest) (cond t 0 (suc (first p rest))) d) ≡ true
     go true e h next = e
     go false e h next = next (omega arith)
 
@@ -39,52 +44,31 @@ found-is most i j e = go (ltb i most) refl e
   where
     go : (t : Bool) → ltb i most ≡ t → cond t (some i) none ≡ some j → (j ≡ i) × (i < most)
     go true p q = (cc, ltb-true i most p)
-    go false p q = let z : _≡_ {A = ℕ} 0 1 = cc in absurd (omega arith)
+    go false p q = clash cc
 
-pub none-of : {A : Type 0} (p : A → Bool) (l : List A) (d : A) → anyOf p l ≡ false → (i : ℕ) → i < length l → p (getD l i d) ≡ false
+pub none-of : {A : Type 0} (p : A → Bool) (l : List A) (d : A) → anyOf p l ≡ false → (i : ℕ) → i < length l →
+    p (getD l i d) ≡ false
 unfolding anyOf
 none-of p [] d e i h = absurd (omega arith)
 none-of p (a ∷ rest) d e i h = go (p a) refl e i h (λ k j q. none-of p rest d k j q)
   where
-    go : (t : Bool) → p a ≡ t → t || anyOf p rest ≡ false → (i : ℕ) → i < suc (length rest) → (anyOf p rest ≡ false → (j : ℕ) → j < length rest → p (getD rest j d) ≡ false) → p (getD (a ∷ rest) i d) ≡ false
-    go true q e i h next = let z : _≡_ {A = ℕ} 0 1 = cc in absurd (omega arith)
+    go : (t : Bool) → p a ≡ t → t || anyOf p rest ≡ false → (i : ℕ) → i < suc (length rest) →
+        (anyOf p rest ≡ false → (j : ℕ) → j < length rest → p (getD rest j d) ≡ false) →
+        p (getD (a ∷ rest) i d) ≡ false
+    go true q e i h next = clash cc
     go false q e zero h next = q
     go false q e (suc i) h next = next e i (omega arith)
 
-pub sum-same : {A : Type 0} (f g : A → ℤ) (d : A) (l : List A) → ((i : ℕ) → i < length l → f (getD l i d) ≡ g (getD l i d)) → sumOver f l ≡ sumOver g l
-unfolding sumOver
-sum-same f g d [] h = refl
-sum-same f g d (a ∷ rest) h = rw (h 0 (omega arith), sum-same f g d rest (λ i k. h (suc i) (omega arith)))
-
-pub tabulate-same : {A : Type 0} (f g : ℕ → A) (n : ℕ) → ((i : ℕ) → i < n → f i ≡ g i) → tabulate f n ≡ tabulate g n
-unfolding tabulate
-tabulate-same f g zero h = refl
-tabulate-same f g (suc n) h = rw (h 0 (omega arith), tabulate-same (λ (i : ℕ). f (suc i)) (λ (i : ℕ). g (suc i)) n (λ i k. h (suc i) (omega arith)))
-
-pub tabulate-at : {A : Type 0} (f : ℕ → A) (n i : ℕ) (d : A) → i < n → getD (tabulate f n) i d ≡ f i
-unfolding tabulate
-tabulate-at f zero i d h = absurd (omega arith)
-tabulate-at f (suc n) zero d h = refl
-tabulate-at f (suc n) (suc i) d h = tabulate-at (λ (j : ℕ). f (suc j)) n i d (omega arith)
-
-pub tabulate-long : {A : Type 0} (f : ℕ → A) (n : ℕ) → length (tabulate f n) ≡ n
-unfolding tabulate
-tabulate-long f zero = refl
-tabulate-long f (suc n) = ap suc (tabulate-long (λ (j : ℕ). f (suc j)) n)
-
-pub tabulate-none : {A : Type 0} (f : ℕ → A) (a : A) (n : ℕ) → ((i : ℕ) → i < n → f i ≡ a) → replicate n a ≡ tabulate f n
-unfolding tabulate
-tabulate-none f a zero h = refl
-tabulate-none f a (suc n) h = rw (h 0 (omega arith), ← (tabulate-none (λ (i : ℕ). f (suc i)) a n (λ i k. h (suc i) (omega arith))))
-
 -- what is not the default stands in the list
-pub stands : {A : Type 0} (key : A → ℕ) (d : A) (l : List A) (i : ℕ) → key d ≡ 0 → (key (getD l i d) ≡ 0 → ⊥) → i < length l
+pub stands : {A : Type 0} (key : A → ℕ) (d : A) (l : List A) (i : ℕ) → key d ≡ 0 → (key (getD l i d) ≡ 0 → ⊥) →
+    i < length l
 stands key d [] i z h = absurd (h z)
 stands key d (a ∷ rest) zero z h = omega arith
 stands key d (a ∷ rest) (suc i) z h = let k = stands key d rest i z h in omega arith
 
 -- what a function makes of the element at a place
-pub getD-map : {A B : Type 0} (f : A → B) (l : List A) (i : ℕ) (d : A) (e : B) → i < length l → getD (map f l) i e ≡ f (getD l i d)
+pub getD-map : {A B : Type 0} (f : A → B) (l : List A) (i : ℕ) (d : A) (e : B) → i < length l →
+    getD (map f l) i e ≡ f (getD l i d)
 getD-map f [] i d e h = absurd (omega arith)
 getD-map f (a ∷ rest) zero d e h = refl
 getD-map f (a ∷ rest) (suc i) d e h = getD-map f rest i d e (omega arith)

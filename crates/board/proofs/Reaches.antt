@@ -4,10 +4,12 @@ use mathlib.Core.List.{List, [], _∷_}
 use Prim.Native.Nat.{ℕ}
 use lib.ListN.{length}
 use lib.IntN.{ℤ}
+use Rattle.branch.specs.Rows.{roles}
 use Rattle.board.specs.declared.Board.{Board}
 use Rattle.board.specs.declared.Answered.{Answered}
 use Rattle.board.specs.Desk.{Call, load, place, move, lift, withdraw, lookUp, node}
-use Rattle.board.specs.Model.{freshBoard, loadedOf, placedOf, movedOf, liftedOf, withdrawnOf, lookedOf, showedOf, answered, boardAfter, Reached}
+use Rattle.board.specs.Model.{freshBoard, loadedOf, placedOf, movedOf, liftedOf, withdrawnOf, lookedOf}
+use Rattle.board.specs.Model.{showedOf, answered, boardAfter, Reached}
 
 -- the answer, and that its board is reached
 abbrev pub Gives : Answered → Answered → Type 0
@@ -19,16 +21,21 @@ fresh-reached e = (e, record { calls = []; leaves = sym e })
 
 one-more : {b : Board} {r : Answered} (c : Call) → Reached b → r ≡ answered b c → Reached (r .board)
 unfolding boardAfter
-one-more c k e = record { calls = c ∷ k .calls; leaves = ap (λ (b : Board). answered b c .board) (k .leaves) ∙ sym (ap (λ (r : Answered). r .board) e) }
+one-more c k e =
+    record {
+      calls = c ∷ k .calls;
+      leaves = ap (λ (b : Board). answered b c .board) (k .leaves) ∙ sym (ap (λ (r : Answered). r .board) e);
+    }
 
 module _ {b : Board} {r : Answered} (k : Reached b) where
   pub after-load : (name bytes : List ℕ) → r ≡ loadedOf b name bytes → Gives r (loadedOf b name bytes)
   unfolding answered
   after-load name bytes e = (e, one-more (load name bytes) k e)
 
-  pub after-place : (card : ℤ) (nodes : List ℤ) → length nodes ≡ 7 → r ≡ placedOf b card nodes → Gives r (placedOf b card nodes)
+  pub after-place : (card : ℤ) (nodes : List ℤ) → length nodes ≡ roles → r ≡ placedOf b card nodes →
+      Gives r (placedOf b card nodes)
   unfolding answered
-  after-place card nodes seven e = (e, one-more (place card nodes seven) k e)
+  after-place card nodes sized e = (e, one-more (place card nodes sized) k e)
 
   pub after-move : (n v : ℤ) → r ≡ movedOf b n v → Gives r (movedOf b n v)
   unfolding answered

@@ -1,4 +1,5 @@
--- The desk by its own bookkeeping: the cards held, the transistors standing, each with the very card it was placed with, the voltages and the next issue number.
+-- The desk by its own bookkeeping: the cards held, the transistors standing, each with the very card it was placed
+-- with, the voltages and the next issue number.
 -- No place, no array and no stored total is known here.
 use mathlib.Core.Path.{_≡_}
 use mathlib.Core.Bool.{Bool, true, false, cond, not, _||_}
@@ -8,14 +9,14 @@ use lib.Dec.{eqb, leb, ltb}
 use lib.ListN.{getD, set, replicate, length}
 use lib.IntN.{ℤ, pos, natAbs, _+ℤ_, _-ℤ_}
 use Rattle.refusal.specs.declared.Refusal.{Refusal}
+use Rattle.refusal.specs.Order.{Verdict, no, yes}
 use Rattle.name.specs.Name.{padded, same}
 use Rattle.card.specs.declared.WorkedCard.{WorkedCard}
-use Rattle.branch.specs.declared.Over.{Over}
-use Rattle.branch.specs.declared.Over.the-variants.{Within, Ticks, Injection}
-use Rattle.branch.specs.Rows.{Row, rowsFor}
-use Rattle.branch.specs.Ticks.{seatOf}
-use Rattle.branch.specs.Outcome.{outcomeOf}
-use Rattle.board.specs.Verdict.{nodesMost, cardsMost, transistorsMost, issuesMost, Found, none, some, Verdict, no, yes, issueOf, loadVerdict, placeVerdict, moveVerdict, liftVerdict, withdrawVerdict, lookVerdict, nodeVerdict}
+use Rattle.branch.specs.Rows.{Row, rowsFor, roleIndex, roles}
+use Rattle.branch.specs.Outcome.{isOver, outcomeOf}
+use Rattle.board.specs.Counts.{nodesMost, cardsMost, transistorsMost, issuesMost}
+use Rattle.board.specs.Verdict.{Found, none, some, issueOf, loadVerdict, placeVerdict, moveVerdict, liftVerdict}
+use Rattle.board.specs.Verdict.{withdrawVerdict, lookVerdict, nodeVerdict}
 
 pub record Held : Type 0 where
   pub issue : ℕ
@@ -36,7 +37,7 @@ pub record Desk : Type 0 where
 
 pub data Call : Type 0 where
   load : List ℕ → List ℕ → Call
-  place : ℤ → (nodes : List ℤ) → length nodes ≡ 7 → Call
+  place : ℤ → (nodes : List ℤ) → length nodes ≡ roles → Call
   move : ℤ → ℤ → Call
   lift : ℤ → Call
   withdraw : ℤ → Call
@@ -55,14 +56,9 @@ pub record Step : Type 0 where
 
 -- ---- what a transistor does at given voltages
 
--- the voltages of its seven roles
+-- the voltages of its roles
 abbrev pub rolesAt : List ℤ → List ℕ → List ℤ
 rolesAt volts nodes = map (λ (n : ℕ). getD volts n (pos 0)) nodes
-
-abbrev pub isOver : Over → Bool
-isOver Within = false
-isOver (Ticks k) = true
-isOver (Injection k) = true
 
 unfoldable pub overloads : WorkedCard → List ℕ → List ℤ → Bool
 overloads c nodes volts = isOver (outcomeOf c (rolesAt volts nodes) .over)
@@ -76,7 +72,8 @@ unfoldable pub rowsGive : List Row → List ℕ → List ℤ → ℕ → ℤ
 rowsGive [] nodes ticks n = pos 0
 rowsGive (r ∷ rs) nodes [] n = pos 0
 rowsGive (r ∷ rs) nodes (x ∷ xs) n =
-    (atNode (getD nodes (seatOf (r .from)) 0) n x -ℤ atNode (getD nodes (seatOf (r .to)) 0) n x) +ℤ rowsGive rs nodes xs n
+    (atNode (getD nodes (roleIndex (r .from)) 0) n x -ℤ atNode (getD nodes (roleIndex (r .to)) 0) n x)
+    +ℤ rowsGive rs nodes xs n
 
 -- what a transistor adds to node n
 unfoldable pub flow : WorkedCard → List ℕ → List ℤ → ℕ → ℤ
@@ -134,7 +131,13 @@ loaded d name (no f) = refuse d f
 loaded d name (yes c) =
     record {
       reply = issued (d .next);
-      desk = record { cards = record { issue = d .next; name = padded name; worked = c } ∷ d .cards; standing = d .standing; volts = d .volts; next = suc (d .next) };
+      desk =
+          record {
+            cards = record { issue = d .next; name = padded name; worked = c } ∷ d .cards;
+            standing = d .standing;
+            volts = d .volts;
+            next = suc (d .next);
+          };
     }
 
 -- a new transistor, which keeps the card as it is now
@@ -143,20 +146,51 @@ placed d nodes (no f) = refuse d f
 placed d nodes (yes h) =
     record {
       reply = issued (d .next);
-      desk = record { cards = d .cards; standing = record { issue = d .next; card = h .issue; worked = h .worked; nodes = map natAbs nodes } ∷ d .standing; volts = d .volts; next = suc (d .next) };
+      desk =
+          record {
+            cards = d .cards;
+            standing =
+                record { issue = d .next; card = h .issue; worked = h .worked; nodes = map natAbs nodes } ∷ d .standing;
+            volts = d .volts;
+            next = suc (d .next);
+          };
     }
 
 abbrev pub moved : Desk → ℤ → Verdict ℕ → Step
 moved d v (no f) = refuse d f
-moved d v (yes n) = record { reply = done; desk = record { cards = d .cards; standing = d .standing; volts = set (d .volts) n v; next = d .next } }
+moved d v (yes n) =
+    record {
+      reply = done;
+      desk = record { cards = d .cards; standing = d .standing; volts = set (d .volts) n v; next = d .next };
+    }
 
 abbrev pub lifted : Desk → Verdict Standing → Step
 lifted d (no f) = refuse d f
-lifted d (yes t) = record { reply = done; desk = record { cards = d .cards; standing = without (λ (u : Standing). u .issue) (t .issue) (d .standing); volts = d .volts; next = d .next } }
+lifted d (yes t) =
+    record {
+      reply = done;
+      desk =
+          record {
+            cards = d .cards;
+            standing = without (λ (u : Standing). u .issue) (t .issue) (d .standing);
+            volts = d .volts;
+            next = d .next;
+          };
+    }
 
 abbrev pub withdrawn : Desk → Verdict Held → Step
 withdrawn d (no f) = refuse d f
-withdrawn d (yes h) = record { reply = done; desk = record { cards = without (λ (u : Held). u .issue) (h .issue) (d .cards); standing = d .standing; volts = d .volts; next = d .next } }
+withdrawn d (yes h) =
+    record {
+      reply = done;
+      desk =
+          record {
+            cards = without (λ (u : Held). u .issue) (h .issue) (d .cards);
+            standing = d .standing;
+            volts = d .volts;
+            next = d .next;
+          };
+    }
 
 abbrev pub looked : Desk → Verdict ℕ → Step
 looked d (no f) = refuse d f
@@ -185,7 +219,9 @@ mayLoad d name bytes = loadVerdict name bytes (leb cardsMost (length (d .cards))
 
 abbrev pub mayPlace : Desk → ℤ → List ℤ → Verdict Held
 mayPlace d card nodes =
-    placeVerdict (heldAs (issueOf card) (d .cards)) (λ (h : Held). h .worked) (λ (h : Held). overloads (h .worked) (map natAbs nodes) (d .volts)) nodes (leb transistorsMost (length (d .standing))) (usedUp (d .next))
+    placeVerdict (heldAs (issueOf card) (d .cards)) (λ (h : Held). h .worked)
+    (λ (h : Held). overloads (h .worked) (map natAbs nodes) (d .volts)) nodes
+    (leb transistorsMost (length (d .standing))) (usedUp (d .next))
 
 abbrev pub mayMove : Desk → ℤ → ℤ → Verdict ℕ
 mayMove d n v = moveVerdict n v (someOverloads d (set (d .volts) (natAbs n) v))
@@ -194,14 +230,16 @@ abbrev pub mayLift : Desk → ℤ → Verdict Standing
 mayLift d n = liftVerdict (standsAs (issueOf n) (d .standing))
 
 abbrev pub mayWithdraw : Desk → ℤ → Verdict Held
-mayWithdraw d n = withdrawVerdict (heldAs (issueOf n) (d .cards)) (λ (h : Held). anyOf (λ (t : Standing). eqb (t .card) (h .issue)) (d .standing))
+mayWithdraw d n =
+    withdrawVerdict (heldAs (issueOf n) (d .cards))
+    (λ (h : Held). anyOf (λ (t : Standing). eqb (t .card) (h .issue)) (d .standing))
 
 abbrev pub mayLookUp : Desk → List ℕ → Verdict ℕ
 mayLookUp d name = lookVerdict name (highest (padded name) (d .cards))
 
 unfoldable pub step : Desk → Call → Step
 step d (load name bytes) = loaded d name (mayLoad d name bytes)
-step d (place card nodes seven) = placed d nodes (mayPlace d card nodes)
+step d (place card nodes sized) = placed d nodes (mayPlace d card nodes)
 step d (move n v) = moved d v (mayMove d n v)
 step d (lift n) = lifted d (mayLift d n)
 step d (withdraw n) = withdrawn d (mayWithdraw d n)

@@ -1,9 +1,6 @@
+pub mod Counts
 pub mod Verdict
 pub mod Desk
-pub mod Perm
 pub mod Model
-pub mod Stands
-pub mod Parts
-pub mod Settle
-pub mod Placing
 pub mod Unique
+pub mod inner

@@ -7,19 +7,22 @@ use lib.Dec.{eqb, leb, ltb}
 use lib.ListN.{getD, set, replicate}
 use lib.IntN.{ℤ, pos, natAbs}
 use Rattle.refusal.specs.declared.Refusal.{Refusal}
-use Rattle.name.specs.Name.{padded, same}
-use Rattle.float.specs.declared.Split.{Split}
+use Rattle.refusal.specs.Order.{Verdict, no, yes}
+use Rattle.name.specs.Name.{nameLength, padded, same}
+use Rattle.volts.specs.Volts.{givenBack, keptAs}
 use Rattle.card.specs.declared.WorkedCard.{WorkedCard}
-use Rattle.octave.specs.declared.Octave.{Octave}
-use Rattle.branch.specs.declared.Ready.{Ready}
-use Rattle.branch.specs.Ready.{readyOf, lowered, raised}
+use Rattle.branch.specs.inner.Ready.{readyOf, noReady}
+use Rattle.branch.specs.Rows.{roles}
 use Rattle.board.specs.declared.Card.{Card}
 use Rattle.board.specs.declared.Transistor.{Transistor}
 use Rattle.board.specs.declared.Board.{Board}
 use Rattle.board.specs.declared.Answer.the-variants.{Issue, Done, Node, Refused}
 use Rattle.board.specs.declared.Answered.{Answered}
-use Rattle.board.specs.Verdict.{nodesMost, cardsMost, transistorsMost, Found, none, some, Verdict, no, yes, issueOf, loadVerdict, placeVerdict, moveVerdict, liftVerdict, withdrawVerdict, lookVerdict, nodeVerdict}
-use Rattle.board.specs.Desk.{Call, load, place, move, lift, withdraw, lookUp, node, overloads, flow, sumOver, anyOf, larger, usedUp}
+use Rattle.board.specs.Counts.{nodesMost, cardsMost, transistorsMost}
+use Rattle.board.specs.Verdict.{Found, none, some, issueOf, loadVerdict, placeVerdict, moveVerdict, liftVerdict}
+use Rattle.board.specs.Verdict.{withdrawVerdict, lookVerdict, nodeVerdict}
+use Rattle.board.specs.Desk.{Call, load, place, move, lift, withdraw, lookUp, node, overloads, flow, sumOver}
+use Rattle.board.specs.Desk.{anyOf, larger, usedUp}
 
 -- ---- places
 
@@ -47,30 +50,17 @@ abbrev pub transistorPlace : ℕ → List Transistor → Found ℕ
 transistorPlace n ts = cond (eqb n 0) none (foundAt transistorsMost (first (isTransistor n) ts))
 
 -- what a fresh board has at each place, and what is read past the last place
-abbrev pub noSplit : Split
-noSplit = record { a = 0; up = 0 }
-
-abbrev pub noWorked : WorkedCard
-noWorked =
-    record { sn = noSplit; bulk = noSplit; side = noSplit; nonideal = noSplit; ex = noSplit; sub = noSplit; sf = noSplit; rex = noSplit; rsub = noSplit; octave = 0; second = 0; exsub = false; direct = false }
-
-abbrev pub noOctave : Octave
-noOctave = record { w = 0; high = 0; low = 0; base = 0; add = 0 }
-
-abbrev pub noReady : Ready
-noReady = record { card = noWorked; plain = noOctave; second = noOctave; bulk = 0; side = 0; nonideal = 0; ex = 0; sub = 0; sf = 0 }
-
 abbrev pub emptyCard : Card
-emptyCard = record { issue = 0; name = replicate 16 0; ready = noReady }
+emptyCard = record { issue = 0; name = replicate nameLength 0; ready = noReady }
 
 abbrev pub noCard : Card
 noCard = record { issue = 0; name = []; ready = noReady }
 
 abbrev pub emptyTransistor : Transistor
-emptyTransistor = record { issue = 0; card = 0; seat = 0; nodes = replicate 7 0 }
+emptyTransistor = record { issue = 0; card = 0; «card_place» = 0; nodes = replicate roles 0 }
 
 abbrev pub noTransistor : Transistor
-noTransistor = record { issue = 0; card = 0; seat = 0; nodes = [] }
+noTransistor = record { issue = 0; card = 0; «card_place» = 0; nodes = [] }
 
 -- ---- totals anew
 
@@ -80,10 +70,12 @@ workedAt cards i = getD cards i noCard .ready .card
 
 -- what a place adds to node n: nothing where it is empty
 unfoldable pub placeGives : List Card → List ℤ → ℕ → Transistor → ℤ
-placeGives cards volts n t = cond (eqb (t .issue) 0) (pos 0) (flow (workedAt cards (t .seat)) (t .nodes) volts n)
+placeGives cards volts n t =
+    cond (eqb (t .issue) 0) (pos 0) (flow (workedAt cards (t .«card_place»)) (t .nodes) volts n)
 
 unfoldable pub placeOverloads : List Card → List ℤ → Transistor → Bool
-placeOverloads cards volts t = cond (eqb (t .issue) 0) false (overloads (workedAt cards (t .seat)) (t .nodes) volts)
+placeOverloads cards volts t =
+    cond (eqb (t .issue) 0) false (overloads (workedAt cards (t .«card_place»)) (t .nodes) volts)
 
 -- f 0, f 1, .., f (n - 1)
 unfoldable pub tabulate : {A : Type 0} → (ℕ → A) → ℕ → List A
@@ -96,11 +88,18 @@ totalsOf cards ts volts = tabulate (λ (n : ℕ). sumOver (placeGives cards volt
 -- ---- the methods
 
 unfoldable pub freshBoard : Board
-freshBoard = record { cards = replicate cardsMost emptyCard; transistors = replicate transistorsMost emptyTransistor; volts = replicate nodesMost (raised (pos 0)); totals = replicate nodesMost (pos 0); next = 1 }
+freshBoard =
+    record {
+      cards = replicate cardsMost emptyCard;
+      transistors = replicate transistorsMost emptyTransistor;
+      volts = replicate nodesMost (keptAs (pos 0));
+      totals = replicate nodesMost (pos 0);
+      next = 1;
+    }
 
--- the voltages of a board, which keeps them raised
+-- the voltages of a board
 abbrev pub voltsOf : Board → List ℤ
-voltsOf b = map lowered (b .volts)
+voltsOf b = map givenBack (b .volts)
 
 abbrev pub refuse : Board → Refusal → Answered
 refuse b f = record { board = b; answer = Refused f }
@@ -111,17 +110,31 @@ freeCard cards = first (isCard 0) cards
 abbrev pub freeTransistor : List Transistor → ℕ
 freeTransistor ts = first (isTransistor 0) ts
 
--- with these transistors at these raised voltages, each total anew
+-- with these transistors at these kept voltages, each total anew
 abbrev pub settledAs : Board → List Transistor → List ℕ → ℕ → Board
-settledAs b ts volts next = record { cards = b .cards; transistors = ts; volts = volts; totals = totalsOf (b .cards) ts (map lowered volts); next = next }
+settledAs b ts volts next =
+    record {
+      cards = b .cards;
+      transistors = ts;
+      volts = volts;
+      totals = totalsOf (b .cards) ts (map givenBack volts);
+      next = next;
+    }
 
 abbrev pub withCards : Board → List Card → ℕ → Board
-withCards b cards next = record { cards = cards; transistors = b .transistors; volts = b .volts; totals = b .totals; next = next }
+withCards b cards next =
+    record { cards = cards; transistors = b .transistors; volts = b .volts; totals = b .totals; next = next }
 
 abbrev pub loaded : Board → List ℕ → Verdict WorkedCard → Answered
 loaded b name (no f) = refuse b f
 loaded b name (yes c) =
-    record { board = withCards b (set (b .cards) (freeCard (b .cards)) (record { issue = b .next; name = padded name; ready = readyOf c })) (b .next + 1); answer = Issue (b .next) }
+    record {
+      board =
+          withCards b
+          (set (b .cards) (freeCard (b .cards)) (record { issue = b .next; name = padded name; ready = readyOf c }))
+          (b .next + 1);
+      answer = Issue (b .next);
+    }
 
 abbrev pub mayLoad : Board → List ℕ → List ℕ → Verdict WorkedCard
 mayLoad b name bytes = loadVerdict name bytes (leb cardsMost (freeCard (b .cards))) (usedUp (b .next))
@@ -131,32 +144,40 @@ loadedOf b name bytes = loaded b name (mayLoad b name bytes)
 
 abbrev pub withTransistor : Board → ℕ → List ℤ → List Transistor
 withTransistor b i nodes =
-    set (b .transistors) (freeTransistor (b .transistors)) (record { issue = b .next; card = getD (b .cards) i noCard .issue; seat = i; nodes = map natAbs nodes })
+    set (b .transistors) (freeTransistor (b .transistors))
+    (record { issue = b .next; card = getD (b .cards) i noCard .issue; «card_place» = i; nodes = map natAbs nodes })
 
 abbrev pub placed : Board → List ℤ → Verdict ℕ → Answered
 placed b nodes (no f) = refuse b f
-placed b nodes (yes i) = record { board = settledAs b (withTransistor b i nodes) (b .volts) (b .next + 1); answer = Issue (b .next) }
+placed b nodes (yes i) =
+    record { board = settledAs b (withTransistor b i nodes) (b .volts) (b .next + 1); answer = Issue (b .next) }
 
 abbrev pub mayPlace : Board → ℤ → List ℤ → Verdict ℕ
 mayPlace b card nodes =
-    placeVerdict (cardPlace (issueOf card) (b .cards)) (workedAt (b .cards)) (λ (i : ℕ). overloads (workedAt (b .cards) i) (map natAbs nodes) (voltsOf b)) nodes (leb transistorsMost (freeTransistor (b .transistors))) (usedUp (b .next))
+    placeVerdict (cardPlace (issueOf card) (b .cards)) (workedAt (b .cards))
+    (λ (i : ℕ). overloads (workedAt (b .cards) i) (map natAbs nodes) (voltsOf b)) nodes
+    (leb transistorsMost (freeTransistor (b .transistors))) (usedUp (b .next))
 
 unfoldable pub placedOf : Board → ℤ → List ℤ → Answered
 placedOf b card nodes = placed b nodes (mayPlace b card nodes)
 
 abbrev pub moved : Board → ℤ → Verdict ℕ → Answered
 moved b v (no f) = refuse b f
-moved b v (yes n) = record { board = settledAs b (b .transistors) (set (b .volts) n (raised v)) (b .next); answer = Done }
+moved b v (yes n) =
+    record { board = settledAs b (b .transistors) (set (b .volts) n (keptAs v)) (b .next); answer = Done }
 
 abbrev pub mayMove : Board → ℤ → ℤ → Verdict ℕ
-mayMove b n v = moveVerdict n v (anyOf (placeOverloads (b .cards) (map lowered (set (b .volts) (natAbs n) (raised v)))) (b .transistors))
+mayMove b n v =
+    moveVerdict n v
+    (anyOf (placeOverloads (b .cards) (map givenBack (set (b .volts) (natAbs n) (keptAs v)))) (b .transistors))
 
 unfoldable pub movedOf : Board → ℤ → ℤ → Answered
 movedOf b n v = moved b v (mayMove b n v)
 
 abbrev pub lifted : Board → Verdict ℕ → Answered
 lifted b (no f) = refuse b f
-lifted b (yes i) = record { board = settledAs b (set (b .transistors) i emptyTransistor) (b .volts) (b .next); answer = Done }
+lifted b (yes i) =
+    record { board = settledAs b (set (b .transistors) i emptyTransistor) (b .volts) (b .next); answer = Done }
 
 abbrev pub mayLift : Board → ℤ → Verdict ℕ
 mayLift b n = liftVerdict (transistorPlace (issueOf n) (b .transistors))
@@ -173,7 +194,8 @@ abbrev pub standsOn : ℕ → Transistor → Bool
 standsOn n t = cond (eqb (t .issue) 0) false (eqb (t .card) n)
 
 abbrev pub mayWithdraw : Board → ℤ → Verdict ℕ
-mayWithdraw b n = withdrawVerdict (cardPlace (issueOf n) (b .cards)) (λ (i : ℕ). anyOf (standsOn (issueOf n)) (b .transistors))
+mayWithdraw b n =
+    withdrawVerdict (cardPlace (issueOf n) (b .cards)) (λ (i : ℕ). anyOf (standsOn (issueOf n)) (b .transistors))
 
 unfoldable pub withdrawnOf : Board → ℤ → Answered
 withdrawnOf b n = withdrawn b (mayWithdraw b n)
@@ -195,7 +217,7 @@ lookedOf b name = looked b (mayLookUp b name)
 
 abbrev pub showed : Board → Verdict ℕ → Answered
 showed b (no f) = refuse b f
-showed b (yes n) = record { board = b; answer = Node (lowered (getD (b .volts) n 0)) (getD (b .totals) n (pos 0)) }
+showed b (yes n) = record { board = b; answer = Node (givenBack (getD (b .volts) n 0)) (getD (b .totals) n (pos 0)) }
 
 unfoldable pub showedOf : Board → ℤ → Answered
 showedOf b n = showed b (nodeVerdict n)
@@ -204,7 +226,7 @@ showedOf b n = showed b (nodeVerdict n)
 
 unfoldable pub answered : Board → Call → Answered
 answered b (load name bytes) = loadedOf b name bytes
-answered b (place card nodes seven) = placedOf b card nodes
+answered b (place card nodes sized) = placedOf b card nodes
 answered b (move n v) = movedOf b n v
 answered b (lift n) = liftedOf b n
 answered b (withdraw n) = withdrawnOf b n

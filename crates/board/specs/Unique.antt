@@ -6,9 +6,11 @@ use lib.IntN.{ℤ}
 use Rattle.refusal.specs.Unique.{unique-by-equation}
 use Rattle.board.specs.declared.Board.{Board}
 use Rattle.board.specs.declared.Answered.{Answered}
-use Rattle.board.specs.Model.{freshBoard, loadedOf, placedOf, movedOf, liftedOf, withdrawnOf, lookedOf, showedOf, Reached}
+use Rattle.board.specs.Model.{freshBoard, loadedOf, placedOf, movedOf, liftedOf, withdrawnOf, lookedOf}
+use Rattle.board.specs.Model.{showedOf, Reached}
 
--- what a method promises of its result, both clauses: the answer and board of its definition, and that calls leave that board
+-- what a method promises of its result, both clauses: the answer and board of its definition, and that calls leave
+-- that board
 abbrev pub Allows : Answered → Answered → Type 0
 Allows e r = (r ≡ e) × Reached (r .board)
 
@@ -19,10 +21,12 @@ module _ (b : Board) {r s : Answered} where
   pub unique-load : (name bytes : List ℕ) → Allows (loadedOf b name bytes) r → Allows (loadedOf b name bytes) s → r ≡ s
   unique-load name bytes p q = unique-by-equation (p .0) (q .0)
 
-  pub unique-place : (card : ℤ) (nodes : List ℤ) → Allows (placedOf b card nodes) r → Allows (placedOf b card nodes) s → r ≡ s
+  pub unique-place : (card : ℤ) (nodes : List ℤ) → Allows (placedOf b card nodes) r →
+      Allows (placedOf b card nodes) s → r ≡ s
   unique-place card nodes p q = unique-by-equation (p .0) (q .0)
 
-  pub unique-move : (node microvolts : ℤ) → Allows (movedOf b node microvolts) r → Allows (movedOf b node microvolts) s → r ≡ s
+  pub unique-move : (node microvolts : ℤ) → Allows (movedOf b node microvolts) r →
+      Allows (movedOf b node microvolts) s → r ≡ s
   unique-move node microvolts p q = unique-by-equation (p .0) (q .0)
 
   pub unique-lift : (transistor : ℤ) → Allows (liftedOf b transistor) r → Allows (liftedOf b transistor) s → r ≡ s

@@ -2,10 +2,10 @@
 ghost use mathlib.Core.Path.{_≡_};
 ghost use mathlib.Core.Bool.{cond};
 ghost use Rattle.name.specs.Name.{same};
-ghost use Rattle.board.specs.Verdict.{cardsMost, transistorsMost};
+ghost use Rattle.board.specs.Counts.{cardsMost, transistorsMost};
 ghost use Rattle.board.specs.Desk.{anyOf, larger};
 ghost use Rattle.board.specs.Model.{first, isCard, isTransistor, cardPlace, transistorPlace, standsOn, highestAt};
-ghost use Rattle.board.specs.Parts.{placeOr};
+ghost use Rattle.board.specs.inner.Parts.{placeOr};
 use crate::Board;
 use crate::Card;
 use crate::Transistor;
@@ -76,7 +76,7 @@ pub(crate) fn any_on(ts: [Transistor; Board::TRANSISTORS], n: u32) -> bool
 }
 
 // The card's issue where it has the name, else 0.
-fn issue_if(c: Card, name: &[u8; 16]) -> u32
+fn issue_if(c: Card, name: &[u8; name::LENGTH]) -> u32
     ensures { λ r. ⌜ r ≡ cond (same (c .name) (now (name .entry))) (c .issue) 0 ⌝ }
 {
     let own = c.name;
@@ -94,7 +94,7 @@ fn larger_of(a: u32, b: u32) -> u32
 }
 
 // The highest issue among the cards of a name.
-pub(crate) fn highest(cards: [Card; Board::CARDS], name: &[u8; 16]) -> u32
+pub(crate) fn highest(cards: [Card; Board::CARDS], name: &[u8; name::LENGTH]) -> u32
     ensures { λ r. ⌜ r ≡ highestAt (now (name .entry)) cards ⌝ }
 {
     let mut best: u32 = 0;

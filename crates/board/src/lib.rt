@@ -1,7 +1,7 @@
 // The board: cards, transistors, voltages and node totals, handed from call to call by value.
 // Each method asks that calls from a fresh board left the board as it is, and gives the answer with the next board, which is such a board again.
 ghost use mathlib.Core.Path.{_≡_};
-ghost use Rattle.board.specs.Model.{noReady, emptyCard, emptyTransistor, freshBoard, refuse, loadedOf, placedOf, movedOf, liftedOf, withdrawnOf, lookedOf, showedOf, Reached};
+ghost use Rattle.board.specs.Model.{emptyCard, emptyTransistor, freshBoard, refuse, loadedOf, placedOf, movedOf, liftedOf, withdrawnOf, lookedOf, showedOf, Reached};
 
 mod finds; // finds.rt: looking through the places
 mod given; // given.rt: the caller's numbers
@@ -10,18 +10,16 @@ mod sets; // sets.rt: which transistors name a node
 mod sums; // sums.rt: what branches give to the totals
 mod worker; // worker.rt: currents put into the totals and taken out
 
-use branch::Level;
+use branch::ROLES;
 use branch::Ready;
 use card::Judged;
-use card::WorkedCard;
-use float::Split;
-use octave::Octave;
 use refusal::Refusal;
 use rules::Way;
+use volts::Voltage;
 
 pub struct Card {
     pub issue: u32,
-    pub name: [u8; 16],
+    pub name: [u8; name::LENGTH],
     pub ready: Ready,
 }
 
@@ -29,14 +27,14 @@ pub struct Card {
 pub struct Transistor {
     pub issue: u32,
     pub card: u32,
-    pub seat: u32,
-    pub nodes: [u8; 7],
+    pub card_place: u32,
+    pub nodes: [u8; ROLES],
 }
 
 pub struct Board {
     pub cards: [Card; Board::CARDS],
     pub transistors: [Transistor; Board::TRANSISTORS],
-    // microvolts, raised so that none is negative
+    // as `volts` keeps them
     pub volts: [u32; Board::NODES],
     pub totals: [i64; Board::NODES],
     pub next: u32,
@@ -57,57 +55,14 @@ pub struct Answered {
 // The last issue number.
 const ISSUES: u32 = 65535;
 
-// No volts, raised.
-const ZERO: u32 = 2500000;
-
-// A prepared card of zeros.
-fn no_ready() -> Ready
-    ensures { λ r. ⌜ r ≡ noReady ⌝ }
-{
-    let none = Split { a: 0, up: 0 };
-    let octave = Octave {
-        w: 0,
-        high: 0,
-        low: 0,
-        base: 0,
-        add: 0,
-    };
-    let card = WorkedCard {
-        sn: none,
-        bulk: none,
-        side: none,
-        nonideal: none,
-        ex: none,
-        sub: none,
-        sf: none,
-        rex: none,
-        rsub: none,
-        octave: 0,
-        second: 0,
-        exsub: false,
-        direct: false,
-    };
-    Ready {
-        card,
-        plain: octave,
-        second: octave,
-        bulk: 0,
-        side: 0,
-        nonideal: 0,
-        ex: 0,
-        sub: 0,
-        sf: 0,
-    }
-}
-
 // What stands at an empty place.
 fn no_card() -> Card
     ensures { λ r. ⌜ r ≡ emptyCard ⌝ }
 {
-    let ready = no_ready();
+    let ready = branch::no_ready();
     Card {
         issue: 0,
-        name: [0u8; 16],
+        name: [0u8; name::LENGTH],
         ready,
     }
 }
@@ -118,8 +73,8 @@ fn no_transistor() -> Transistor
     Transistor {
         issue: 0,
         card: 0,
-        seat: 0,
-        nodes: [0u8; 7],
+        card_place: 0,
+        nodes: [0u8; ROLES],
     }
 }
 
@@ -150,7 +105,7 @@ impl Board {
         Board {
             cards: [card; Board::CARDS],
             transistors: [t; Board::TRANSISTORS],
-            volts: [ZERO; Board::NODES],
+            volts: [volts::ZERO; Board::NODES],
             totals: [0i64; Board::NODES],
             next: 1,
         }
@@ -199,8 +154,8 @@ impl Board {
         }
     }
 
-    // A transistor on a card, by its issue number, and on the nodes of E1, B1, B2, C1, C2, C4, S: 12, 13, 14, 11, 17, 15.
-    pub fn place(mut self, card: i64, nodes: [i64; 7]) -> Answered
+    // A transistor on a card, by its issue number, and on the nodes of its roles: 12, 13, 14, 11, 17, 15.
+    pub fn place(mut self, card: i64, nodes: [i64; ROLES]) -> Answered
         requires { ⌜ Reached self ⌝ }
         ensures { λ r. ⌜ r ≡ placedOf self card nodes ⌝ }
         ensures { λ r. ⌜ Reached (r .board) ⌝ }
@@ -213,14 +168,14 @@ impl Board {
         let way = rules::may_place(cards, ts, issue, n, on);
         match way {
             Way::Stop(f) => refused(self, f),
-            Way::Go(seat, free) => {
+            Way::Go(at, free) => {
                 let following = issue + 1;
-                let c = cards[seat];
-                let place = seat as u32;
+                let c = cards[at];
+                let place = at as u32;
                 let t = Transistor {
                     issue,
                     card: c.issue,
-                    seat: place,
+                    card_place: place,
                     nodes: on,
                 };
                 let table = octave::table();
@@ -251,7 +206,7 @@ impl Board {
         if Board::NODES <= n {
             return refused(self, Refusal::OutOfRange);
         }
-        let Level::At(v) = branch::raise(microvolts) else {
+        let Voltage::Kept(v) = volts::keep(microvolts) else {
             return refused(self, Refusal::OutOfRange);
         };
         let was = self.volts;
@@ -284,7 +239,7 @@ impl Board {
             return refused(self, Refusal::Unknown);
         }
         let t = ts[i];
-        let s = worker::seat_of(t);
+        let s = worker::card_place_of(t);
         let c = self.cards[s];
         let table = octave::table();
         let volts = self.volts;
@@ -356,11 +311,11 @@ impl Board {
         if Board::NODES <= n {
             return refused(self, Refusal::OutOfRange);
         }
-        let raised = self.volts;
+        let kept = self.volts;
         let totals = self.totals;
-        let v = raised[n];
+        let v = kept[n];
         let t = totals[n];
-        let volts = given::lowered_of(v);
+        let volts = volts::give_back(v);
         Answered {
             board: self,
             answer: Answer::Node(volts, t),

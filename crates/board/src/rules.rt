@@ -1,17 +1,22 @@
 // Placing's tests in their order, up to the last, which needs the currents.
 ghost use mathlib.Core.Path.{_≡_};
-ghost use mathlib.Core.Bool.{not, _&&_};
-ghost use lib.Dec.{eqb, leb};
-ghost use lib.ListN.{getD};
-ghost use Rattle.board.specs.Verdict.{nodesMost, transistorsMost};
+ghost use mathlib.Core.Bool.{_&&_};
+ghost use lib.Dec.{leb};
+ghost use Rattle.board.specs.Counts.{nodesMost, transistorsMost};
 ghost use Rattle.board.specs.Desk.{anyOf, usedUp};
 ghost use Rattle.board.specs.Model.{cardPlace, workedAt, freeTransistor};
-ghost use Rattle.board.specs.Placing.{placing, wayOf};
+ghost use Rattle.board.specs.inner.Placing.{apartOn, placing, wayOf};
 use crate::Board;
 use crate::Card;
 use crate::Transistor;
 use crate::finds;
+use branch::ROLES;
 use refusal::Refusal;
+
+// The places of C1 and C4 among the roles.
+const C1: usize = 3;
+
+const C4: usize = 5;
 
 // The places of the card and of the transistor to be, or the refusal.
 pub(crate) enum Way {
@@ -20,12 +25,12 @@ pub(crate) enum Way {
 }
 
 // Whether a node is none of the board's.
-fn any_off(on: [u8; 7]) -> bool
+fn any_off(on: [u8; ROLES]) -> bool
     ensures { λ r. ⌜ r ≡ anyOf (leb nodesMost) on ⌝ }
 {
-    for k in 0..7 {
-        let n = on[k];
-        if 32 <= n {
+    for k in 0..ROLES {
+        let n = on[k] as usize;
+        if Board::NODES <= n {
             return true;
         }
     }
@@ -33,12 +38,16 @@ fn any_off(on: [u8; 7]) -> bool
 }
 
 // Whether C4 stands apart from C1 on a card that joins them.
-fn is_split(c: Card, on: [u8; 7]) -> bool
-    ensures { λ r. ⌜ r ≡ (c .ready .card .direct && not (eqb (getD on 5 0) (getD on 3 0))) ⌝ }
+fn is_split(c: Card, on: [u8; ROLES]) -> bool
+    ensures { λ r. ⌜ r ≡ (c .ready .card .«rcbli_zero» && apartOn on) ⌝ }
 {
     let ready = c.ready;
     let worked = ready.card;
-    if worked.direct { on[5] != on[3] } else { false }
+    if worked.rcbli_zero {
+        on[C4] != on[C1]
+    } else {
+        false
+    }
 }
 
 pub(crate) fn may_place(
@@ -46,7 +55,7 @@ pub(crate) fn may_place(
     ts: [Transistor; Board::TRANSISTORS],
     next: u32,
     n: u32,
-    on: [u8; 7],
+    on: [u8; ROLES],
 ) -> Way
     ensures { λ r. ⌜ r ≡ wayOf (freeTransistor ts) (placing (cardPlace n cards) (workedAt cards) on (leb transistorsMost (freeTransistor ts)) (usedUp next)) ⌝ }
 {

@@ -1,13 +1,14 @@
 // Which transistors name a node.
 ghost use mathlib.Core.Path.{_≡_};
-ghost use Rattle.board.specs.Parts.{names, standsAt};
+ghost use Rattle.board.specs.inner.Parts.{names, standsAt};
 use crate::Transistor;
+use branch::ROLES;
 
 // Whether one of the nodes is n.
-fn has(nodes: [u8; 7], n: u8) -> bool
+fn has(nodes: [u8; ROLES], n: u8) -> bool
     ensures { λ r. ⌜ r ≡ names n nodes ⌝ }
 {
-    for k in 0..7 {
+    for k in 0..ROLES {
         let m = nodes[k];
         if m == n {
             return true;

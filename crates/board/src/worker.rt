@@ -2,15 +2,17 @@
 ghost use mathlib.Core.Path.{_≡_};
 ghost use mathlib.Core.Bool.{_||_};
 ghost use mathlib.Core.List.{map};
-ghost use Prim.Native.Nat.{_*_, _^_, _<_};
+ghost use Prim.Native.Nat.{_<_};
 ghost use lib.ListN.{length, getD};
-ghost use Rattle.board.specs.Verdict.{nodesMost};
-ghost use Rattle.branch.specs.Ready.{lowered};
-ghost use Rattle.branch.specs.Outcome.{outcomeOf};
-ghost use Rattle.board.specs.Desk.{rolesAt, isOver, overloads, flow, anyOf};
+ghost use Rattle.volts.specs.Volts.{givenBack};
+ghost use Rattle.branch.specs.Rows.{roles};
+ghost use Rattle.branch.specs.Outcome.{outcomeOf, isOver};
+ghost use Rattle.board.specs.Counts.{nodesMost};
+ghost use Rattle.board.specs.Desk.{rolesAt, overloads, flow, anyOf};
 ghost use Rattle.board.specs.Model.{placeOverloads, totalsOf};
-ghost use Rattle.board.specs.Parts.{More, Room, Wired, rolesOf, seatOr, backFlow};
-ghost use Rattle.board.specs.Settle.{Workable, Settling};
+ghost use Rattle.board.specs.inner.Parts.{More, Room, Wired, rolesOf, placeOfCard, backFlow};
+ghost use Rattle.board.specs.inner.Sizes.{workedMost};
+ghost use Rattle.board.specs.inner.Settle.{Workable, Settling};
 use crate::Board;
 use crate::Card;
 use crate::Transistor;
@@ -18,6 +20,7 @@ use crate::sets;
 use crate::sums;
 use branch::Outcome;
 use branch::Over;
+use branch::ROLES;
 use octave::Table;
 
 fn volt(volts: &[u32; Board::NODES], n: u8) -> u32
@@ -29,26 +32,25 @@ fn volt(volts: &[u32; Board::NODES], n: u8) -> u32
 }
 
 // The voltages of a transistor's roles.
-fn roles(volts: &[u32; Board::NODES], nodes: &[u8; 7]) -> [u32; 7]
-    requires { ⌜ Wired nodesMost (now nodes) × (length (now nodes) ≡ 7) ⌝ }
+fn role_volts(volts: &[u32; Board::NODES], nodes: &[u8; ROLES]) -> [u32; ROLES]
+    requires { ⌜ Wired nodesMost (now nodes) × (length (now nodes) ≡ roles) ⌝ }
     ensures { λ r. ⌜ r ≡ rolesOf (now (volts .entry)) (now (nodes .entry)) ⌝ }
 {
-    let a = volt(volts, nodes[0]);
-    let b = volt(volts, nodes[1]);
-    let c = volt(volts, nodes[2]);
-    let d = volt(volts, nodes[3]);
-    let e = volt(volts, nodes[4]);
-    let f = volt(volts, nodes[5]);
-    let g = volt(volts, nodes[6]);
-    [a, b, c, d, e, f, g]
+    let mut v = [0u32; ROLES];
+    for k in 0..ROLES {
+        let n = nodes[k];
+        let x = volt(volts, n);
+        v[k] = x;
+    }
+    v
 }
 
 // A transistor's currents.
-fn work(table: &Table, c: Card, nodes: &[u8; 7], volts: &[u32; Board::NODES]) -> Outcome
+fn work(table: &Table, c: Card, nodes: &[u8; ROLES], volts: &[u32; Board::NODES]) -> Outcome
     requires { ⌜ Workable (now table) c (now nodes) (now volts) ⌝ }
-    ensures { λ r. ⌜ r ≡ outcomeOf (c .ready .card) (rolesAt (map lowered (now (volts .entry))) (now (nodes .entry))) ⌝ }
+    ensures { λ r. ⌜ r ≡ outcomeOf (c .ready .card) (rolesAt (map givenBack (now (volts .entry))) (now (nodes .entry))) ⌝ }
 {
-    let v = roles(volts, nodes);
+    let v = role_volts(volts, nodes);
     let ready = c.ready;
     branch::work_out(table, ready, &v)
 }
@@ -68,12 +70,12 @@ pub(crate) fn put_in(
     l: &mut [i64; Board::NODES],
     table: &Table,
     c: Card,
-    nodes: &[u8; 7],
+    nodes: &[u8; ROLES],
     volts: &[u32; Board::NODES],
 ) -> bool
-    requires { ⌜ Workable (now table) c (now nodes) (now volts) × Room nodesMost (880 * 2 ^ 53) (now l) ⌝ }
-    ensures { λ r. ⌜ r ≡ overloads (c .ready .card) (now (nodes .entry)) (map lowered (now (volts .entry))) ⌝ }
-    ensures { λ _. ⌜ More nodesMost (now (l .entry)) (now (l .exit)) (flow (c .ready .card) (now (nodes .entry)) (map lowered (now (volts .entry)))) ⌝ }
+    requires { ⌜ Workable (now table) c (now nodes) (now volts) × Room nodesMost workedMost (now l) ⌝ }
+    ensures { λ r. ⌜ r ≡ overloads (c .ready .card) (now (nodes .entry)) (map givenBack (now (volts .entry))) ⌝ }
+    ensures { λ _. ⌜ More nodesMost (now (l .entry)) (now (l .exit)) (flow (c .ready .card) (now (nodes .entry)) (map givenBack (now (volts .entry)))) ⌝ }
 {
     let o = work(table, c, nodes, volts);
     let ticks = o.ticks;
@@ -87,11 +89,11 @@ pub(crate) fn take_out(
     l: &mut [i64; Board::NODES],
     table: &Table,
     c: Card,
-    nodes: &[u8; 7],
+    nodes: &[u8; ROLES],
     volts: &[u32; Board::NODES],
 )
-    requires { ⌜ Workable (now table) c (now nodes) (now volts) × Room nodesMost (880 * 2 ^ 53) (now l) ⌝ }
-    ensures { λ _. ⌜ More nodesMost (now (l .entry)) (now (l .exit)) (backFlow (c .ready .card) (now (nodes .entry)) (map lowered (now (volts .entry)))) ⌝ }
+    requires { ⌜ Workable (now table) c (now nodes) (now volts) × Room nodesMost workedMost (now l) ⌝ }
+    ensures { λ _. ⌜ More nodesMost (now (l .entry)) (now (l .exit)) (backFlow (c .ready .card) (now (nodes .entry)) (map givenBack (now (volts .entry)))) ⌝ }
 {
     let o = work(table, c, nodes, volts);
     let ticks = o.ticks;
@@ -99,11 +101,11 @@ pub(crate) fn take_out(
 }
 
 // The place of the card on which a transistor stands.
-pub(crate) fn seat_of(t: Transistor) -> usize
-    ensures { λ r. ⌜ r ≡ seatOr t ⌝ }
+pub(crate) fn card_place_of(t: Transistor) -> usize
+    ensures { λ r. ⌜ r ≡ placeOfCard t ⌝ }
 {
-    let seat = t.seat as usize;
-    if seat < Board::CARDS { seat } else { 0 }
+    let place = t.card_place as usize;
+    if place < Board::CARDS { place } else { 0 }
 }
 
 fn either(a: bool, b: bool) -> bool
@@ -122,15 +124,15 @@ pub(crate) fn settle(
     n: u8,
 ) -> bool
     requires { ⌜ Settling cards ts (now was) (now volts) n (now l) ⌝ }
-    ensures { λ r. ⌜ r ≡ anyOf (placeOverloads cards (map lowered (now (volts .entry)))) ts ⌝ }
-    ensures { λ _. ⌜ now (l .exit) ≡ totalsOf cards ts (map lowered (now (volts .entry))) ⌝ }
+    ensures { λ r. ⌜ r ≡ anyOf (placeOverloads cards (map givenBack (now (volts .entry)))) ts ⌝ }
+    ensures { λ _. ⌜ now (l .exit) ≡ totalsOf cards ts (map givenBack (now (volts .entry))) ⌝ }
 {
     let table = octave::table();
     let mut over = false;
     for i in 0..Board::TRANSISTORS {
         let t = ts[i];
         if sets::is_at(t, n) {
-            let s = seat_of(t);
+            let s = card_place_of(t);
             let c = cards[s];
             let nodes = t.nodes;
             take_out(l, &table, c, &nodes, was);

@@ -1,6 +1,10 @@
-pub mod Powers
+pub mod Tests
+pub mod Roots
+pub mod RowLaws
+pub mod Loops
+pub mod Scaling
+pub mod Junctions
 pub mod Readied
-pub mod Dividing
-pub mod Outcomes
+pub mod Kept
+pub mod Replying
 pub mod Laws
-pub mod Levels

@@ -1,6 +1,7 @@
 pub mod Rows
+pub mod Ends
 pub mod Ticks
 pub mod Outcome
-pub mod Ready
-pub mod Worked
 pub mod Currents
+pub mod inner
+pub mod laws

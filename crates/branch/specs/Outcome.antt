@@ -9,7 +9,7 @@ use Rattle.card.specs.declared.WorkedCard.{WorkedCard}
 use Rattle.branch.specs.declared.Over.{Over}
 use Rattle.branch.specs.declared.Over.the-variants.{Within, Ticks, Injection}
 use Rattle.branch.specs.declared.Outcome.{Outcome}
-use Rattle.branch.specs.Rows.{Role, Share, unit, root, Row, rowsFor}
+use Rattle.branch.specs.Rows.{Role, Divisor, undivided, sumOf, Row, rowsFor}
 use Rattle.branch.specs.Ticks.{tickOf, ratioOf, rowTicks, biasOf}
 
 -- the most ticks that a T may have, and the most that a ratio's floor may
@@ -28,10 +28,9 @@ someAbove limit (x ∷ xs) = ltb limit x || someAbove limit xs
 abbrev pub ticksIn : WorkedCard → (Role → Role → ℤ) → Row → List ℕ
 ticksIn c v r = tickOf c v (r .plus) ∷ tickOf c v (r .minus) ∷ []
 
-abbrev pub ratiosIn : WorkedCard → (Role → Role → ℤ) → List Share → List ℕ
-ratiosIn c v [] = []
-ratiosIn c v (unit ∷ ss) = ratiosIn c v ss
-ratiosIn c v (root x p q ∷ ss) = ratioOf c v x p q ∷ ratiosIn c v ss
+abbrev pub ratiosIn : WorkedCard → (Role → Role → ℤ) → Divisor → List ℕ
+ratiosIn c v undivided = []
+ratiosIn c v (sumOf s t) = ratioOf c v s ∷ ratioOf c v t ∷ []
 
 -- whether row k overloads: a T goes before a ratio; and if neither, what comes after it
 abbrev pub injectionAt : Bool → ℕ → Over → Over
@@ -45,7 +44,15 @@ overAt false j k next = injectionAt j k next
 -- the first of the rows, numbered from k, that overloads
 abbrev pub firstOver : WorkedCard → (Role → Role → ℤ) → ℕ → List Row → Over
 firstOver c v k [] = Within
-firstOver c v k (r ∷ rs) = overAt (someAbove tickLimit (ticksIn c v r)) (someAbove ratioLimit (ratiosIn c v (r .shares))) k (firstOver c v (suc k) rs)
+firstOver c v k (r ∷ rs) =
+    overAt (someAbove tickLimit (ticksIn c v r)) (someAbove ratioLimit (ratiosIn c v (r .divisor))) k
+    (firstOver c v (suc k) rs)
+
+-- whether a row overloads, whichever and however
+abbrev pub isOver : Over → Bool
+isOver Within = false
+isOver (Ticks k) = true
+isOver (Injection k) = true
 
 -- nothing counts where a row overloads
 abbrev pub outcomeAt : Over → List ℤ → Outcome
@@ -53,7 +60,7 @@ outcomeAt Within ticks = record { over = Within; ticks = ticks }
 outcomeAt (Ticks k) ticks = record { over = Ticks k; ticks = replicate (length ticks) (pos 0) }
 outcomeAt (Injection k) ticks = record { over = Injection k; ticks = replicate (length ticks) (pos 0) }
 
--- the outcome for a worked card at the voltages of E1, B1, B2, C1, C2, C4 and S
+-- the outcome for a worked card at the voltages of its roles
 unfoldable pub outcomeOf : WorkedCard → List ℤ → Outcome
 outcomeOf c volts =
     outcomeAt (firstOver c (biasOf volts) 1 (rowsFor (c .exsub))) (map (rowTicks c (biasOf volts)) (rowsFor (c .exsub)))

@@ -1,6 +1,9 @@
--- The seven branches of a transistor as data: where each starts and ends, the T's it counts, and what it is divided by.
+-- The branches of a transistor as data: where each starts and ends, the T's it counts, and what it is divided by.
+-- No branch is written anywhere else in specs/.
 use mathlib.Core.Bool.{Bool, true, false}
 use mathlib.Core.List.{List, [], _∷_}
+use Prim.Native.Nat.{ℕ}
+use lib.ListN.{length}
 
 -- the places of a transistor to which a node is given
 pub data Role : Type 0 where
@@ -11,6 +14,23 @@ pub data Role : Type 0 where
   C2 : Role
   C4 : Role
   S : Role
+
+-- in the order in which a placing names them
+abbrev pub allRoles : List Role
+allRoles = E1 ∷ B1 ∷ B2 ∷ C1 ∷ C2 ∷ C4 ∷ S ∷ []
+
+abbrev pub roles : ℕ
+roles = length allRoles
+
+-- a role's number in that order
+abbrev pub roleIndex : Role → ℕ
+roleIndex E1 = 0
+roleIndex B1 = 1
+roleIndex B2 = 2
+roleIndex C1 = 3
+roleIndex C2 = 4
+roleIndex C4 = 5
+roleIndex S = 6
 
 -- the worked values of a card
 pub data Value : Type 0 where
@@ -34,52 +54,69 @@ pub data Term : Type 0 where
   alone : Value → Term
   across : Value → Span → Role → Role → Term
 
--- what a branch is divided by is a sum of such: 2^20, or the root for a ratio at a junction's voltage
-pub data Share : Type 0 where
-  unit : Share
-  root : Value → Role → Role → Share
+-- what a divisor is a sum of: 2^20, or the root for a ratio at a junction's voltage
+pub data Summand : Type 0 where
+  unit : Summand
+  root : Value → Role → Role → Summand
 
--- a branch: T(plus) - T(minus), and where there are shares, Q of that over their sum
+-- what a branch is divided by: nothing, or the sum of two
+pub data Divisor : Type 0 where
+  undivided : Divisor
+  sumOf : Summand → Summand → Divisor
+
+-- a branch: T(plus) - T(minus), and where there is a divisor, Q of that over it
 pub record Row : Type 0 where
   pub from : Role
   pub to : Role
   pub plus : Term
   pub minus : Term
-  pub shares : List Share
+  pub divisor : Divisor
 
 -- the main current, (4.52) and (4.53), with q_B as 1
 abbrev pub row1 : Row
-row1 = record { from = C2; to = E1; plus = across sN plain B2 E1; minus = across sN plain B2 C2; shares = [] }
+row1 = record { from = C2; to = E1; plus = across sN plain B2 E1; minus = across sN plain B2 C2; divisor = undivided }
 
 -- the ideal base current of the bulk, (4.58)
 abbrev pub row2 : Row
-row2 = record { from = B2; to = E1; plus = across bulk plain B2 E1; minus = alone bulk; shares = [] }
+row2 = record { from = B2; to = E1; plus = across bulk plain B2 E1; minus = alone bulk; divisor = undivided }
 
 -- and of the side wall, (4.59)
 abbrev pub row3 : Row
-row3 = record { from = B1; to = E1; plus = across side plain B1 E1; minus = alone side; shares = [] }
+row3 = record { from = B1; to = E1; plus = across side plain B1 E1; minus = alone side; divisor = undivided }
 
 -- the non-ideal base current, (4.60)
 abbrev pub row4 : Row
-row4 = record { from = B2; to = E1; plus = across nonideal second B2 E1; minus = alone nonideal; shares = [] }
+row4 = record { from = B2; to = E1; plus = across nonideal second B2 E1; minus = alone nonideal; divisor = undivided }
 
 -- the extrinsic base current, (4.65) to (4.67)
 abbrev pub row5 : Row
-row5 = record { from = B1; to = C4; plus = across ex plain B1 C4; minus = alone ex; shares = unit ∷ root rEx B1 C4 ∷ [] }
+row5 =
+    record { from = B1; to = C4; plus = across ex plain B1 C4; minus = alone ex; divisor = sumOf unit (root rEx B1 C4) }
 
--- what the substrate current is less than: (4.62a) for EXSUB 0, (4.62b) for EXSUB 1
-abbrev pub back : Bool → Term
-back false = alone sub
-back true = across sub plain S C4
+-- X, what the substrate current is less than: (4.62a) for EXSUB 0, (4.62b) for EXSUB 1
+abbrev pub termX : Bool → Term
+termX false = alone sub
+termX true = across sub plain S C4
 
 -- the substrate current, (4.62)
 abbrev pub row6 : Bool → Row
-row6 exsub = record { from = B1; to = S; plus = across sub plain B1 C4; minus = back exsub; shares = unit ∷ root rSub B1 C4 ∷ [] }
+row6 exsub =
+    record {
+      from = B1;
+      to = S;
+      plus = across sub plain B1 C4;
+      minus = termX exsub;
+      divisor = sumOf unit (root rSub B1 C4);
+    }
 
 -- the substrate's own junction, (4.63) and (4.64)
 abbrev pub row7 : Row
-row7 = record { from = S; to = C1; plus = across sf plain S C1; minus = alone sf; shares = [] }
+row7 = record { from = S; to = C1; plus = across sf plain S C1; minus = alone sf; divisor = undivided }
 
 -- the branches of a card with this EXSUB, in order
 abbrev pub rowsFor : Bool → List Row
 rowsFor exsub = row1 ∷ row2 ∷ row3 ∷ row4 ∷ row5 ∷ row6 exsub ∷ row7 ∷ []
+
+-- how many there are
+abbrev pub branches : ℕ
+branches = length (rowsFor false)

@@ -1,25 +1,28 @@
 -- From volts to ticks: the numbers that the rows' terms and ratios stand for, and the ticks of a row.
-use mathlib.Core.List.{List, [], _∷_}
-use Prim.Native.Nat.{ℕ, _+_, _*_, _^_}
+use mathlib.Core.List.{List}
+use Prim.Native.Nat.{ℕ, suc, _+_, _*_, _^_}
 use lib.ListN.{getD}
 use lib.IntN.{ℤ, pos, subℕ, _+ℤ_, _-ℤ_}
 use Rattle.whole.specs.Scale.{floorScale}
 use Rattle.whole.specs.Root.{rootOf}
 use Rattle.whole.specs.Quotient.{quotientOf}
-use Rattle.octave.specs.Table.{mantissaOf}
+use Rattle.octave.specs.Table.{places, mantissaOf}
 use Rattle.octave.specs.Position.{wholeOf, partOf}
 use Rattle.float.specs.declared.Split.{Split}
+use Rattle.float.specs.Split.{splitBias}
 use Rattle.card.specs.declared.WorkedCard.{WorkedCard}
-use Rattle.branch.specs.Rows.{Role, E1, B1, B2, C1, C2, C4, S, Value, sN, bulk, side, nonideal, ex, sub, sf, rEx, rSub, Span, plain, second, Term, alone, across, Share, unit, root, Row}
+use Rattle.branch.specs.Rows.{Role, roleIndex, Value, sN, bulk, side, nonideal, ex, sub, sf, rEx, rSub, Span}
+use Rattle.branch.specs.Rows.{plain, second, Term, alone, across, Summand, unit, root, Divisor, undivided, sumOf}
+use Rattle.branch.specs.Rows.{Row}
 
 -- digits * 2^power
 pub record Scaled : Type 0 where
   pub digits : ℕ
   pub power : ℤ
 
--- a * 2^b of a worked value; the card keeps b raised by 2048
+-- a * 2^b of a worked value; the card keeps b taken from a bias
 abbrev pub valueAt : Split → Scaled
-valueAt s = record { digits = s .a; power = subℕ (s .up) 2048 }
+valueAt s = record { digits = s .a; power = subℕ splitBias (s .down) }
 
 abbrev pub valueOf : WorkedCard → Value → Scaled
 valueOf c sN = valueAt (c .sn)
@@ -34,32 +37,29 @@ valueOf c rSub = valueAt (c .rsub)
 
 -- G(V) = m * 2^(n - 30) for an octave of w nanovolts
 unfoldable pub expOf : ℤ → ℕ → Scaled
-expOf v w = record { digits = mantissaOf (partOf v w); power = wholeOf v w -ℤ pos 30 }
+expOf v w = record { digits = mantissaOf (partOf v w); power = wholeOf v w -ℤ pos places }
 
 abbrev pub times : Scaled → Scaled → Scaled
 times x y = record { digits = x .digits * y .digits; power = x .power +ℤ y .power }
 
--- T(x): whole ticks of 2^-50 ampere not above x
+-- binary places of a tick, 2^-50 ampere, and of the unit in which ratios count, 2^-20
+abbrev pub tickPlaces : ℕ
+tickPlaces = 50
+
+abbrev pub partPlaces : ℕ
+partPlaces = 20
+
+-- T(x): whole ticks not above x
 abbrev pub wholeTicks : Scaled → ℕ
-wholeTicks x = floorScale (x .digits) (x .power +ℤ pos 50)
+wholeTicks x = floorScale (x .digits) (x .power +ℤ pos tickPlaces)
 
 -- floor(x * 2^20)
 abbrev pub wholeParts : Scaled → ℕ
-wholeParts x = floorScale (x .digits) (x .power +ℤ pos 20)
-
--- a role's place among the seven voltages
-abbrev pub seatOf : Role → ℕ
-seatOf E1 = 0
-seatOf B1 = 1
-seatOf B2 = 2
-seatOf C1 = 3
-seatOf C2 = 4
-seatOf C4 = 5
-seatOf S = 6
+wholeParts x = floorScale (x .digits) (x .power +ℤ pos partPlaces)
 
 -- the voltage of a junction: that of its first role less that of its second
 abbrev pub biasOf : List ℤ → Role → Role → ℤ
-biasOf volts p q = getD volts (seatOf p) (pos 0) -ℤ getD volts (seatOf q) (pos 0)
+biasOf volts p q = getD volts (roleIndex p) (pos 0) -ℤ getD volts (roleIndex q) (pos 0)
 
 abbrev pub octaveFor : WorkedCard → Span → ℕ
 octaveFor c plain = c .octave
@@ -70,24 +70,33 @@ abbrev pub tickOf : WorkedCard → (Role → Role → ℤ) → Term → ℕ
 tickOf c v (alone x) = wholeTicks (valueOf c x)
 tickOf c v (across x span p q) = wholeTicks (times (valueOf c x) (expOf (v p q) (octaveFor c span)))
 
--- floor(r * G(V) * 2^20) for a ratio
-abbrev pub ratioOf : WorkedCard → (Role → Role → ℤ) → Value → Role → Role → ℕ
-ratioOf c v x p q = wholeParts (times (valueOf c x) (expOf (v p q) (c .octave)))
+-- floor(r * G(V) * 2^20) for a ratio; 0 for the summand that has none
+abbrev pub ratioOf : WorkedCard → (Role → Role → ℤ) → Summand → ℕ
+ratioOf c v unit = 0
+ratioOf c v (root x p q) = wholeParts (times (valueOf c x) (expOf (v p q) (c .octave)))
 
--- 2^20, or the greatest R with R^2 <= (2^20 + floor(r * G * 2^20)) * 2^20
-abbrev pub shareAt : WorkedCard → (Role → Role → ℤ) → Share → ℕ
-shareAt c v unit = 2 ^ 20
-shareAt c v (root x p q) = rootOf ((2 ^ 20 + ratioOf c v x p q) * 2 ^ 20)
+-- 1 in those parts, 2^20
+abbrev pub oneUnit : ℕ
+oneUnit = 2 ^ partPlaces
 
-abbrev pub sumShares : WorkedCard → (Role → Role → ℤ) → List Share → ℕ
-sumShares c v [] = 0
-sumShares c v (s ∷ ss) = shareAt c v s + sumShares c v ss
+-- the greatest R with R^2 <= (2^20 + floor) * 2^20
+unfoldable pub rootFor : ℕ → ℕ
+rootFor ratio = rootOf ((oneUnit + ratio) * oneUnit)
+
+-- 2^20, or the root for a ratio
+abbrev pub summandOf : WorkedCard → (Role → Role → ℤ) → Summand → ℕ
+summandOf c v unit = oneUnit
+summandOf c v (root x p q) = rootFor (ratioOf c v (root x p q))
+
+-- Q's shift: a divisor of two units changes nothing
+abbrev pub quotientShift : ℕ
+quotientShift = suc partPlaces
 
 -- Q(N, D) = N * 2^21 / D, where there is something to divide by
-abbrev pub dividedBy : WorkedCard → (Role → Role → ℤ) → List Share → ℤ → ℤ
-dividedBy c v [] n = n
-dividedBy c v (s ∷ ss) n = quotientOf n 21 (sumShares c v (s ∷ ss))
+abbrev pub dividedBy : WorkedCard → (Role → Role → ℤ) → Divisor → ℤ → ℤ
+dividedBy c v undivided n = n
+dividedBy c v (sumOf s t) n = quotientOf n quotientShift (summandOf c v s + summandOf c v t)
 
 -- the ticks of a row
 abbrev pub rowTicks : WorkedCard → (Role → Role → ℤ) → Row → ℤ
-rowTicks c v r = dividedBy c v (r .shares) (subℕ (tickOf c v (r .plus)) (tickOf c v (r .minus)))
+rowTicks c v r = dividedBy c v (r .divisor) (subℕ (tickOf c v (r .plus)) (tickOf c v (r .minus)))

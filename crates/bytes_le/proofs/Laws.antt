@@ -45,7 +45,8 @@ byte-more k x b hx hb =
     let e : 256 * x + b ≡ x * 256 + b = omega arith in
     rw (e, pow-suc 256 k) (digits-lt hx hb)
 
-down-next : {s : List ℕ} {w j x : ℕ} → Down s w (suc j) x → (b : ℕ) → b ≡ getD s j 0 → b < 256 → Down s w j (256 * x + b)
+down-next : {s : List ℕ} {w j x : ℕ} → Down s w (suc j) x → (b : ℕ) → b ≡ getD s j 0 → b < 256
+    → Down s w j (256 * x + b)
 down-next {s} {w} {j} {x} d b e h =
     let k : suc (w - suc j) ≡ w - j = let a = d .within in omega arith in
     let here : b ≡ getD (take w s) j 0 = e ∙ sym (getD-take w s j 0 (d .within)) in
@@ -65,7 +66,8 @@ module _ {s : List ℕ} {w i x : ℕ} (d : Down s w i x) (h : 0 < i) where
   pub down-fits : (b : ℕ) → w ≤ 8 → b < 256 → 256 * x + b < 2 ^ 64
   down-fits b hw hb =
       let a = d .within in
-      lt-of-lt-of-le (byte-more (w - i) x b (d .bound) hb) (pow-le-pow-right {n = 256} (lit< tt) {i = suc (w - i)} {j = 8} (omega arith))
+      lt-of-lt-of-le (byte-more (w - i) x b (d .bound) hb)
+      (pow-le-pow-right {n = 256} (lit< tt) {i = suc (w - i)} {j = 8} (omega arith))
 
 pub down-last : {s : List ℕ} {w i x : ℕ} → Down s w i x → i ≤ 0 → (x ≡ le (take w s)) × (x < 256 ^ w)
 down-last {s} {w} {i} {x} d h =
@@ -101,7 +103,8 @@ pub no-word : (s : List ℕ) (at : ℕ) → length s ≤ at → Word (drop at s)
 no-word s at h = rw (drop-of-length-le s h) (short-word [] 0 (lit< tt) refl)
 
 module _ (s : List ℕ) (b₀ b₁ b₂ b₃ b₄ b₅ b₆ b₇ : ℕ)
-    (p₀ : (b₀ ≡ getD s 0 0) × (b₀ < 256)) (p₁ : (b₁ ≡ getD s 1 0) × (b₁ < 256)) (p₂ : (b₂ ≡ getD s 2 0) × (b₂ < 256)) (p₃ : (b₃ ≡ getD s 3 0) × (b₃ < 256))
+    (p₀ : (b₀ ≡ getD s 0 0) × (b₀ < 256)) (p₁ : (b₁ ≡ getD s 1 0) × (b₁ < 256)) (p₂ : (b₂ ≡ getD s 2 0) × (b₂ < 256))
+    (p₃ : (b₃ ≡ getD s 3 0) × (b₃ < 256))
     (p₄ : (b₄ ≡ getD s 4 0) × (b₄ < 256)) (p₅ : (b₅ ≡ getD s 5 0) × (b₅ < 256)) (p₆ : (b₆ ≡ getD s 6 0) × (b₆ < 256)) (p₇ : (b₇ ≡ getD s 7 0) × (b₇ < 256)) (h : 8 ≤ length s) where
   eight : List ℕ
   eight = b₀ ∷ b₁ ∷ b₂ ∷ b₃ ∷ b₄ ∷ b₅ ∷ b₆ ∷ b₇ ∷ []
@@ -110,7 +113,9 @@ module _ (s : List ℕ) (b₀ b₁ b₂ b₃ b₄ b₅ b₆ b₇ : ℕ)
   unfolding eight
   are-eight = take-firsts 8 s h ∙ rw (← p₀ .0, ← p₁ .0, ← p₂ .0, ← p₃ .0, ← p₄ .0, ← p₅ .0, ← p₆ .0, ← p₇ .0)
 
-  pub whole-word : (x : ℕ) → x ≡ b₀ + 0x100 * b₁ + 0x10000 * b₂ + 0x1000000 * b₃ + 0x100000000 * (b₄ + 0x100 * b₅ + 0x10000 * b₆ + 0x1000000 * b₇) → Word s x
+  pub whole-word : (x : ℕ)
+      → x ≡ b₀ + 0x100 * b₁ + 0x10000 * b₂ + 0x1000000 * b₃ + 0x100000000 * (b₄ + 0x100 * b₅ + 0x10000 * b₆ + 0x1000000 * b₇)
+      → Word s x
   unfolding eight
   whole-word x e =
       let n₇ = b₇ + 256 * 0 in
@@ -123,5 +128,7 @@ module _ (s : List ℕ) (b₀ b₁ b₂ b₃ b₄ b₅ b₆ b₇ : ℕ)
       let nested : x ≡ b₀ + 256 * n₁ = omega arith in
       record {
         value = nested ∙ sym (ap le are-eight);
-        bytes = λ l. rw nested (front 7 b₀ n₁ (p₀ .1) ∙ rw (front 6 b₁ n₂ (p₁ .1), front 5 b₂ n₃ (p₂ .1), front 4 b₃ n₄ (p₃ .1), front 3 b₄ n₅ (p₄ .1), front 2 b₅ n₆ (p₅ .1), front 1 b₆ n₇ (p₆ .1), front 0 b₇ 0 (p₇ .1)) (sym are-eight));
+        bytes =
+            λ l. rw nested
+            (front 7 b₀ n₁ (p₀ .1) ∙ rw (front 6 b₁ n₂ (p₁ .1), front 5 b₂ n₃ (p₂ .1), front 4 b₃ n₄ (p₃ .1), front 3 b₄ n₅ (p₄ .1), front 2 b₅ n₆ (p₅ .1), front 1 b₆ n₇ (p₆ .1), front 0 b₇ 0 (p₇ .1)) (sym are-eight));
       }

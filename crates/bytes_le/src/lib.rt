@@ -2,7 +2,10 @@
 ghost use mathlib.Core.Path.{_≡_};
 ghost use Prim.Native.Nat.{_<_, _≤_, _^_};
 ghost use lib.ListN.{getD, drop};
-ghost use Rattle.bytes_le.specs.Le.{leAt, Word};
+ghost use Rattle.bytes_le.specs.Le.{leAt, wordBytes, Word};
+
+// The bytes of a word.
+pub const WORD_BYTES: usize = 8;
 
 // A byte as a number of 64 bits.
 fn wide(x: u8) -> u64
@@ -20,7 +23,7 @@ fn byte(s: &[u8], i: usize) -> u64
 
 // The number in the w bytes at a place, from its highest byte down.
 fn number(s: &[u8], at: usize, w: usize) -> u64
-    requires { ⌜ w ≤ 8 ⌝ }
+    requires { ⌜ w ≤ wordBytes ⌝ }
     ensures { λ r. ⌜ (r ≡ leAt w (now (s .entry)) at) × (r < 256 ^ w) ⌝ }
 {
     if s.len() <= at {
@@ -48,12 +51,12 @@ pub fn u32_at(s: &[u8], at: usize) -> u32
     number(s, at, 4) as u32
 }
 
-// The word in the first eight bytes. Where all eight are there it is one load.
+// The word in the first bytes. Where all of a word's are there it is one load.
 fn word(s: &[u8]) -> u64
     ensures { λ r. ⌜ Word (now (s .entry)) r ⌝ }
 {
-    if s.len() < 8 {
-        return number(s, 0, 8);
+    if s.len() < WORD_BYTES {
+        return number(s, 0, WORD_BYTES);
     }
     let low = wide(s[0]) + 0x100 * wide(s[1]) + 0x10000 * wide(s[2]) + 0x1000000 * wide(s[3]);
     let high = wide(s[4]) + 0x100 * wide(s[5]) + 0x10000 * wide(s[6]) + 0x1000000 * wide(s[7]);

@@ -1,32 +1,41 @@
 -- Loading's answer on clipped numbers, test by test.
-use mathlib.Core.Path.{_≡_, refl, ap, ap₂, subst, _∙_}
-use mathlib.Core.Bool.{Bool, true, false, _&&_, _||_}
+use mathlib.Core.Path.{_≡_, refl, sym, ap, subst, _∙_}
+use mathlib.Core.Bool.{Bool, true, false, not}
 use mathlib.Core.List.{List}
 use Prim.Native.Nat.{ℕ}
-use native.Mathlib.Omega.{arith}
 use lib.Dec.{T}
 use lib.IntN.{pos, negsuc}
-use lib.Ieee.{Float, fin, binary64, ofBits, eq, ne, le, mul}
+use lib.Ieee.{Float, fin, binary64, ofBits, eq, le, mul}
 use lib.Ieee.Positive.{above, positive, above-of-le, mul-mono}
-use borrow.Author.Tests.{not-true, not-false}
+use Rattle.refusal.specs.declared.Refusal.{Refusal}
 use Rattle.refusal.specs.declared.Refusal.the-variants.{WrongLevel, BadExsub, BadOctave, OutOfReach}
+use Rattle.refusal.specs.Told.{told}
+use Rattle.refusal.specs.Clash.{clash}
+use Rattle.refusal.specs.Order.{Verdict, no, refuseIf, refused, given, tells}
 use Rattle.card.specs.declared.octaves.Octave.the-variants.{Nanovolts, Out}
-use Rattle.card.specs.declared.Judged.the-variants.{Card, Refused}
+use Rattle.card.specs.declared.working.Worked.{Worked}
+use Rattle.card.specs.declared.WorkedCard.{WorkedCard}
+use Rattle.card.specs.declared.Answer.{Answer}
+use Rattle.card.specs.declared.Answer.the-variants as answer
 use Rattle.card.specs.Limits.{zero, one, tenth}
 use Rattle.card.specs.Work.{workedOf, allFinite}
-use Rattle.card.specs.Octave.{ten-million, fifty-million, octaveGood, secondGood, octaveIf, octaveOf, secondOf}
-use Rattle.card.specs.Judge.{parametersOf, exsub, rcbli, octave, level, mlf, product, cardFrom, level504, withinReach, judgeFrom7, GoodMlf}
+use Rattle.card.specs.Octave.{ten-million, fifty-million, wholePart, octaveGood, secondGood}
+use Rattle.card.specs.Judge.{parametersOf, exsub, rcbli, octave, level, mlf, product, cardFrom, cardOf, level504}
+use Rattle.card.specs.Judge.{isSwitch, withinReach, reachOf, judgeNumbers}
+use Rattle.card.specs.inner.Octaves.{secondIf, secondOf}
+use Rattle.card.specs.inner.Tests.{unlessPassed, firstWrong}
+use Rattle.card.specs.inner.Worked.{GoodMlf}
 use Rattle.card.proofs.Whole.{positive-of}
 use Rattle.card.proofs.Range.{in-range, from}
 use Rattle.card.proofs.Clipped.{and-true}
 
--- ---- an octave's answer
-told-octave : (b : Bool) (k n : ℕ) → octaveIf b k ≡ Nanovolts n → (b ≡ true) × (n ≡ k)
-told-octave true k n e = (refl, cc)
-told-octave false k n e = let z : _≡_ {A = ℕ} 0 1 = cc in absurd (omega arith)
+-- ---- the second octave's answer
+told-second : (b : Bool) (k n : ℕ) → secondIf b k ≡ Nanovolts n → (b ≡ true) × (n ≡ k)
+told-second true k n e = (refl, cc)
+told-second false k n e = clash cc
 
-told-out : (b : Bool) (k : ℕ) → octaveIf b k ≡ Out → b ≡ false
-told-out true k e = let z : _≡_ {A = ℕ} 0 1 = cc in absurd (omega arith)
+told-out : (b : Bool) (k : ℕ) → secondIf b k ≡ Out → b ≡ false
+told-out true k e = clash cc
 told-out false k e = refl
 
 -- ---- the product is at least 1,000,000
@@ -44,7 +53,8 @@ module _ (m x : Float) (f : T (positive m)) (l : T (le tenth m)) (g : octaveGood
       let a = and-true (le ten-million x) _ g in
       let b = and-true (le x fifty-million) _ (a .1) in
       subst (λ (k : Float). T (le k (mul binary64 m x))) million-is
-      (mul-mono binary64 (fin false 3602879701896397 (negsuc 54)) m (fin false 78125 (pos 7)) x tt f tt (in-range x (a .0) (b .0)) (subst (λ (k : Float). T (le k m)) tenth-is l) (from x (a .0) (b .0)))
+      (mul-mono binary64 (fin false 3602879701896397 (negsuc 54)) m (fin false 78125 (pos 7)) x tt f tt
+      (in-range x (a .0) (b .0)) (subst (λ (k : Float). T (le k m)) tenth-is l) (from x (a .0) (b .0)))
 
   pub product-above : T (above (mul binary64 m x))
   product-above = above-of-le (fin false 15625 (pos 6)) (mul binary64 m x) tt product-least
@@ -54,42 +64,61 @@ mlf-positive x g =
     let l = subst (λ (k : Float). T (le k (mlf x))) tenth-is (g .least) in
     positive-of (mlf x) (above-of-le (fin false 3602879701896397 (negsuc 54)) (mlf x) tt l) (g .number)
 
--- ---- the tests, in their order
+-- ---- 7, 8, 9
+module _ (a b c : Bool) (e f g : Refusal) where
+  abbrev first : Answer
+  first = unlessPassed a e (unlessPassed b f (unlessPassed c g answer.Taken))
+
+  none-wrong : (v : Verdict WorkedCard) → first ≡ answer.Taken
+      → (refuseIf (not a) e (refuseIf (not b) f (refuseIf (not c) g v)) ≡ v) × (c ≡ true)
+  none-wrong v t = of a b c t
+    where
+      of : (a b c : Bool) → unlessPassed a e (unlessPassed b f (unlessPassed c g answer.Taken)) ≡ answer.Taken
+          → (refuseIf (not a) e (refuseIf (not b) f (refuseIf (not c) g v)) ≡ v) × (c ≡ true)
+      of true true true t = (refl, refl)
+      of true true false t = clash cc
+      of true false c t = clash cc
+      of false b c t = clash cc
+
+  some-wrong : (v : Verdict WorkedCard) (h : Refusal) → first ≡ answer.Refused h
+      → refuseIf (not a) e (refuseIf (not b) f (refuseIf (not c) g v)) ≡ no h
+  some-wrong v h t = of a b c t
+    where
+      of : (a b c : Bool) → unlessPassed a e (unlessPassed b f (unlessPassed c g answer.Taken)) ≡ answer.Refused h
+          → refuseIf (not a) e (refuseIf (not b) f (refuseIf (not c) g v)) ≡ no h
+      of true true true t = clash cc
+      of true true false t = cc
+      of true false c t = cc
+      of false b c t = cc
+
+module _ (x : List Float) {r : Answer} (e : r ≡ firstWrong x) where
+  pub goes-on : r ≡ answer.Taken → (judgeNumbers x ≡ reachOf x) × (octaveGood (octave x) ≡ true)
+  goes-on t =
+      none-wrong (eq (level x) level504) (isSwitch (exsub x)) (octaveGood (octave x)) WrongLevel BadExsub BadOctave
+      (reachOf x) (sym e ∙ t)
+
+  pub stops : (f : Refusal) → r ≡ answer.Refused f → judgeNumbers x ≡ no f
+  stops f t =
+      some-wrong (eq (level x) level504) (isSwitch (exsub x)) (octaveGood (octave x)) WrongLevel BadExsub BadOctave
+      (reachOf x) f (sym e ∙ t)
+
+-- ---- 10
 module _ (x : List Float) where
-  pub at-7 : ne (level x) level504 ≡ true → Refused WrongLevel ≡ judgeFrom7 x
-  unfolding ne
-  at-7 e = rw (not-true (eq (level x) level504) e)
+  out-of-reach : withinReach x ≡ false → refused (told OutOfReach) ≡ tells (reachOf x)
+  out-of-reach r = rw r
 
-  module _ (l : ne (level x) level504 ≡ false) where
-    is-504 : eq (level x) level504 ≡ true
-    unfolding ne
-    is-504 = not-false (eq (level x) level504) l
+  pub second-out : secondOf (product x) ≡ Out → refused (told OutOfReach) ≡ tells (reachOf x)
+  second-out p = out-of-reach (rw (told-out (secondGood (product x)) _ p))
 
-    pub at-8 : (eq (exsub x) zero || eq (exsub x) one) ≡ false → Refused BadExsub ≡ judgeFrom7 x
-    at-8 e = rw (is-504, e)
+  module _ (k : ℕ) (p : secondOf (product x) ≡ Nanovolts k) (w : Worked) (ew : w ≡ workedOf (parametersOf x)) where
+    reach : withinReach x ≡ allFinite w
+    reach = rw (told-second (secondGood (product x)) _ k p .0, ew)
 
-    module _ (e : (eq (exsub x) zero || eq (exsub x) one) ≡ true) where
-      pub at-9 : octaveOf (octave x) ≡ Out → Refused BadOctave ≡ judgeFrom7 x
-      at-9 o = rw (is-504, e, told-out (octaveGood (octave x)) _ o)
+    pub not-all : allFinite w ≡ false → refused (told OutOfReach) ≡ tells (reachOf x)
+    not-all a = out-of-reach (reach ∙ a)
 
-      module _ (n : ℕ) (o : octaveOf (octave x) ≡ Nanovolts n) where
-        pub good-octave : octaveGood (octave x) ≡ true
-        good-octave = told-octave (octaveGood (octave x)) _ n o .0
-
-        out-of-reach : withinReach x ≡ false → Refused OutOfReach ≡ judgeFrom7 x
-        out-of-reach r = rw (is-504, e, good-octave, r)
-
-        pub at-10 : secondOf (product x) ≡ Out → Refused OutOfReach ≡ judgeFrom7 x
-        at-10 p = out-of-reach (ap (λ (b : Bool). b && allFinite (workedOf (parametersOf x))) (told-out (secondGood (product x)) _ p))
-
-        module _ (k : ℕ) (p : secondOf (product x) ≡ Nanovolts k) where
-          reach : withinReach x ≡ allFinite (workedOf (parametersOf x))
-          reach = ap (λ (b : Bool). b && allFinite (workedOf (parametersOf x))) (told-octave (secondGood (product x)) _ k p .0)
-
-          pub not-all : allFinite (workedOf (parametersOf x)) ≡ false → Refused OutOfReach ≡ judgeFrom7 x
-          not-all a = out-of-reach (reach ∙ a)
-
-          pub taken : allFinite (workedOf (parametersOf x)) ≡ true → Card (cardFrom (workedOf (parametersOf x)) n k (eq (exsub x) one) (eq (rcbli x) zero)) ≡ judgeFrom7 x
-          taken a =
-              ap₂ (λ (u v : ℕ). Card (cardFrom (workedOf (parametersOf x)) u v (eq (exsub x) one) (eq (rcbli x) zero))) (told-octave (octaveGood (octave x)) _ n o .1) (told-octave (secondGood (product x)) _ k p .1)
-              ∙ rw (is-504, e, good-octave, reach, a)
+    pub taken : (n : ℕ) (c : WorkedCard) → n ≡ wholePart (octave x)
+        → c ≡ cardFrom w n k (eq (exsub x) one) (eq (rcbli x) zero) → allFinite w ≡ true → given c ≡ tells (reachOf x)
+    taken n c en ec a =
+        let card : c ≡ cardOf x = ec ∙ rw (en, told-second (secondGood (product x)) _ k p .1, ew) in
+        ap given card ∙ rw (reach, a)

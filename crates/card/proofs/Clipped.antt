@@ -11,16 +11,18 @@ use lib.Seq.{getD-at}
 use lib.Ieee.{nan, ofBits}
 use lib.Ieee.Positive.{positive, positive-finite}
 use lib.Ieee.Scale.{finite}
-use Rattle.card.specs.Record.{width, numberAt, finiteUp}
+use Rattle.refusal.specs.Clash.{clash}
+use Rattle.card.specs.Numbers as number
 use Rattle.card.specs.Limits.{tenth}
+use Rattle.card.specs.Record.{numberAt, finiteUp}
 use Rattle.card.specs.Clip.{clippedAt, clippedUp}
-use Rattle.card.specs.Judge.{GoodMlf}
+use Rattle.card.specs.inner.Worked.{GoodMlf}
 use Rattle.card.proofs.Range.{holds}
 use Rattle.card.proofs.Raise.{Raised, raised}
 
 pub and-true : (a b : Bool) → a && b ≡ true → (a ≡ true) × (b ≡ true)
 and-true true b e = (refl, e)
-and-true false b e = let z : _≡_ {A = ℕ} 0 1 = cc in absurd (omega arith)
+and-true false b e = clash cc
 
 -- each number is finite where all are
 pub each-finite : (s : List ℕ) (n i : ℕ) → i < n → finiteUp s n ≡ true → finite (numberAt s i) ≡ true
@@ -42,21 +44,24 @@ unfolding clippedUp
 each-clipped s zero i h = absurd (omega arith)
 each-clipped s (suc n) i h = of (ℕ-discrete i n) (λ l. each-clipped s n i l)
   where
-    of : Dec (i ≡ n) → (i < n → getD (clippedUp s n) i nan ≡ clippedAt s i) → getD (clippedUp s n ++ (clippedAt s n ∷ [])) i nan ≡ clippedAt s i
+    of : Dec (i ≡ n) → (i < n → getD (clippedUp s n) i nan ≡ clippedAt s i)
+        → getD (clippedUp s n ++ (clippedAt s n ∷ [])) i nan ≡ clippedAt s i
     of (yes d) g = rw d (getD-at (clippedUp s n) (clippedAt s n) [] nan n (long s n))
-    of (no d) g = List·getD-append (clippedUp s n) (clippedAt s n ∷ []) nan i (omega (arith, long s n)) ∙ g (omega arith)
+    of (no d) g =
+        List·getD-append (clippedUp s n) (clippedAt s n ∷ []) nan i (omega (arith, long s n)) ∙ g (omega arith)
 
 -- 0.1 is above zero
 tenth-positive : T (positive tenth)
 unfolding ofBits
 tenth-positive = tt
 
-mlf-raised : (s : List ℕ) → finiteUp s width ≡ true → Raised tenth (clippedAt s 6)
-unfolding clippedAt
-mlf-raised s f = raised tenth (numberAt s 6) tenth-positive (holds (each-finite s width 6 (omega arith) f))
+module _ (s : List ℕ) (n : ℕ) (h : number.mlf < n) (f : finiteUp s n ≡ true) where
+  mlf-raised : Raised tenth (clippedAt s number.mlf)
+  unfolding clippedAt
+  mlf-raised = raised tenth (numberAt s number.mlf) tenth-positive (holds (each-finite s n number.mlf h f))
 
-pub good-mlf : (s : List ℕ) → finiteUp s width ≡ true → GoodMlf (clippedUp s width)
-good-mlf s f =
-    let e = each-clipped s width 6 (omega arith) in
-    let r = mlf-raised s f in
-    record { number = rw e (positive-finite (clippedAt s 6) (r .number)); least = rw e (r .reached) }
+  pub good-mlf : GoodMlf (clippedUp s n)
+  good-mlf =
+      let e = each-clipped s n number.mlf h in
+      let f = positive-finite (clippedAt s number.mlf) (mlf-raised .number) in
+      record { number = rw e f; least = rw e (mlf-raised .reached) }

@@ -1,3 +1,4 @@
+pub mod Taken
 pub mod Turn
 pub mod Whole
 pub mod Range
@@ -5,6 +6,6 @@ pub mod Raise
 pub mod Clipped
 pub mod After
 pub mod Chain
-pub mod Sure
+pub mod WorkedCards
 pub mod Signs
 pub mod Unsigned

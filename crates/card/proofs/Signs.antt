@@ -1,4 +1,4 @@
--- Signs through the operations: what has no minus sign keeps none under a product, a quotient, and a difference from something larger.
+-- Signs through the operations: what has no minus sign keeps none in a product, a quotient, and what is left of more.
 use mathlib.Core.Path.{_≡_, refl, sym, ap, subst, _∙_}
 use mathlib.Core.Bool.{Bool, true, false, not, cond, _&&_, _||_}
 use Prim.Native.Nat.{ℕ, zero, suc, _+_, _-_, _*_, _/_, _%_, _^_, _≤_, _<_, compare}
@@ -7,14 +7,15 @@ use native.Mathlib.Omega.{arith}
 use mathlib.Core.Logic.{_⊎_, inl, inr}
 use lib.Dec.{T, ltb, eqb}
 use lib.IntN.{pos}
-use lib.Ieee.{Float, nan, inf, fin, Format, prec, emax, low, size, nearest, ofBits, up, down, odd, units, round, sum, sub, mul, div, lt, eq}
+use lib.Ieee.{Float, nan, inf, fin, Format, prec, emax, low, size, nearest, ofBits, up, down, odd, units, round, sum}
+use lib.Ieee.{sub, mul, div, lt, eq}
 use lib.Ieee.Fits.{up-pos, down-pos}
 use lib.Ieee.Scale.{finite}
 use borrow.Author.Tests.{ltb-false, eq-eqb}
 use Rattle.card.specs.declared.limits.Rule.the-variants.{AtLeast, Between}
 use Rattle.card.specs.Limits as limits
 use Rattle.card.specs.Limits.{plainOf, clipTo}
-use Rattle.card.specs.Sign.{unsigned}
+use Rattle.card.specs.laws.Sign.{unsigned}
 use Rattle.card.proofs.Raise.{zero-is}
 
 -- a finite number without a minus sign
@@ -41,7 +42,8 @@ odd-unsigned d (suc q) k l = tt
 units-unsigned : (f : Format) (q k : ℕ) → T (unsigned (units f false q k))
 unfolding units
 units-unsigned f q k =
-    cond-unsigned (ltb (q * 2 ^ k) (2 ^ (low f + suc (emax f)))) (odd (suc (prec f)) false q k (low f)) (inf false) (odd-unsigned (suc (prec f)) q k (low f)) tt
+    cond-unsigned (ltb (q * 2 ^ k) (2 ^ (low f + suc (emax f)))) (odd (suc (prec f)) false q k (low f)) (inf false)
+    (odd-unsigned (suc (prec f)) q k (low f)) tt
 
 round-unsigned : (f : Format) (a b : ℕ) → T (unsigned (round f false a b))
 unfolding round
@@ -92,7 +94,8 @@ sub-unsigned f (fin true m e) y p q h = absurd p
 sub-unsigned f (fin false m e) nan p q h = absurd q
 sub-unsigned f (fin false m e) (inf s) p q h = absurd q
 sub-unsigned f (fin false m e) (fin true n d) p q h = absurd q
-sub-unsigned f (fin false m e) (fin false n d) p q h = sum-unsigned f (m * up e * down d) (n * up d * down e) (down e * down d) h
+sub-unsigned f (fin false m e) (fin false n d) p q h =
+    sum-unsigned f (m * up e * down d) (n * up d * down e) (down e * down d) h
 
 -- ---- the clip rules
 cond-plus : (b : Bool) (x y : Float) → T (plus x) → T (plus y) → T (plus (cond b x y))
@@ -107,7 +110,8 @@ plain-plus : (x : Float) → T (plus x) → T (plus (plainOf x))
 plain-plus x p = cond-plus (eq x limits.zero) limits.zero x zero-plus p
 
 -- a number that is not below one without a minus sign has none itself, or is -0
-not-below : (low x : Float) → T (plus low) → T (finite x) → lt x low ≡ false → T (plus x) ⊎ (eq x (fin false 0 (pos 0)) ≡ true)
+not-below : (low x : Float) → T (plus low) → T (finite x) → lt x low ≡ false
+    → T (plus x) ⊎ (eq x (fin false 0 (pos 0)) ≡ true)
 unfolding lt eq
 not-below nan x p f h = absurd p
 not-below (inf s) x p f h = absurd p
@@ -118,7 +122,8 @@ not-below (fin false m d) (fin false n e) p f h = inl tt
 not-below (fin false m d) (fin true n e) p f h =
     let l = ltb-false 0 (n * up e * down d + m * up d * down e) h in inr (minus-zero (eq-zero-or-pos n) (omega arith))
   where
-    minus-zero : (n ≡ 0) ⊎ (0 < n) → n * up e * down d ≤ 0 → (eqb (n * up e * 1) (0 * 1 * down e) && (false || eqb (n * up e * 1) 0)) ≡ true
+    minus-zero : (n ≡ 0) ⊎ (0 < n) → n * up e * down d ≤ 0
+        → (eqb (n * up e * 1) (0 * 1 * down e) && (false || eqb (n * up e * 1) 0)) ≡ true
     minus-zero (inl z) k =
         let y : n * up e ≡ 0 = ap (λ (i : ℕ). i * up e) z ∙ zero-mul (up e) in
         rw (eq-eqb (n * up e * 1) (0 * 1 * down e) (omega arith), eq-eqb (n * up e * 1) 0 (omega arith))
@@ -137,7 +142,8 @@ least-plus low x p f = of (lt x low) refl
     of true e = plain-plus low p
     of false e = kept-plus low x p f e
 
-pub between-plus : (low high x : Float) → T (plus low) → T (plus high) → T (finite x) → T (plus (clipTo (Between low high) x))
+pub between-plus : (low high x : Float) → T (plus low) → T (plus high) → T (finite x)
+    → T (plus (clipTo (Between low high) x))
 between-plus low high x p q f = of (lt x low) refl (lt high x)
   where
     of : (b : Bool) → lt x low ≡ b → (c : Bool) → T (plus (plainOf (cond b low (cond c high x))))

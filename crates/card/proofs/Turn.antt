@@ -12,28 +12,30 @@ use lib.Seq.{take-all, take-suc-set}
 use lib.Pow.{pow-mono}
 use lib.Ieee.{Float, ne}
 use lib.Ieee.Scale.{finite}
+use Rattle.refusal.specs.Clash.{clash}
 use Rattle.float.specs.declared.Number.{Number}
 use Rattle.float.specs.declared.Number.the-variants.{Real, Nothing}
 use Rattle.bytes_le.specs.Le.{leAt}
-use Rattle.float.specs.Word.{numberIf, numberOf}
+use Rattle.float.specs.Word.{realIf, realOf}
 use Rattle.card.specs.declared.Answer.the-variants as answer
 use Rattle.card.specs.declared.limits.Rule.{Rule}
-use Rattle.card.specs.Record.{width, numberAt, finiteUp}
+use Rattle.card.specs.Record.{hasWords, numberAt, finiteUp}
 use Rattle.card.specs.Limits.{ruleOf, clipTo}
-use Rattle.card.specs.Clip.{clippedAt, clippedUp, maskUp, clipAt6}
+use Rattle.card.specs.Clip.{clippedAt, clippedUp, maskUp, Clips}
+use Rattle.card.proofs.Taken.{clips-taken}
 
 -- ---- what a word was read as
-real-if : (b : Bool) (x y : Float) → numberIf b y ≡ Real x → (b ≡ true) × (x ≡ y)
+real-if : (b : Bool) (x y : Float) → realIf b y ≡ Real x → (b ≡ true) × (x ≡ y)
 real-if true x y e = (refl, cc)
-real-if false x y e = let z : _≡_ {A = ℕ} 0 1 = cc in absurd (omega arith)
+real-if false x y e = clash cc
 
-nothing-if : (b : Bool) (y : Float) → numberIf b y ≡ Nothing → b ≡ false
-nothing-if true y e = let z : _≡_ {A = ℕ} 0 1 = cc in absurd (omega arith)
+nothing-if : (b : Bool) (y : Float) → realIf b y ≡ Nothing → b ≡ false
+nothing-if true y e = clash cc
 nothing-if false y e = refl
 
-module _ (s : List ℕ) (i w : ℕ) (n : Number) (ew : w ≡ leAt 8 s (8 * i)) (en : n ≡ numberOf w) where
-  read-at : numberIf (finite (numberAt s i)) (numberAt s i) ≡ n
-  read-at = ap numberOf (sym ew) ∙ sym en
+module _ (s : List ℕ) (i w : ℕ) (n : Number) (ew : w ≡ leAt 8 s (8 * i)) (en : n ≡ realOf w) where
+  read-at : realIf (finite (numberAt s i)) (numberAt s i) ≡ n
+  read-at = ap realOf (sym ew) ∙ sym en
 
   pub is-real : (x : Float) → n ≡ Real x → (finite (numberAt s i) ≡ true) × (x ≡ numberAt s i)
   is-real x e = real-if (finite (numberAt s i)) x (numberAt s i) (read-at ∙ e)
@@ -41,7 +43,8 @@ module _ (s : List ℕ) (i w : ℕ) (n : Number) (ew : w ≡ leAt 8 s (8 * i)) (
   pub is-nothing : n ≡ Nothing → finite (numberAt s i) ≡ false
   is-nothing e = nothing-if (finite (numberAt s i)) (numberAt s i) (read-at ∙ e)
 
-pub clipped-is : (s : List ℕ) (i : ℕ) (r : Rule) (x y : Float) → r ≡ ruleOf i → x ≡ numberAt s i → y ≡ clipTo r x → y ≡ clippedAt s i
+pub clipped-is : (s : List ℕ) (i : ℕ) (r : Rule) (x y : Float) → r ≡ ruleOf i → x ≡ numberAt s i → y ≡ clipTo r x
+    → y ≡ clippedAt s i
 unfolding clippedAt
 clipped-is s i r x y er ex ey = ey ∙ ap₂ clipTo er ex
 
@@ -81,24 +84,25 @@ not-finite s (suc n) i h e = of (ℕ-discrete i n) (λ l. not-finite s n i l e)
   where
     of : Dec (i ≡ n) → (i < n → finiteUp s n ≡ false) → finiteUp s (suc n) ≡ false
     of (yes d) g =
-        finite-more s n ∙ ap (λ (b : Bool). finiteUp s n && b) (ap (λ (k : ℕ). finite (numberAt s k)) (sym d) ∙ e) ∙ and-false (finiteUp s n)
+        finite-more s n ∙ ap (λ (b : Bool). finiteUp s n && b) (ap (λ (k : ℕ). finite (numberAt s k)) (sym d) ∙ e)
+        ∙ and-false (finiteUp s n)
     of (no d) g = finite-more s n ∙ ap (λ (b : Bool). b && finite (numberAt s n)) (g (omega arith))
 
--- ---- the loop's invariant
-pub record Passed (s : List ℕ) (numbers : List Float) (mask bit i : ℕ) : Type 0 where
-  pub few : i ≤ width
-  pub long : length numbers ≡ width
+-- ---- the loop's invariant, over a record of n words
+pub record Passed (n : ℕ) (s : List ℕ) (numbers : List Float) (mask bit i : ℕ) : Type 0 where
+  pub few : i ≤ n
+  pub long : length numbers ≡ n
   pub good : finiteUp s i ≡ true
   pub done : take i numbers ≡ clippedUp s i
   pub bits : mask ≡ maskUp s i
   pub power : bit ≡ 2 ^ i
   pub under : mask < bit
 
-pub at-most : {s : List ℕ} {numbers : List Float} {mask bit i : ℕ} → Passed s numbers mask bit i → bit ≤ 2 ^ width
+pub at-most : {n : ℕ} {s : List ℕ} {numbers : List Float} {mask bit i : ℕ} → Passed n s numbers mask bit i → bit ≤ 2 ^ n
 at-most p = omega (arith, p .power, pow-mono (p .few))
 
-pub start : (s : List ℕ) (numbers : List Float) → length numbers ≡ width → Passed s numbers 0 1 0
-start s numbers h = record {
+pub start : (n : ℕ) (s : List ℕ) (numbers : List Float) → length numbers ≡ n → Passed n s numbers 0 1 0
+start n s numbers h = record {
   few = omega arith;
   long = h;
   good = finite-none s;
@@ -112,27 +116,43 @@ cond-le : (b : Bool) (n : ℕ) → cond b n 0 ≤ n
 cond-le true n = omega arith
 cond-le false n = omega arith
 
-module _ (s : List ℕ) (numbers : List Float) (mask bit i : ℕ) (p : Passed s numbers mask bit i) (h : i < width) (x y : Float) (w : ℕ) (ew : w ≡ cond (ne x y) bit 0) where
-  pub small : w ≤ bit
-  small = let l = cond-le (ne x y) bit in omega arith
+pub small : (x y : Float) (bit w : ℕ) → w ≡ cond (ne x y) bit 0 → w ≤ bit
+small x y bit w e = let l = cond-le (ne x y) bit in omega arith
 
-  module _ (f : finite (numberAt s i) ≡ true) (ex : x ≡ numberAt s i) (ey : y ≡ clippedAt s i) where
-    more : Passed s (set numbers i y) (mask + w) (bit * 2) (suc i)
+-- what a turn reads, clips and marks
+pub record Turned (s : List ℕ) (i bit : ℕ) (x y : Float) (w : ℕ) : Type 0 where
+  pub good : finite (numberAt s i) ≡ true
+  pub number : x ≡ numberAt s i
+  pub clipped : y ≡ clippedAt s i
+  pub weight : w ≡ cond (ne x y) bit 0
+
+module _ {n : ℕ} {s : List ℕ} {l : List Float} {mask bit i : ℕ} (p : Passed n s l mask bit i) (h : i < n) where
+  further : (y : Float) → y ≡ clippedAt s i → take (suc i) (set l i y) ≡ clippedUp s (suc i)
+  further y e =
+      take-suc-set l i y (omega (arith, p .long))
+      ∙ ap₂ (λ (k : List Float) (v : Float). k ++ (v ∷ [])) (p .done) e
+      ∙ sym (numbers-more s i)
+
+  module _ {x y : Float} {w : ℕ} (t : Turned s i bit x y w) where
+    more : Passed n s (set l i y) (mask + w) (bit * 2) (suc i)
     more = record {
       few = omega arith;
-      long = length-set numbers i y ∙ p .long;
-      good = finite-more s i ∙ ap₂ _&&_ (p .good) f;
-      done = take-suc-set numbers i y (omega (arith, p .long)) ∙ ap₂ (λ (l : List Float) (v : Float). l ++ (v ∷ [])) (p .done) ey ∙ sym (numbers-more s i);
-      bits = ap₂ _+_ (p .bits) (ew ∙ cc (ex, ey, p .power)) ∙ sym (mask-more s i);
-      power = ap (λ (n : ℕ). n * 2) (p .power) ∙ sym (pow-suc 2 i);
-      under = omega (arith, small, p .under);
+      long = length-set l i y ∙ p .long;
+      good = finite-more s i ∙ ap₂ _&&_ (p .good) (t .good);
+      done = further y (t .clipped);
+      bits = ap₂ _+_ (p .bits) (t .weight ∙ cc (t .number, t .clipped, p .power)) ∙ sym (mask-more s i);
+      power = ap (λ (k : ℕ). k * 2) (p .power) ∙ sym (pow-suc 2 i);
+      under = omega (arith, small x y bit w (t .weight), p .under);
     }
 
-    pub turn : Passed s (set numbers i y) (mask + w) (bit * 2) (i + 1)
+    pub turn : Passed n s (set l i y) (mask + w) (bit * 2) (i + 1)
     turn = rw add-one more
 
-pub finished : (s : List ℕ) (numbers : List Float) (mask bit i : ℕ) → Passed s numbers mask bit i → width ≤ i → record { answer = answer.Taken; numbers = numbers; mask = mask } ≡ clipAt6 (finiteUp s width) s
-finished s numbers mask bit i p h =
-    let e : i ≡ width = omega (arith, p .few) in
-    let q : Passed s numbers mask bit width = rw e at p in
-    rw (q .good) (ap₂ (λ (l : List Float) (m : ℕ). record { answer = answer.Taken; numbers = l; mask = m }) (sym (take-all width numbers (omega (arith, q .long))) ∙ q .done) (q .bits))
+-- ---- after the loop
+pub finished : {n : ℕ} {s : List ℕ} {numbers : List Float} {mask bit i : ℕ} → hasWords n s ≡ true
+    → Passed n s numbers mask bit i → n ≤ i
+    → Clips n s (record { answer = answer.Taken; numbers = numbers; mask = mask })
+finished {n} {s} {numbers} {mask} {bit} {i} l p h =
+    let e : i ≡ n = omega (arith, p .few) in
+    let q : Passed n s numbers mask bit n = rw e at p in
+    clips-taken n s l (q .good) (sym (take-all n numbers (omega (arith, q .long))) ∙ q .done) (q .bits)

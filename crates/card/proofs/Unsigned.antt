@@ -7,17 +7,21 @@ use native.Mathlib.Omega.{arith}
 use lib.Dec.{T}
 use lib.Ieee.{Float, binary64, ofBits, lt, eq, mul, sub}
 use lib.Ieee.Scale.{finite}
+use Rattle.card.specs.declared.working.Worked.{Worked}
 use Rattle.card.specs.declared.limits.Rule.{Rule}
 use Rattle.card.specs.declared.limits.Rule.the-variants.{Free, AtLeast, Between}
-use Rattle.card.specs.Record.{width, numberAt, finiteUp}
-use Rattle.card.specs.Limits.{zero, one, pico, tenth-milli, tenth-nano, ruleOf, plainOf, clipTo}
+use Rattle.card.specs.Numbers as number
+use Rattle.card.specs.Limits.{width, zero, one, pico, tenth-milli, tenth-nano, ruleOf, plainOf, clipTo}
+use Rattle.card.specs.Record.{numberAt, finiteUp}
 use Rattle.card.specs.Clip.{clippedAt, clippedUp}
-use Rattle.card.specs.Work.{four, sfOf, workedOf, Nine}
+use Rattle.card.specs.Work.{four, sfOf, workedOf, valuesOf}
 use Rattle.card.specs.Judge.{at, parametersOf}
-use Rattle.card.specs.Sign.{unsigned, Unsigned}
+use Rattle.card.specs.inner.Worked.{Each}
+use Rattle.card.specs.laws.Sign.{unsigned, Unsigned}
 use Rattle.card.proofs.Range.{holds}
 use Rattle.card.proofs.Clipped.{each-finite, each-clipped}
-use Rattle.card.proofs.Signs.{plus, plus-unsigned, zero-plus, kept-plus, least-plus, between-plus, mul-unsigned, div-unsigned, sub-unsigned}
+use Rattle.card.proofs.Signs.{plus, plus-unsigned, zero-plus, kept-plus, least-plus, between-plus, mul-unsigned}
+use Rattle.card.proofs.Signs.{div-unsigned, sub-unsigned}
 
 -- ---- the limits
 limits-plus : T (plus one) × T (plus four) × T (plus pico) × T (plus tenth-milli) × T (plus tenth-nano)
@@ -56,7 +60,8 @@ free-plus x f h = of (eq x zero) refl h
     of true e k = subst (λ (b : Bool). T (plus (cond b zero x))) (sym e) zero-plus
     of false e k = kept-plus zero x zero-plus f k
 
-sf-unsigned : (icss mult sub : Float) → (lt icss zero ≡ false → T (plus icss)) → T (unsigned mult) → T (unsigned sub) → T (unsigned (sfOf icss mult sub))
+sf-unsigned : (icss mult sub : Float) → (lt icss zero ≡ false → T (plus icss)) → T (unsigned mult) → T (unsigned sub)
+    → T (unsigned (sfOf icss mult sub))
 sf-unsigned icss mult sub p q r = of (lt icss zero) refl
   where
     of : (b : Bool) → lt icss zero ≡ b → T (unsigned (cond b sub (mul binary64 icss mult)))
@@ -67,49 +72,65 @@ module _ (s : List ℕ) (f : finiteUp s width ≡ true) where
   abbrev x : List Float
   x = clippedUp s width
 
-  number : (i : ℕ) → i < width → T (finite (numberAt s i))
-  number i h = holds (each-finite s width i h f)
+  abbrev w : Worked
+  w = workedOf (parametersOf x)
+
+  number-finite : (i : ℕ) → i < width → T (finite (numberAt s i))
+  number-finite i h = holds (each-finite s width i h f)
 
   by-rule : (i : ℕ) (r : Rule) → i < width → ruleOf i ≡ r → at x i ≡ clipTo r (numberAt s i)
   unfolding clippedAt
   by-rule i r h e = each-clipped s width i h ∙ ap (λ (k : Rule). clipTo k (numberAt s i)) e
 
   least : (i : ℕ) (low : Float) → i < width → ruleOf i ≡ AtLeast low → T (plus low) → T (plus (at x i))
-  least i low h e p = rw (by-rule i (AtLeast low) h e) (least-plus low (numberAt s i) p (number i h))
+  least i low h e p = rw (by-rule i (AtLeast low) h e) (least-plus low (numberAt s i) p (number-finite i h))
 
-  xibi-at : at x 4 ≡ clipTo (Between zero one) (numberAt s 4)
-  xibi-at = by-rule 4 (Between zero one) (omega arith) refl
+  -- a parameter whose least is zero
+  from-zero : (i : ℕ) → i < width → ruleOf i ≡ AtLeast zero → T (unsigned (at x i))
+  from-zero i h e = plus-unsigned (at x i) (least i zero h e zero-plus)
 
-  xibi-plus : T (plus (at x 4))
-  xibi-plus = rw xibi-at (between-plus zero one (numberAt s 4) zero-plus (limits-plus .0) (number 4 (omega arith)))
+  abbrev xibi : Float
+  xibi = at x number.xibi
 
-  left-of-one : T (unsigned (sub binary64 one (at x 4)))
-  left-of-one = sub-unsigned binary64 one (at x 4) (limits-plus .0) xibi-plus (rw xibi-at (under-one (numberAt s 4)))
+  xibi-at : xibi ≡ clipTo (Between zero one) (numberAt s number.xibi)
+  xibi-at = by-rule number.xibi (Between zero one) (omega arith) refl
 
-  icss-plus : lt (at x 9) zero ≡ false → T (plus (at x 9))
+  xibi-plus : T (plus xibi)
+  xibi-plus =
+      rw xibi-at
+      (between-plus zero one (numberAt s number.xibi) zero-plus (limits-plus .0)
+      (number-finite number.xibi (omega arith)))
+
+  left-of-one : T (unsigned (sub binary64 one xibi))
+  left-of-one =
+      sub-unsigned binary64 one xibi (limits-plus .0) xibi-plus (rw xibi-at (under-one (numberAt s number.xibi)))
+
+  icss-plus : lt (at x number.icss) zero ≡ false → T (plus (at x number.icss))
   icss-plus h =
-      let e = by-rule 9 Free (omega arith) refl in rw e (free-plus (numberAt s 9) (number 9 (omega arith)) (rw e at h))
+      let e = by-rule number.icss Free (omega arith) refl in
+      rw e (free-plus (numberAt s number.icss) (number-finite number.icss (omega arith)) (rw e at h))
 
-  pub worked-unsigned : Nine Unsigned (workedOf (parametersOf x))
+  pub worked-unsigned : Each Unsigned (valuesOf w)
   worked-unsigned =
-      let mult = plus-unsigned (at x 0) (least 0 zero (omega arith) refl zero-plus) in
-      let is = plus-unsigned (at x 1) (least 1 zero (omega arith) refl zero-plus) in
-      let ik = least 2 pico (omega arith) refl (limits-plus .2) in
-      let bf = least 3 tenth-milli (omega arith) refl (limits-plus .3) in
-      let ibf = plus-unsigned (at x 5) (least 5 zero (omega arith) refl zero-plus) in
-      let bri = least 7 tenth-nano (omega arith) refl (limits-plus .4) in
-      let iss = plus-unsigned (at x 8) (least 8 zero (omega arith) refl zero-plus) in
-      let iks = least 10 pico (omega arith) refl (limits-plus .2) in
-      let sn = mul-unsigned binary64 (at x 1) (at x 0) is mult in
-      let ss = mul-unsigned binary64 (at x 8) (at x 0) iss mult in
-      let fourfold = mul-unsigned binary64 four (at x 1) (plus-unsigned four (limits-plus .1)) is in record {
-        sn = sn;
-        bulk = div-unsigned binary64 (mul binary64 (sub binary64 one (at x 4)) (workedOf (parametersOf x) .sn)) (at x 3) (mul-unsigned binary64 (sub binary64 one (at x 4)) (workedOf (parametersOf x) .sn) left-of-one sn) bf;
-        side = div-unsigned binary64 (mul binary64 (at x 4) (workedOf (parametersOf x) .sn)) (at x 3) (mul-unsigned binary64 (at x 4) (workedOf (parametersOf x) .sn) (plus-unsigned (at x 4) xibi-plus) sn) bf;
-        nonideal = mul-unsigned binary64 (at x 5) (at x 0) ibf mult;
-        ex = div-unsigned binary64 (workedOf (parametersOf x) .sn) (at x 7) sn bri;
-        sub = ss;
-        sf = sf-unsigned (at x 9) (at x 0) (workedOf (parametersOf x) .sub) icss-plus mult ss;
-        rex = div-unsigned binary64 (mul binary64 four (at x 1)) (at x 2) fourfold ik;
-        rsub = div-unsigned binary64 (mul binary64 four (at x 1)) (at x 10) fourfold iks;
-      }
+      let times = mul-unsigned binary64 in
+      let over = div-unsigned binary64 in
+      let mult = from-zero number.mult (omega arith) refl in
+      let is = from-zero number.is (omega arith) refl in
+      let iss = from-zero number.iss (omega arith) refl in
+      let bf = least number.bf tenth-milli (omega arith) refl (limits-plus .3) in
+      let sn = times (at x number.is) (at x number.mult) is mult in
+      let ss = times (at x number.iss) (at x number.mult) iss mult in
+      let fourfold = times four (at x number.is) (plus-unsigned four (limits-plus .1)) is in
+      let bulk = times (sub binary64 one xibi) (w .sn) left-of-one sn in
+      let side = times xibi (w .sn) (plus-unsigned xibi xibi-plus) sn in
+      let nonideal = times (at x number.ibf) (at x number.mult) (from-zero number.ibf (omega arith) refl) mult in
+      let bri = least number.bri tenth-nano (omega arith) refl (limits-plus .4) in
+      let sf = sf-unsigned (at x number.icss) (at x number.mult) (w .sub) icss-plus mult ss in
+      let ik = least number.ik pico (omega arith) refl (limits-plus .2) in
+      let iks = least number.iks pico (omega arith) refl (limits-plus .2) in
+      let bulk-share = over (mul binary64 (sub binary64 one xibi) (w .sn)) (at x number.bf) bulk bf in
+      let side-share = over (mul binary64 xibi (w .sn)) (at x number.bf) side bf in
+      let ex = over (w .sn) (at x number.bri) sn bri in
+      let rex = over (mul binary64 four (at x number.is)) (at x number.ik) fourfold ik in
+      let rsub = over (mul binary64 four (at x number.is)) (at x number.iks) fourfold iks in
+      (sn, (bulk-share, (side-share, (nonideal, (ex, (ss, (sf, (rex, (rsub, tt)))))))))

@@ -1,16 +1,20 @@
--- Clipping alone: the clipped numbers and the mask, or 1, or 6.
-use mathlib.Core.Bool.{Bool, true, false, cond}
+-- Clipping alone, of a record of n words: the clipped numbers and the mask, or 1, or 6.
+use mathlib.Core.Path.{_≡_}
+use mathlib.Core.Bool.{not, cond}
 use mathlib.Core.List.{List, [], _∷_, _++_}
 use Prim.Native.Nat.{ℕ, zero, suc, _+_, _^_}
 use lib.ListN.{replicate}
 use lib.Ieee.{Float, ne}
-use Rattle.refusal.specs.declared.Refusal.{Refusal}
 use Rattle.refusal.specs.declared.Refusal.the-variants.{Malformed, NotFinite}
+use Rattle.refusal.specs.Told.{told}
+use Rattle.refusal.specs.Order as order
+use Rattle.refusal.specs.Order.{Verdict, refuseIf, tells}
+use Rattle.card.specs.declared.Answer.{Answer}
 use Rattle.card.specs.declared.Answer.the-variants as answer
 use Rattle.card.specs.declared.Clipping.{Clipping}
-use Rattle.card.specs.Record.{width, rightLength, numberAt, finiteUp}
 use Rattle.card.specs.Limits as limits
 use Rattle.card.specs.Limits.{ruleOf, clipTo}
+use Rattle.card.specs.Record.{hasWords, numberAt, finiteUp}
 
 -- number i, clipped by its rule
 unfoldable pub clippedAt : List ℕ → ℕ → Float
@@ -26,16 +30,29 @@ unfoldable pub maskUp : List ℕ → ℕ → ℕ
 maskUp s zero = 0
 maskUp s (suc n) = maskUp s n + cond (ne (numberAt s n) (clippedAt s n)) (2 ^ n) 0
 
-abbrev pub clipRefused : Refusal → Clipping
-clipRefused f = record { answer = answer.Refused f; numbers = replicate width limits.zero; mask = 0 }
+-- 1 where the bytes are not those of n words, then 6 where a number is not finite; else the record is taken
+unfoldable pub clipOf : ℕ → List ℕ → Verdict (Unit {0})
+clipOf n s = refuseIf (not (hasWords n s)) Malformed (refuseIf (not (finiteUp s n)) NotFinite (order.yes tt))
 
-abbrev pub clipAt6 : Bool → List ℕ → Clipping
-clipAt6 false s = clipRefused NotFinite
-clipAt6 true s = record { answer = answer.Taken; numbers = clippedUp s width; mask = maskUp s width }
+-- what stands where the record is taken, and what where it is not
+abbrev pub ifTaken : {A : Type 0} → Verdict (Unit {0}) → A → A → A
+ifTaken (order.no f) a none = none
+ifTaken (order.yes t) a none = a
 
-abbrev pub clipAt1 : Bool → List ℕ → Clipping
-clipAt1 false s = clipRefused Malformed
-clipAt1 true s = clipAt6 (finiteUp s width) s
+-- the numbers and the mask that are given: all zero where the record is refused
+abbrev pub numbersOf : ℕ → List ℕ → List Float
+numbersOf n s = ifTaken (clipOf n s) (clippedUp s n) (replicate n limits.zero)
 
-unfoldable pub clipOf : List ℕ → Clipping
-clipOf s = clipAt1 (rightLength s) s
+abbrev pub maskOf : ℕ → List ℕ → ℕ
+maskOf n s = ifTaken (clipOf n s) (maskUp s n) 0
+
+-- what the answer tells
+abbrev pub toldAnswer : Answer → order.Answer (Unit {0})
+toldAnswer answer.Taken = order.given tt
+toldAnswer (answer.Refused f) = order.refused (told f)
+
+-- clipping s, a record of n words, gives r
+pub record Clips (n : ℕ) (s : List ℕ) (r : Clipping) : Type 0 where
+  pub answer : toldAnswer (r .answer) ≡ tells (clipOf n s)
+  pub numbers : r .numbers ≡ numbersOf n s
+  pub mask : r .mask ≡ maskOf n s

@@ -1,21 +1,21 @@
 -- What loading says of a record: 1, 6, 7, 8, 9, 10, or the worked card.
-use mathlib.Core.Bool.{Bool, true, false, _&&_, _||_}
+use mathlib.Core.Bool.{Bool, false, not, _&&_, _||_}
 use mathlib.Core.List.{List}
-use Prim.Native.Nat.{ℕ, _≤_}
-use lib.Dec.{T}
+use Prim.Native.Nat.{ℕ}
 use lib.ListN.{getD}
-use lib.Ieee.{Float, nan, binary64, ofBits, eq, le, mul}
-use lib.Ieee.Scale.{finite}
-use Rattle.refusal.specs.declared.Refusal.the-variants.{Malformed, NotFinite, WrongLevel, BadExsub, BadOctave, OutOfReach}
-use Rattle.float.specs.Split.{splitOf, IsSplit}
+use lib.Ieee.{Float, nan, binary64, ofBits, eq, mul}
+use Rattle.refusal.specs.declared.Refusal.the-variants.{WrongLevel, BadExsub, BadOctave, OutOfReach}
+use Rattle.refusal.specs.Told.{told}
+use Rattle.refusal.specs.Order.{Verdict, yes, refuseIf, andThen, Answer, refused, given}
+use Rattle.float.specs.Split.{splitOf, noSplit}
 use Rattle.card.specs.declared.working.Parameters.{Parameters}
 use Rattle.card.specs.declared.working.Worked.{Worked}
 use Rattle.card.specs.declared.WorkedCard.{WorkedCard}
 use Rattle.card.specs.declared.Judged.{Judged}
 use Rattle.card.specs.declared.Judged.the-variants.{Card, Refused}
-use Rattle.card.specs.Record.{width, rightLength, finiteUp}
-use Rattle.card.specs.Limits.{zero, one, tenth}
-use Rattle.card.specs.Clip.{clippedUp}
+use Rattle.card.specs.Numbers as number
+use Rattle.card.specs.Limits.{zero, one, width}
+use Rattle.card.specs.Clip.{clippedUp, clipOf}
 use Rattle.card.specs.Work.{workedOf, allFinite}
 use Rattle.card.specs.Octave.{wholePart, octaveGood, secondGood}
 
@@ -23,42 +23,43 @@ use Rattle.card.specs.Octave.{wholePart, octaveGood, secondGood}
 abbrev pub at : List Float → ℕ → Float
 at x i = getD x i nan
 
--- the ten that are worked, by their numbers
+-- the ten that are worked
 abbrev pub parametersOf : List Float → Parameters
 parametersOf x = record {
-  mult = at x 0;
-  is = at x 1;
-  ik = at x 2;
-  bf = at x 3;
-  xibi = at x 4;
-  ibf = at x 5;
-  bri = at x 7;
-  iss = at x 8;
-  icss = at x 9;
-  iks = at x 10;
+  mult = at x number.mult;
+  is = at x number.is;
+  ik = at x number.ik;
+  bf = at x number.bf;
+  xibi = at x number.xibi;
+  ibf = at x number.ibf;
+  bri = at x number.bri;
+  iss = at x number.iss;
+  icss = at x number.icss;
+  iks = at x number.iks;
 }
 
 abbrev pub mlf : List Float → Float
-mlf x = at x 6
+mlf x = at x number.mlf
 
 abbrev pub rcbli : List Float → Float
-rcbli x = at x 12
+rcbli x = at x number.rcbli
 
 abbrev pub exsub : List Float → Float
-exsub x = at x 13
+exsub x = at x number.exsub
 
 abbrev pub octave : List Float → Float
-octave x = at x 14
+octave x = at x number.octave
 
 abbrev pub level : List Float → Float
-level x = at x 15
+level x = at x number.level
 
 -- the product whose whole part is the second octave
 abbrev pub product : List Float → Float
 product x = mul binary64 (mlf x) (octave x)
 
+-- a card of nine worked values, each cut to a * 2^b, two octaves and two switches
 abbrev pub cardFrom : Worked → ℕ → ℕ → Bool → Bool → WorkedCard
-cardFrom w o n e d = record {
+cardFrom w o n e z = record {
   sn = splitOf (w .sn);
   bulk = splitOf (w .bulk);
   side = splitOf (w .side);
@@ -71,69 +72,60 @@ cardFrom w o n e d = record {
   octave = o;
   second = n;
   exsub = e;
-  direct = d;
+  «rcbli_zero» = z;
 }
 
 -- the worked card of clipped numbers
 abbrev pub cardOf : List Float → WorkedCard
 cardOf x =
-    cardFrom (workedOf (parametersOf x)) (wholePart (octave x)) (wholePart (product x)) (eq (exsub x) one) (eq (rcbli x) zero)
+    cardFrom (workedOf (parametersOf x)) (wholePart (octave x)) (wholePart (product x)) (eq (exsub x) one)
+    (eq (rcbli x) zero)
+
+-- what stands where there is no card
+abbrev pub noWorked : WorkedCard
+noWorked = record {
+  sn = noSplit;
+  bulk = noSplit;
+  side = noSplit;
+  nonideal = noSplit;
+  ex = noSplit;
+  sub = noSplit;
+  sf = noSplit;
+  rex = noSplit;
+  rsub = noSplit;
+  octave = 0;
+  second = 0;
+  exsub = false;
+  «rcbli_zero» = false;
+}
 
 -- 504
 abbrev pub level504 : Float
 level504 = ofBits binary64 0x407f_8000_0000_0000
 
--- 10: each worked value and the product is finite, and the second octave is not above its limit
+-- 0 or 1
+abbrev pub isSwitch : Float → Bool
+isSwitch x = eq x zero || eq x one
+
+-- each worked value and the product is finite, and the second octave is not above its limit
 abbrev pub withinReach : List Float → Bool
 withinReach x = secondGood (product x) && allFinite (workedOf (parametersOf x))
 
-abbrev pub judgeAt10 : Bool → List Float → Judged
-judgeAt10 false x = Refused OutOfReach
-judgeAt10 true x = Card (cardOf x)
+-- of clipped numbers: 10, or else their worked card
+abbrev pub reachOf : List Float → Verdict WorkedCard
+reachOf x = refuseIf (not (withinReach x)) OutOfReach (yes (cardOf x))
 
-abbrev pub judgeAt9 : Bool → List Float → Judged
-judgeAt9 false x = Refused BadOctave
-judgeAt9 true x = judgeAt10 (withinReach x) x
+-- 7, 8, 9, and then that
+abbrev pub judgeNumbers : List Float → Verdict WorkedCard
+judgeNumbers x =
+    refuseIf (not (eq (level x) level504)) WrongLevel
+    (refuseIf (not (isSwitch (exsub x))) BadExsub (refuseIf (not (octaveGood (octave x))) BadOctave (reachOf x)))
 
-abbrev pub judgeAt8 : Bool → List Float → Judged
-judgeAt8 false x = Refused BadExsub
-judgeAt8 true x = judgeAt9 (octaveGood (octave x)) x
+-- of a record: clipping's 1 and 6 first
+unfoldable pub judgeOf : List ℕ → Verdict WorkedCard
+judgeOf s = andThen (clipOf width s) (λ t. judgeNumbers (clippedUp s width))
 
-abbrev pub judgeAt7 : Bool → List Float → Judged
-judgeAt7 false x = Refused WrongLevel
-judgeAt7 true x = judgeAt8 (eq (exsub x) zero || eq (exsub x) one) x
-
-abbrev pub judgeFrom7 : List Float → Judged
-judgeFrom7 x = judgeAt7 (eq (level x) level504) x
-
-abbrev pub judgeAt6 : Bool → List ℕ → Judged
-judgeAt6 false s = Refused NotFinite
-judgeAt6 true s = judgeFrom7 (clippedUp s width)
-
-abbrev pub judgeAt1 : Bool → List ℕ → Judged
-judgeAt1 false s = Refused Malformed
-judgeAt1 true s = judgeAt6 (finiteUp s width) s
-
-unfoldable pub judgeOf : List ℕ → Judged
-judgeOf s = judgeAt1 (rightLength s) s
-
--- what clipping makes sure of m_Lf
-pub record GoodMlf (x : List Float) : Type 0 where
-  pub number : T (finite (mlf x))
-  pub least : T (le tenth (mlf x))
-
--- what callers may count on of a worked card (`judged-is-worked` in proofs/Sure)
-pub record IsWorked (c : WorkedCard) : Type 0 where
-  pub sn : IsSplit (c .sn)
-  pub bulk : IsSplit (c .bulk)
-  pub side : IsSplit (c .side)
-  pub nonideal : IsSplit (c .nonideal)
-  pub ex : IsSplit (c .ex)
-  pub sub : IsSplit (c .sub)
-  pub sf : IsSplit (c .sf)
-  pub rex : IsSplit (c .rex)
-  pub rsub : IsSplit (c .rsub)
-  pub octave-least : 10000000 ≤ c .octave
-  pub octave-most : c .octave ≤ 50000000
-  pub second-least : 1000000 ≤ c .second
-  pub second-most : c .second ≤ 1000000000
+-- what the answer tells
+abbrev pub toldJudged : Judged → Answer WorkedCard
+toldJudged (Card c) = given c
+toldJudged (Refused f) = refused (told f)

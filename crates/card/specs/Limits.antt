@@ -1,8 +1,8 @@
--- The clip rules of the sixteen numbers, and what a rule does to a number. A limit is the nearest f64, by its bits.
+-- The clip rules of a record's numbers, and what a rule does to a number. A limit is the nearest f64, by its bits.
 use mathlib.Core.Bool.{cond}
 use mathlib.Core.List.{List, [], _∷_}
 use Prim.Native.Nat.{ℕ}
-use lib.ListN.{getD}
+use lib.ListN.{length, getD}
 use lib.Ieee.{Float, binary64, ofBits, lt, eq}
 use Rattle.card.specs.declared.limits.Rule.{Rule}
 use Rattle.card.specs.declared.limits.Rule.the-variants.{Free, AtLeast, Between}
@@ -29,7 +29,7 @@ tenth-milli = ofBits binary64 0x3f1a_36e2_eb1c_432d
 abbrev pub tenth : Float
 tenth = ofBits binary64 0x3fb9_9999_9999_999a
 
--- the table of ranges, in the order of the parameters' numbers; beta_ri, number 7, by document 003's own table
+-- the table of ranges, in the order of the parameters' numbers; beta_ri, by document 003's own table, at least 1e-10
 abbrev pub rules : List Rule
 rules =
     AtLeast zero
@@ -49,6 +49,10 @@ rules =
     ∷ Free
     ∷ Free
     ∷ []
+
+-- the words of a record are as many
+abbrev pub width : ℕ
+width = length rules
 
 abbrev pub ruleOf : ℕ → Rule
 ruleOf i = getD rules i Free

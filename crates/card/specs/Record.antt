@@ -1,4 +1,4 @@
--- A record's bytes: sixteen words, each the bits of an f64.
+-- A record's bytes: words, each the bits of an f64. What is said of the words is said of the first n, for any n.
 use mathlib.Core.Bool.{Bool, true, _&&_}
 use mathlib.Core.List.{List}
 use Prim.Native.Nat.{ℕ, zero, suc, _*_}
@@ -7,13 +7,15 @@ use lib.ListN.{length}
 use lib.Ieee.{Float, binary64, ofBits}
 use lib.Ieee.Scale.{finite}
 use Rattle.bytes_le.specs.Le.{leAt}
+use Rattle.card.specs.Limits.{width}
 
--- the words of a record
-abbrev pub width : ℕ
-width = 16
+-- whether the bytes are those of n words
+abbrev pub hasWords : ℕ → List ℕ → Bool
+hasWords n s = eqb (length s) (8 * n)
 
+-- whether they are those of a record
 abbrev pub rightLength : List ℕ → Bool
-rightLength s = eqb (length s) (8 * width)
+rightLength s = hasWords width s
 
 -- number i, as its word has it
 abbrev pub numberAt : List ℕ → ℕ → Float

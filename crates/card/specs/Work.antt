@@ -1,5 +1,7 @@
 -- 'Working a card': nine values in f64, one rounding per operation, in the order written.
-use mathlib.Core.Bool.{Bool, cond, _&&_}
+use mathlib.Core.Bool.{Bool, true, cond, _&&_}
+use mathlib.Core.List.{List, [], _∷_}
+use Prim.Native.Nat.{ℕ}
 use lib.Ieee.{Float, binary64, ofBits, lt, mul, div, sub}
 use lib.Ieee.Scale.{finite}
 use Rattle.card.specs.declared.working.Parameters.{Parameters}
@@ -28,21 +30,20 @@ workedOf p =
       rsub = div binary64 (mul binary64 four (p .is)) (p .iks);
     }
 
+-- how many values are worked
+abbrev pub valueCount : ℕ
+valueCount = 9
+
+-- the nine in a row
+abbrev pub valuesOf : Worked → List Float
+valuesOf w =
+    w .sn ∷ w .bulk ∷ w .side ∷ w .nonideal ∷ w .ex ∷ w .sub ∷ w .sf ∷ w .rex ∷ w .rsub ∷ []
+
+-- whether a test passes each number
+abbrev pub all : (Float → Bool) → List Float → Bool
+all p [] = true
+all p (x ∷ l) = p x && all p l
+
 -- each of the nine is finite
 abbrev pub allFinite : Worked → Bool
-allFinite w =
-    (((finite (w .sn) && finite (w .bulk)) && (finite (w .side) && finite (w .nonideal)))
-    && ((finite (w .ex) && finite (w .sub)) && (finite (w .rex) && finite (w .rsub))))
-    && finite (w .sf)
-
--- a thing that holds of each of the nine
-pub record Nine (P : Float → Type 0) (w : Worked) : Type 0 where
-  pub sn : P (w .sn)
-  pub bulk : P (w .bulk)
-  pub side : P (w .side)
-  pub nonideal : P (w .nonideal)
-  pub ex : P (w .ex)
-  pub sub : P (w .sub)
-  pub sf : P (w .sf)
-  pub rex : P (w .rex)
-  pub rsub : P (w .rsub)
+allFinite w = all finite (valuesOf w)

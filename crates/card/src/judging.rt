@@ -1,12 +1,16 @@
 // Loading's tests on the clipped numbers, in their order, and the worked card.
 ghost use mathlib.Core.Path.{_≡_};
-ghost use mathlib.Core.Bool.{_||_};
-ghost use lib.Ieee.{eq};
-ghost use Rattle.card.specs.Limits.{zero, one};
-ghost use Rattle.card.specs.Judge.{parametersOf, cardFrom, judgeFrom7, GoodMlf};
+ghost use Rattle.refusal.specs.Order.{tells};
+ghost use mathlib.Core.Bool.{true};
+ghost use Rattle.card.specs.Octave.{octaveGood};
+ghost use Rattle.card.specs.Judge.{parametersOf, octave, cardFrom, isSwitch, reachOf, judgeNumbers, toldJudged};
+ghost use Rattle.card.specs.inner.Tests.{unlessPassed, firstWrong};
+ghost use Rattle.card.specs.inner.Worked.{GoodMlf};
+use crate::Answer;
 use crate::Judged;
 use crate::WIDTH;
 use crate::WorkedCard;
+use crate::numbers;
 use crate::octaves;
 use crate::octaves::Octave;
 use crate::working;
@@ -16,7 +20,7 @@ use refusal::Refusal;
 
 // Whether a number is 0 or 1.
 fn is_switch(x: f64) -> bool
-    ensures { λ r. ⌜ r ≡ (eq x zero || eq x one) ⌝ }
+    ensures { λ r. ⌜ r ≡ isSwitch x ⌝ }
 {
     if x == 0.0 { true } else { x == 1.0 }
 }
@@ -25,21 +29,21 @@ fn parameters(x: &[f64; WIDTH]) -> Parameters
     ensures { λ r. ⌜ r ≡ parametersOf (now (x .entry)) ⌝ }
 {
     Parameters {
-        mult: x[0],
-        is: x[1],
-        ik: x[2],
-        bf: x[3],
-        xibi: x[4],
-        ibf: x[5],
-        bri: x[7],
-        iss: x[8],
-        icss: x[9],
-        iks: x[10],
+        mult: x[numbers::MULT],
+        is: x[numbers::IS],
+        ik: x[numbers::IK],
+        bf: x[numbers::BF],
+        xibi: x[numbers::XIBI],
+        ibf: x[numbers::IBF],
+        bri: x[numbers::BRI],
+        iss: x[numbers::ISS],
+        icss: x[numbers::ICSS],
+        iks: x[numbers::IKS],
     }
 }
 
-fn card(w: Worked, octave: u32, second: u32, exsub: bool, direct: bool) -> WorkedCard
-    ensures { λ r. ⌜ r ≡ cardFrom w octave second exsub direct ⌝ }
+fn card(w: Worked, octave: u32, second: u32, exsub: bool, joined: bool) -> WorkedCard
+    ensures { λ r. ⌜ r ≡ cardFrom w octave second exsub joined ⌝ }
 {
     WorkedCard {
         sn: float::cut(w.sn),
@@ -54,30 +58,62 @@ fn card(w: Worked, octave: u32, second: u32, exsub: bool, direct: bool) -> Worke
         octave,
         second,
         exsub,
-        direct,
+        rcbli_zero: joined,
     }
 }
 
-pub(crate) fn judge_numbers(x: &[f64; WIDTH]) -> Judged
-    requires { ⌜ GoodMlf (now x) ⌝ }
-    ensures { λ r. ⌜ r ≡ judgeFrom7 (now (x .entry)) ⌝ }
+// The refusal that a test draws where it fails; where it passes, what the tests after it say.
+fn unless(passed: bool, f: Refusal, next: Answer) -> Answer
+    ensures { λ r. ⌜ r ≡ unlessPassed passed f next ⌝ }
 {
-    if x[15] != 504.0 {
-        return Judged::Refused(Refusal::WrongLevel);
-    }
-    if !is_switch(x[13]) {
-        return Judged::Refused(Refusal::BadExsub);
-    }
-    let Octave::Nanovolts(octave) = octaves::octave_of(x[14]) else {
-        return Judged::Refused(Refusal::BadOctave);
-    };
-    let Octave::Nanovolts(second) = octaves::second_of(x[6] * x[14]) else {
+    if passed { next } else { Answer::Refused(f) }
+}
+
+// 7, 8, then 9.
+fn first_wrong(x: &[f64; WIDTH]) -> Answer
+    ensures { λ r. ⌜ r ≡ firstWrong (now (x .entry)) ⌝ }
+{
+    let level = x[numbers::LEVEL] == 504.0;
+    let exsub = is_switch(x[numbers::EXSUB]);
+    let octave = octaves::is_octave(x[numbers::OCTAVE]);
+    let bad_exsub = Refusal::BadExsub;
+    let bad_octave = Refusal::BadOctave;
+    let after = unless(exsub, bad_exsub, unless(octave, bad_octave, Answer::Taken));
+    unless(level, Refusal::WrongLevel, after)
+}
+
+// 10, or the worked card.
+fn reach(x: &[f64; WIDTH]) -> Judged
+    requires { ⌜ GoodMlf (now x) ⌝ }
+    requires { ⌜ octaveGood (octave (now x)) ≡ true ⌝ }
+    ensures { λ r. ⌜ toldJudged r ≡ tells (reachOf (now (x .entry))) ⌝ }
+{
+    let Octave::Nanovolts(second) = octaves::second_of(x[numbers::MLF] * x[numbers::OCTAVE]) else {
         return Judged::Refused(Refusal::OutOfReach);
     };
     let w = working::work(parameters(x));
-    if working::all_finite(w) {
-        Judged::Card(card(w, octave, second, x[13] == 1.0, x[12] == 0.0))
+    if working::all_finite(working::values(w)) {
+        let octave = octaves::nanovolts(x[numbers::OCTAVE]);
+        Judged::Card(card(
+            w,
+            octave,
+            second,
+            x[numbers::EXSUB] == 1.0,
+            x[numbers::RCBLI] == 0.0,
+        ))
     } else {
         Judged::Refused(Refusal::OutOfReach)
+    }
+}
+
+// 7 to 10, or the worked card.
+pub(crate) fn judge_numbers(x: &[f64; WIDTH]) -> Judged
+    requires { ⌜ GoodMlf (now x) ⌝ }
+    ensures { λ r. ⌜ toldJudged r ≡ tells (judgeNumbers (now (x .entry))) ⌝ }
+{
+    let wrong = first_wrong(x);
+    match wrong {
+        Answer::Taken => reach(x),
+        Answer::Refused(f) => Judged::Refused(f),
     }
 }

@@ -1,9 +1,12 @@
-// A card: its record's sixteen numbers clipped, with the mask of those that changed; and judged for loading, worked to what the branches need.
+// A card: its record's numbers clipped, with the mask of those that changed; and judged for loading, worked to what the branches need.
 ghost use mathlib.Core.Path.{_≡_};
+ghost use Rattle.refusal.specs.Order.{tells};
+ghost use Rattle.card.specs.Limits.{width};
 ghost use Rattle.card.specs.Record.{rightLength};
-ghost use Rattle.card.specs.Clip.{clipOf};
-ghost use Rattle.card.specs.Judge.{judgeOf};
+ghost use Rattle.card.specs.Clip.{Clips};
+ghost use Rattle.card.specs.Judge.{judgeOf, toldJudged, noWorked};
 
+mod numbers; // numbers.rt: the parameters' numbers
 mod limits; // limits.rt: the clip rules
 mod words; // words.rt: the words of a record, one after the other
 mod working; // working.rt: the nine worked values
@@ -44,12 +47,34 @@ pub struct WorkedCard {
     // EXSUB is 1
     pub exsub: bool,
     // R_Cbli is 0: C4 and C1 are one node
-    pub direct: bool,
+    pub rcbli_zero: bool,
 }
 
 pub enum Judged {
     Card(WorkedCard),
     Refused(Refusal),
+}
+
+// What stands where there is no card.
+pub fn no_card() -> WorkedCard
+    ensures { λ r. ⌜ r ≡ noWorked ⌝ }
+{
+    let none = float::no_split();
+    WorkedCard {
+        sn: none,
+        bulk: none,
+        side: none,
+        nonideal: none,
+        ex: none,
+        sub: none,
+        sf: none,
+        rex: none,
+        rsub: none,
+        octave: 0,
+        second: 0,
+        exsub: false,
+        rcbli_zero: false,
+    }
 }
 
 // Whether the bytes are as many as a record has.
@@ -61,7 +86,7 @@ pub fn right_length(bytes: &[u8]) -> bool
 
 // Clipping alone: 1, then 6.
 pub fn clip(bytes: &[u8]) -> Clipping
-    ensures { λ r. ⌜ r ≡ clipOf (now (bytes .entry)) ⌝ }
+    ensures { λ r. ⌜ Clips width (now (bytes .entry)) r ⌝ }
 {
     if right_length(bytes) {
         words::clip_all(bytes)
@@ -72,7 +97,7 @@ pub fn clip(bytes: &[u8]) -> Clipping
 
 // What loading says of a record, its name and its place apart: 1, then 6 to 10.
 pub fn judge(bytes: &[u8]) -> Judged
-    ensures { λ r. ⌜ r ≡ judgeOf (now (bytes .entry)) ⌝ }
+    ensures { λ r. ⌜ toldJudged r ≡ tells (judgeOf (now (bytes .entry))) ⌝ }
 {
     let clipping = clip(bytes);
     let answer = clipping.answer;

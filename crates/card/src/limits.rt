@@ -1,6 +1,7 @@
 // The clip rules: which a parameter has, and what it does to a number.
 ghost use mathlib.Core.Path.{_≡_};
 ghost use Rattle.card.specs.Limits.{ruleOf, plainOf, clipTo};
+use crate::numbers;
 
 pub enum Rule {
     Free,
@@ -8,17 +9,20 @@ pub enum Rule {
     Between(f64, f64),
 }
 
-// The rule of parameter number i. beta_ri, number 7, has the device model's own limit.
+// The rule of parameter number i. beta_ri has the device model's own limit.
 pub(crate) fn rule_of(i: usize) -> Rule
     ensures { λ r. ⌜ r ≡ ruleOf i ⌝ }
 {
     match i {
-        0..=1 | 5 | 8 | 11..=12 => Rule::AtLeast(0.0),
-        2 | 10 => Rule::AtLeast(1e-12),
-        3 => Rule::AtLeast(1e-4),
-        4 | 13 => Rule::Between(0.0, 1.0),
-        6 => Rule::AtLeast(0.1),
-        7 => Rule::AtLeast(1e-10),
+        numbers::MULT..=numbers::IS
+        | numbers::IBF
+        | numbers::ISS
+        | numbers::RCBLX..=numbers::RCBLI => Rule::AtLeast(0.0),
+        numbers::IK | numbers::IKS => Rule::AtLeast(1e-12),
+        numbers::BF => Rule::AtLeast(1e-4),
+        numbers::XIBI | numbers::EXSUB => Rule::Between(0.0, 1.0),
+        numbers::MLF => Rule::AtLeast(0.1),
+        numbers::BRI => Rule::AtLeast(1e-10),
         _ => Rule::Free,
     }
 }

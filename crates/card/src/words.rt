@@ -1,8 +1,11 @@
 // The numbers of a record read, judged finite and clipped, one after the other.
 ghost use mathlib.Core.Path.{_≡_};
 ghost use mathlib.Core.Bool.{cond};
-ghost use Rattle.card.specs.Record.{finiteUp, width};
-ghost use Rattle.card.specs.Clip.{clipAt6, clipRefused};
+ghost use mathlib.Core.Bool.{true};
+ghost use Rattle.card.specs.Limits.{width};
+ghost use Rattle.card.specs.Record.{rightLength};
+ghost use Rattle.card.specs.Clip.{Clips};
+ghost use Rattle.card.specs.inner.Refused.{refusedWith};
 use crate::Answer;
 use crate::Clipping;
 use crate::WIDTH;
@@ -11,7 +14,7 @@ use float::Number;
 use refusal::Refusal;
 
 pub(crate) fn refused(f: Refusal) -> Clipping
-    ensures { λ r. ⌜ r ≡ clipRefused f ⌝ }
+    ensures { λ r. ⌜ r ≡ refusedWith width f ⌝ }
 {
     Clipping {
         answer: Answer::Refused(f),
@@ -27,9 +30,10 @@ fn weight(set: bool, bit: u32) -> u32
     if set { bit } else { 0 }
 }
 
-// Clipping of as many words as a record has; past the end of the bytes they are 0.
+// Clipping of bytes that are as many as a record has.
 pub(crate) fn clip_all(bytes: &[u8]) -> Clipping
-    ensures { λ r. ⌜ r ≡ clipAt6 (finiteUp (now (bytes .entry)) width) (now (bytes .entry)) ⌝ }
+    requires { ⌜ rightLength (now bytes) ≡ true ⌝ }
+    ensures { λ r. ⌜ Clips width (now (bytes .entry)) r ⌝ }
 {
     let mut numbers = [0.0; WIDTH];
     let mut mask: u32 = 0;

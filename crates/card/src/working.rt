@@ -1,7 +1,10 @@
 // The nine worked values of a card, in f64 with one rounding per operation.
 ghost use mathlib.Core.Path.{_≡_};
-ghost use mathlib.Core.Bool.{_&&_};
-ghost use Rattle.card.specs.Work.{workedOf, sfOf, allFinite};
+ghost use lib.Ieee.Scale.{finite};
+ghost use Rattle.card.specs.Work.{workedOf, sfOf, valuesOf, all};
+
+// How many values are worked.
+pub(crate) const VALUES: usize = 9;
 
 // Clipped parameters, under the names that document 003 gives them.
 pub struct Parameters {
@@ -55,18 +58,33 @@ pub(crate) fn work(p: Parameters) -> Worked
     }
 }
 
-fn both(a: bool, b: bool) -> bool
-    ensures { λ r. ⌜ r ≡ a && b ⌝ }
+// The values in a row.
+pub(crate) fn values(w: Worked) -> [f64; VALUES]
+    ensures { λ r. ⌜ r ≡ valuesOf w ⌝ }
 {
-    if a { b } else { false }
+    [
+        w.sn,
+        w.bulk,
+        w.side,
+        w.nonideal,
+        w.ex,
+        w.sub,
+        w.sf,
+        w.rex,
+        w.rsub,
+    ]
 }
 
-pub(crate) fn all_finite(w: Worked) -> bool
-    ensures { λ r. ⌜ r ≡ allFinite w ⌝ }
+pub(crate) fn all_finite(x: [f64; VALUES]) -> bool
+    ensures { λ r. ⌜ r ≡ all finite x ⌝ }
 {
-    let a = both(float::is_finite(w.sn), float::is_finite(w.bulk));
-    let b = both(float::is_finite(w.side), float::is_finite(w.nonideal));
-    let c = both(float::is_finite(w.ex), float::is_finite(w.sub));
-    let d = both(float::is_finite(w.rex), float::is_finite(w.rsub));
-    both(both(both(a, b), both(c, d)), float::is_finite(w.sf))
+    let mut i: usize = 0;
+    while i < VALUES {
+        if float::is_finite(x[i]) {
+            i = i + 1;
+        } else {
+            return false;
+        }
+    }
+    true
 }

@@ -2,7 +2,8 @@
 use mathlib.Core.Path.{_≡_, refl, sym, ap, subst, _∙_}
 use mathlib.Core.Bool.{false}
 use Prim.Native.Nat.{ℕ, zero, suc, _+_, _-_, _*_, _/_, _^_, _≤_, _<_}
-use native.Mathlib.Nat.{le-antisymm, lt-of-le-of-lt, lt-of-lt-of-le, lt-of-not-le, lt-irrefl, mul-one, mul-le-mul-right, mul-lt-mul-of-pos-right, le-trans, le-of-eq}
+use native.Mathlib.Nat.{le-antisymm, lt-of-le-of-lt, lt-of-lt-of-le, lt-of-not-le, lt-irrefl, mul-one, mul-le-mul-right}
+use native.Mathlib.Nat.{mul-lt-mul-of-pos-right, le-trans, le-of-eq}
 use native.Mathlib.Omega.{arith}
 use lib.Count.{trailingZeros}
 use lib.Pow.{pow-add, pow-mono, pow-pos}
@@ -28,7 +29,11 @@ leading n h = go (size n) refl
     go zero e = let l : n < 2 ^ 0 = subst (λ (x : ℕ). n < 2 ^ x) e (size-lt n) in absurd (omega arith)
     go (suc j) e = (
       j,
-      record { digits = e; reached = size-reaches n j (omega arith); under = subst (λ (x : ℕ). n < 2 ^ x) e (size-lt n) },
+      record {
+        digits = e;
+        reached = size-reaches n j (omega arith);
+        under = subst (λ (x : ℕ). n < 2 ^ x) e (size-lt n);
+      },
     )
 
 pub size-shifted : (m t : ℕ) → 0 < m → size (m * 2 ^ t) ≡ size m + t
@@ -37,7 +42,8 @@ size-shifted m t h =
     let j = d .0 in
     let lo = le-trans (le-of-eq (pow-add 2 j t)) (mul-le-mul-right (2 ^ t) (d .1 .reached)) in
     let up : suc j + t ≡ suc (j + t) = omega arith in
-    let hi = lt-of-lt-of-le (mul-lt-mul-of-pos-right (d .1 .under) (pow-pos t)) (le-of-eq (sym (pow-add 2 (suc j) t) ∙ ap (λ (x : ℕ). 2 ^ x) up)) in
+    let hi = lt-of-lt-of-le (mul-lt-mul-of-pos-right (d .1 .under) (pow-pos t))
+    (le-of-eq (sym (pow-add 2 (suc j) t) ∙ ap (λ (x : ℕ). 2 ^ x) up)) in
     size-is (j + t) (m * 2 ^ t) lo hi ∙ omega (arith, d .1 .digits)
 
 pub some-digit : (n : ℕ) → 0 < n → 1 ≤ size n
@@ -50,7 +56,8 @@ zeros-back d q =
     let t = trailingZeros d (suc q) in
     let m = suc q / 2 ^ t in
     let h : m * 2 ^ (0 + t - 0) * 1 ≡ suc q * 1 * 1 = rw (leb·zero (0 + t)) at (odd-val d false (suc q) 0 0) in
-    ap (λ (x : ℕ). m * 2 ^ x) (plain t) ∙ sym (mul-one (m * 2 ^ (0 + t - 0))) ∙ h ∙ mul-one (suc q * 1) ∙ mul-one (suc q)
+    ap (λ (x : ℕ). m * 2 ^ x) (plain t) ∙ sym (mul-one (m * 2 ^ (0 + t - 0))) ∙ h ∙ mul-one (suc q * 1)
+    ∙ mul-one (suc q)
   where
     plain : (t : ℕ) → t ≡ 0 + t - 0
     plain t = omega arith

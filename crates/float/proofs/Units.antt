@@ -12,8 +12,8 @@ use lib.Ieee.{Float, nan, inf, fin, binary64, odd, minus, size, ofFields}
 use lib.Ieee.Digits.{size-le}
 use lib.Ieee.Scale.{finite}
 use Rattle.float.specs.declared.Split.{Split}
-use Rattle.float.specs.Split.{wholeF, powerK, splitA, splitB, splitOf, biased}
-use Rattle.float.proofs.Difference.{same-difference, sum-difference, minus-difference, biased-difference}
+use Rattle.float.specs.Split.{wholeF, powerK, splitA, splitB, splitOf, splitBias, keptPower}
+use Rattle.float.proofs.Difference.{same-difference, sum-difference, minus-difference, kept-difference}
 use Rattle.float.proofs.Digits.{size-is, size-shifted, zeros-back}
 
 some-a : (s : Bool) (m : ℕ) (e : ℤ) → 0 < m → splitA (fin s m e) ≡ wholeF m / 2 ^ 22
@@ -77,44 +77,50 @@ module _ (s : Bool) (q k : ℕ) (h : suc q < 2 ^ 53) where
 
 -- the split by its units, in the numbers that the code has
 abbrev pub unitsOf : ℕ → ℕ → Split
-unitsOf zero k = record { a = 0; up = 2048 }
-unitsOf (suc q) k = record { a = wholeF (suc q) / 2 ^ 22; up = k + size (suc q) + 943 }
+unitsOf zero k = record { a = 0; down = splitBias }
+unitsOf (suc q) k = record { a = wholeF (suc q) / 2 ^ 22; down = 9277 - (k + size (suc q)) }
 
-kept : (x : ℕ) → biased (subℕ x 1105) ≡ x + 943
-kept x = biased-difference x 1105 (omega arith) ∙ omega arith
+kept : (x : ℕ) → x ≤ 9277 → keptPower (subℕ x 1105) ≡ 9277 - x
+kept x h = kept-difference x 1105 (omega arith)
 
 odd-zero : (s : Bool) (k : ℕ) → odd 53 s 0 k 1074 ≡ fin s 0 (pos 0)
 unfolding odd
 odd-zero s k = refl
 
-pub odd-split : (s : Bool) (q k : ℕ) → q < 2 ^ 53 → splitOf (odd 53 s q k 1074) ≡ unitsOf q k
-odd-split s zero k h = ap splitOf (odd-zero s k)
-odd-split s (suc q) k h =
-    ap₂ (λ (x y : ℕ). record { a = x; up = y }) (odd-a s q k h) (ap biased (odd-b s q k h) ∙ kept (k + size (suc q)))
+pub odd-split : (s : Bool) (q k : ℕ) → q < 2 ^ 53 → k ≤ 2047 → splitOf (odd 53 s q k 1074) ≡ unitsOf q k
+odd-split s zero k h l = ap splitOf (odd-zero s k)
+odd-split s (suc q) k h l =
+    ap₂ (λ (x y : ℕ). record { a = x; down = y })
+    (odd-a s q k h)
+    (ap keptPower (odd-b s q k h) ∙ kept (k + size (suc q)) (omega (arith, size-le (suc q) 53 h)))
 
-pub odd-power : (s : Bool) (q k : ℕ) → q < 2 ^ 53 → subℕ (unitsOf q k .up) 2048 ≡ splitB (odd 53 s q k 1074)
-odd-power s zero k h = ap splitB (sym (odd-zero s k))
-odd-power s (suc q) k h =
-    same-difference (k + size (suc q) + 943) 2048 (k + size (suc q)) 1105 (omega arith) ∙ sym (odd-b s q k h)
+pub odd-power : (s : Bool) (q k : ℕ) → q < 2 ^ 53 → k ≤ 2047
+    → subℕ splitBias (unitsOf q k .down) ≡ splitB (odd 53 s q k 1074)
+odd-power s zero k h l = ap splitB (sym (odd-zero s k))
+odd-power s (suc q) k h l =
+    same-difference splitBias (9277 - (k + size (suc q))) (k + size (suc q)) 1105 (omega (arith, size-le (suc q) 53 h))
+    ∙ sym (odd-b s q k h)
 
 -- as many units, whatever their form
-pub plain-split : (n : ℕ) → splitOf (fin false n (negsuc 1073)) ≡ unitsOf n 0
-plain-split zero = refl
-plain-split (suc n) =
-    ap (λ (y : ℕ). record { a = wholeF (suc n) / 2 ^ 22; up = y })
-    (ap biased (power-at 0 (size (suc n))) ∙ biased-difference (0 + size (suc n) + 22) 1127 (omega arith) ∙ omega arith)
+pub plain-split : (n : ℕ) → n < 2 ^ 53 → splitOf (fin false n (negsuc 1073)) ≡ unitsOf n 0
+plain-split zero h = refl
+plain-split (suc n) h =
+    let l = size-le (suc n) 53 h in
+    ap (λ (y : ℕ). record { a = wholeF (suc n) / 2 ^ 22; down = y })
+    (ap keptPower (power-at 0 (size (suc n))) ∙ kept-difference (0 + size (suc n) + 22) 1127 (omega (arith, l)) ∙ omega arith)
 
 -- the leading digit is there: all 53 digits are
 led-size : (n : ℕ) → n < 2 ^ 52 → size (2 ^ 52 + n) ≡ 53
 led-size n h = size-is 52 (2 ^ 52 + n) (omega arith) (omega arith)
 
-pub led-units : (n j : ℕ) → n < 2 ^ 52 → unitsOf (2 ^ 52 + n) j ≡ record { a = (2 ^ 52 + n) / 2 ^ 22; up = suc j + 995 }
+pub led-units : (n j : ℕ) → n < 2 ^ 52
+    → unitsOf (2 ^ 52 + n) j ≡ record { a = (2 ^ 52 + n) / 2 ^ 22; down = 9225 - suc j }
 led-units n j h = go (2 ^ 52 + n) (led-size n h) (omega arith)
   where
-    go : (q : ℕ) → size q ≡ 53 → 0 < q → unitsOf q j ≡ record { a = q / 2 ^ 22; up = suc j + 995 }
+    go : (q : ℕ) → size q ≡ 53 → 0 < q → unitsOf q j ≡ record { a = q / 2 ^ 22; down = 9225 - suc j }
     go zero e l = absurd (not-suc-le-zero l)
     go (suc q) e l =
-        ap₂ (λ (x y : ℕ). record { a = x / 2 ^ 22; up = y })
+        ap₂ (λ (x y : ℕ). record { a = x / 2 ^ 22; down = y })
         (ap (λ (z : ℕ). suc q * 2 ^ (53 - z)) e ∙ mul-one (suc q))
         (omega (arith, e))
 
@@ -124,7 +130,8 @@ number true true s v h = absurd h
 number true false s v h = absurd h
 number false c s v h = refl
 
-pub led-value : (s : Bool) (j n : ℕ) → T (finite (ofFields binary64 s (suc j) n)) → ofFields binary64 s (suc j) n ≡ odd 53 s (2 ^ 52 + n) j 1074
+pub led-value : (s : Bool) (j n : ℕ) → T (finite (ofFields binary64 s (suc j) n))
+    → ofFields binary64 s (suc j) n ≡ odd 53 s (2 ^ 52 + n) j 1074
 unfolding ofFields
 led-value s j n f = number (eqb (suc j) 2047) (eqb n 0) s (odd 53 s (2 ^ 52 + n) j 1074) f
 

@@ -25,17 +25,25 @@ splitB (inf s) = pos 0
 splitB (fin s zero e) = pos 0
 splitB (fin s (suc m) e) = powerK (suc m) e +ℤ pos 22
 
--- how the desk keeps b: as b + 2048, which is never negative (`power-kept` in proofs/Kept)
-abbrev pub biased : ℤ → ℕ
-biased (pos n) = n + 2048
-biased (negsuc n) = 2048 - suc n
+-- how the desk keeps b: taken from a bias, so that it is never negative (`power-kept` in proofs/Kept). The bias is 20 less than that of the exponential's
+-- n, so that what is kept, less n as it is kept, is by how many places ticks are shifted down
+abbrev pub splitBias : ℕ
+splitBias = 8172
+
+abbrev pub keptPower : ℤ → ℕ
+keptPower (pos n) = splitBias - n
+keptPower (negsuc n) = splitBias + suc n
 
 abbrev pub splitOf : Float → Split
-splitOf x = record { a = splitA x; up = biased (splitB x) }
+splitOf x = record { a = splitA x; down = keptPower (splitB x) }
+
+-- what stands where there is no value
+abbrev pub noSplit : Split
+noSplit = record { a = 0; down = 0 }
 
 -- what the split of a finite value is sure to be (`is-split` in proofs/Kept)
 pub record IsSplit (v : Split) : Type 0 where
   pub short : v .a < 2147483648
   pub full : 0 < v .a → 1073741824 ≤ v .a
-  pub low : 944 ≤ v .up
-  pub high : v .up ≤ 3041
+  pub low : 7179 ≤ v .down
+  pub high : v .down ≤ 9276

@@ -6,10 +6,10 @@ use lib.Ieee.Scale.{finite}
 use Rattle.float.specs.declared.Number.{Number}
 use Rattle.float.specs.declared.Number.the-variants.{Real, Nothing}
 
-abbrev pub numberIf : Bool → Float → Number
-numberIf true x = Real x
-numberIf false x = Nothing
+abbrev pub realIf : Bool → Float → Number
+realIf true x = Real x
+realIf false x = Nothing
 
 -- the number of a word's bits, where they are those of a finite one
-abbrev pub numberOf : ℕ → Number
-numberOf w = numberIf (finite (ofBits binary64 w)) (ofBits binary64 w)
+abbrev pub realOf : ℕ → Number
+realOf w = realIf (finite (ofBits binary64 w)) (ofBits binary64 w)

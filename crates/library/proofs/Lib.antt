@@ -1,11 +1,12 @@
-pub mod Finding
-pub mod Goods
-pub mod Buffers
-pub mod Demands
+-- Laws over plain values that the proofs of functions cite, and the theorems on reading, writing and finding.
+pub mod Verdicts
+pub mod Headers
 pub mod Names
+pub mod Doubles
+pub mod WordsRead
+pub mod BytesWritten
+pub mod Outcomes
 pub mod Offers
-pub mod Round
-pub mod Seen
-pub mod Shape
-pub mod Stores
-pub mod Ways
+pub mod Inverse
+pub mod SoundLibraries
+pub mod Finding

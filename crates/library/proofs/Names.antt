@@ -11,7 +11,7 @@ use lib.Dec.{lit<, ltb}
 use lib.ListN.{length, take, drop, length-drop}
 use Rattle.bytes_le.proofs.Laws.{rest}
 use Rattle.name.specs.Name.{same}
-use Rattle.library.specs.Directory.{pieces, cut, among, placeOf}
+use Rattle.library.specs.Directory.{nameBytes, pieces, cut, namesIn, among, placeOf}
 
 pub or-true : {a : Bool} → a ≡ true → (b : Bool) → a || b ≡ true
 or-true e b = ap (λ (t : Bool). t || b) e
@@ -27,43 +27,50 @@ cut-more w s p h =
     ap (λ (n : ℕ). pieces w n s) (div-eq-sub-div p h ∙ add-one _ ∙ ap (λ (m : ℕ). suc (m / w)) (sym (length-drop w s)))
 
 -- the part of a slice past its first name is shorter
-pub shorter : (t : List ℕ) → 16 ≤ length t → length (take (length t - 16) (drop 16 t)) < length t
-shorter t h = rw (rest t 16, length-drop 16 t) (omega arith)
+pub shorter : (t : List ℕ) → nameBytes ≤ length t → length (take (length t - nameBytes) (drop nameBytes t)) < length t
+shorter t h = rw (rest t nameBytes, length-drop nameBytes t) (omega arith)
 
 -- what f says of the directory d it says of what is left of it
 pub record Walk (f : List (List ℕ) → Bool) (d t : List ℕ) : Type 0 where
-  pub so-far : f (cut 16 d) ≡ f (cut 16 t)
+  pub so-far : f (namesIn d) ≡ f (namesIn t)
 
 module _ {f : List (List ℕ) → Bool} {d t : List ℕ} (v : Walk f d t) where
-  pub walk-end : length t < 16 → f (cut 16 d) ≡ f []
-  walk-end h = v .so-far ∙ ap f (cut-none 16 t h)
+  pub walk-end : length t < nameBytes → f (namesIn d) ≡ f []
+  walk-end h = v .so-far ∙ ap f (cut-none nameBytes t h)
 
-  pub walk-here : 16 ≤ length t → f (cut 16 d) ≡ f (take 16 t ∷ cut 16 (drop 16 t))
-  walk-here h = v .so-far ∙ ap f (cut-more 16 t (lit< tt) h)
+  pub walk-here : nameBytes ≤ length t → f (namesIn d) ≡ f (take nameBytes t ∷ namesIn (drop nameBytes t))
+  walk-here h = v .so-far ∙ ap f (cut-more nameBytes t (lit< tt) h)
 
   -- the first name left does not decide
-  pub walk-on : 16 ≤ length t → f (take 16 t ∷ cut 16 (drop 16 t)) ≡ f (cut 16 (drop 16 t)) → Walk f d (take (length t - 16) (drop 16 t))
+  pub walk-on : nameBytes ≤ length t
+      → f (take nameBytes t ∷ namesIn (drop nameBytes t)) ≡ f (namesIn (drop nameBytes t))
+      → Walk f d (take (length t - nameBytes) (drop nameBytes t))
   walk-on h e = rw rest (record { so-far = walk-here h ∙ e })
 
 -- ---- how far before a name
 
 -- i names are passed, and x is none of them
 pub record Placed (x d t : List ℕ) (i : ℕ) : Type 0 where
-  pub counted : 16 * i + length t ≤ length d
-  pub so-far : placeOf x (cut 16 d) ≡ i + placeOf x (cut 16 t)
+  pub counted : nameBytes * i + length t ≤ length d
+  pub so-far : placeOf x (namesIn d) ≡ i + placeOf x (namesIn t)
 
-pub place-end : {x d t : List ℕ} {i : ℕ} → Placed x d t i → length t < 16 → i ≡ placeOf x (cut 16 d)
-place-end {x} {d} {t} v h = let e : placeOf x (cut 16 t) ≡ 0 = ap (placeOf x) (cut-none 16 t h) in omega arith
+pub place-end : {x d t : List ℕ} {i : ℕ} → Placed x d t i → length t < nameBytes → i ≡ placeOf x (namesIn d)
+place-end {x} {d} {t} v h = let e : placeOf x (namesIn t) ≡ 0 = ap (placeOf x) (cut-none nameBytes t h) in omega arith
 
-module _ {x d t : List ℕ} {i : ℕ} (v : Placed x d t i) (h : 16 ≤ length t) where
-  place-step : {b : Bool} → same x (take 16 t) ≡ b → placeOf x (cut 16 t) ≡ cond b 0 (suc (placeOf x (cut 16 (drop 16 t))))
-  place-step e = ap (placeOf x) (cut-more 16 t (lit< tt) h) ∙ ap (λ (b : Bool). cond b 0 (suc (placeOf x (cut 16 (drop 16 t))))) e
+module _ {x d t : List ℕ} {i : ℕ} (v : Placed x d t i) (h : nameBytes ≤ length t) where
+  place-step : {b : Bool} → same x (take nameBytes t) ≡ b
+      → placeOf x (namesIn t) ≡ cond b 0 (suc (placeOf x (namesIn (drop nameBytes t))))
+  place-step e =
+      ap (placeOf x) (cut-more nameBytes t (lit< tt) h) ∙ ap
+      (λ (b : Bool). cond b 0 (suc (placeOf x (namesIn (drop nameBytes t))))) e
 
-  pub place-here : same x (take 16 t) ≡ true → i ≡ placeOf x (cut 16 d)
+  pub place-here : same x (take nameBytes t) ≡ true → i ≡ placeOf x (namesIn d)
   place-here e = let f = place-step e in omega arith
 
-  pub place-on : same x (take 16 t) ≡ false → Placed x d (take (length t - 16) (drop 16 t)) (i + 1)
-  place-on e = let f = place-step e in rw (rest t 16) (record { counted = rw (length-drop 16 t) (omega arith); so-far = omega arith })
+  pub place-on : same x (take nameBytes t) ≡ false → Placed x d (take (length t - nameBytes) (drop nameBytes t)) (i + 1)
+  place-on e =
+      let f = place-step e in
+      rw (rest t nameBytes) (record { counted = rw (length-drop nameBytes t) (omega arith); so-far = omega arith })
 
 one-more : (a b : ℕ) (t : Bool) → ltb a b ≡ t → t ≡ ltb (suc a) (suc b)
 one-more a b true e = sym (lt-ltb (suc a) (suc b) (suc-le-suc (ltb-true a b e)))

@@ -1,102 +1,113 @@
 -- What each operation answers, the refusals in their order, and what it leaves in a lent buffer.
 use mathlib.Core.Path.{_≡_}
-use mathlib.Core.Bool.{Bool, true, false, not, _&&_}
-use mathlib.Core.List.{List, [], _∷_, _++_}
-use Prim.Native.Nat.{ℕ, _+_, _*_, _/_}
-use lib.Dec.{leb}
+use mathlib.Core.Bool.{not, _||_}
+use mathlib.Core.List.{List, []}
+use Prim.Native.Nat.{ℕ, _+_, _*_}
+use lib.Dec.{ltb}
 use lib.ListN.{length, take, drop}
 use denote.Ref.{RefT, ptr, now}
+use Rattle.bytes_le.specs.Le.{wordBytes}
+use Rattle.bytes_le.specs.Buffer.{over}
 use Rattle.name.specs.Name.{asked, padded}
-use Rattle.refusal.specs.Told.{told}
-use Rattle.library.specs.declared.Look.{Look}
-use Rattle.library.specs.declared.Look.the-variants as look
+use Rattle.refusal.specs.declared.Refusal.the-variants.{Malformed, BadName, NameTwice, NameNotHeld, ShortOutput}
+use Rattle.refusal.specs.Order.{Verdict, no, yes, refuseIf, andThen, Answer, tells}
 use Rattle.library.specs.declared.Reading.{Reading}
 use Rattle.library.specs.declared.Reading.the-variants as reading
 use Rattle.library.specs.declared.Located.{Located}
 use Rattle.library.specs.declared.Located.the-variants as located
 use Rattle.library.specs.declared.Writing.{Writing}
 use Rattle.library.specs.declared.Writing.the-variants as writing
-use Rattle.library.specs.Directory.{cut, allNamed, among, twice, placeOf}
+use Rattle.library.specs.Directory.{nameBytes, namesIn, namesHeld, allNamed, among, twice, placeOf}
 use Rattle.library.specs.Format.{wordsOf, recordsAt, wholeOf, version, count, headed, directory, records, wordsIn, libraryOf, offered}
 
--- what a call gives back: a refusal's number with the values beside it, or what was asked for
-pub data Answer (A : Type 0) : Type 0 where
-  refused : List ℕ → Answer A
-  given : A → Answer A
+-- ---- 1, 2, 3
 
--- goes on where a demand is met; where not, its number is refused
-abbrev pub demand : {A : Type 0} → ℕ → Bool → Answer A → Answer A
-demand k true next = next
-demand k false next = refused (k ∷ [])
+-- 2 for a malformed name anywhere in a directory, then 3 for a name that stands twice; else a
+unfoldable pub namesJudged : {A : Type 0} → List ℕ → A → Verdict A
+namesJudged d a =
+    refuseIf (not (allNamed (namesIn d))) BadName
+    (refuseIf (twice (namesIn d)) NameTwice (yes a))
 
--- 2 for a malformed name anywhere in a directory, then 3 for a name that stands twice
-unfoldable pub named : {A : Type 0} → List ℕ → Answer A → Answer A
-named d next = demand 2 (allNamed (cut 16 d)) (demand 3 (not (twice (cut 16 d))) next)
+-- the count of a library's cards, and the words of a record
+abbrev pub numbersOf : List ℕ → ℕ × ℕ
+numbersOf s = (count s, wordsOf (version s))
 
--- 1, 2, 3 of a library
-unfoldable pub sound : {A : Type 0} → List ℕ → Answer A → Answer A
-sound s next = demand 1 (headed s) (named (directory s) next)
+-- 1 of a library, then 2 and 3 of its names; else its two numbers
+unfoldable pub libraryJudged : List ℕ → Verdict (ℕ × ℕ)
+libraryJudged s =
+    refuseIf (not (headed s)) Malformed
+    (namesJudged (directory s) (numbersOf s))
 
--- a good library: none of 1, 2, 3 is given
-abbrev pub Good : List ℕ → Type 0
-Good s = sound s (given (count s)) ≡ given (count s)
+-- a library to which none of 1, 2, 3 is given
+abbrev pub Sound : List ℕ → Type 0
+Sound s = libraryJudged s ≡ yes (numbersOf s)
 
--- new, and after it what old has there
-abbrev pub over : List ℕ → List ℕ → List ℕ
-over new old = new ++ drop (length new) old
+-- 1 of names and words that are to become a library of version v, then 2 and 3 of the names; else its two numbers
+unfoldable pub offerJudged : ℕ → List ℕ → List ℕ → Verdict (ℕ × ℕ)
+offerJudged v ns ws =
+    refuseIf (not (offered v ns ws)) Malformed
+    (namesJudged ns (namesHeld ns, wordsOf v))
 
--- what an answer leaves of a buffer: a refusal all of old, else new at its start
-abbrev pub left : {A : Type 0} → Answer A → List ℕ → List ℕ → List ℕ
-left (refused e) new old = old
-left (given a) new old = over new old
+-- ---- what is left of a lent buffer
 
--- what judging tells: the count of cards and the words of a record
-abbrev pub toldLook : Look → Answer (ℕ × ℕ)
-toldLook (look.Good n k) = given (n, k)
-toldLook (look.Bad f) = refused (told f)
+-- a refusal leaves all of old; else new stands at its start
+abbrev pub left : {A : Type 0} → Verdict A → List ℕ → List ℕ → List ℕ
+left (no f) new old = old
+left (yes a) new old = over new old
 
 -- ---- what reading answers
 
-abbrev pub toldRead : Reading → Answer ℕ
-toldRead (reading.Cards n) = given n
-toldRead (reading.Refused f) = refused (told f)
+abbrev pub verdictRead : Reading → Verdict ℕ
+verdictRead (reading.Cards n) = yes n
+verdictRead (reading.Refused f) = no f
 
--- 1, 2, 3, then 5 where one of the outputs, a bytes and b words, is short; else the count of cards
-unfoldable pub read : List ℕ → ℕ → ℕ → Answer ℕ
-read s a b = sound s (demand 5 (leb (16 * count s) a && leb (wordsOf (version s) * count s) b) (given (count s)))
+abbrev pub toldRead : Reading → Answer ℕ
+toldRead r = tells (verdictRead r)
+
+-- 1, 2, 3, then 5 where one of the outputs, a bytes and b words, is shorter than what it must hold; else the count of
+-- cards
+unfoldable pub read : List ℕ → ℕ → ℕ → Verdict ℕ
+read s a b =
+    andThen (libraryJudged s)
+    (λ (p : ℕ × ℕ). refuseIf (ltb a (nameBytes * p .0) || ltb b (p .1 * p .0)) ShortOutput (yes (p .0)))
 
 -- reading s into ns and ws: the answer r, and what stands in both buffers after it
 pub record Reads (s ns ws : List ℕ) (r : Reading) (ns′ ws′ : List ℕ) : Type 0 where
-  pub answer : toldRead r ≡ read s (length ns) (length ws)
+  pub answer : toldRead r ≡ tells (read s (length ns) (length ws))
   pub names : ns′ ≡ left (read s (length ns) (length ws)) (directory s) ns
   pub words : ws′ ≡ left (read s (length ns) (length ws)) (wordsIn (records s)) ws
 
 -- ---- what locating and finding answer
 
-abbrev pub toldAt : Located → Answer (ℕ × ℕ)
-toldAt (located.Record at size) = given (at, size)
-toldAt (located.Refused f) = refused (told f)
+abbrev pub verdictLocated : Located → Verdict (ℕ × ℕ)
+verdictLocated (located.Record at size) = yes (at, size)
+verdictLocated (located.Refused f) = no f
 
--- the place of card i's record and its size, in bytes
-abbrev pub recordOf : List ℕ → ℕ → ℕ × ℕ
-recordOf s i = (recordsAt (count s) + 8 * (wordsOf (version s) * i), 8 * wordsOf (version s))
+abbrev pub toldLocated : Located → Answer (ℕ × ℕ)
+toldLocated r = tells (verdictLocated r)
+
+-- among n records of k words, the place of card i's and its size, in bytes
+abbrev pub recordOf : ℕ × ℕ → ℕ → ℕ × ℕ
+recordOf p i = (recordsAt (p .0) + wordBytes * (p .1 * i), wordBytes * p .1)
 
 -- 1, 2, 3, then 2 for the name that is asked for, then 4 where it is not held; else its card's record
-unfoldable pub locating : List ℕ → List ℕ → Answer (ℕ × ℕ)
+unfoldable pub locating : List ℕ → List ℕ → Verdict (ℕ × ℕ)
 locating s x =
-    sound s
-    (demand 2 (asked x)
-    (demand 4 (among (padded x) (cut 16 (directory s))) (given (recordOf s (placeOf (padded x) (cut 16 (directory s)))))))
+    andThen (libraryJudged s)
+    (λ (p : ℕ × ℕ).
+    refuseIf (not (asked x)) BadName
+    (refuseIf (not (among (padded x) (namesIn (directory s)))) NameNotHeld
+    (yes (recordOf p (placeOf (padded x) (namesIn (directory s)))))))
 
 -- the bytes that are handed out: a record's, or none
-abbrev pub handed : Answer (ℕ × ℕ) → List ℕ → List ℕ
-handed (refused e) s = []
-handed (given p) s = take (p .1) (drop (p .0) s)
+abbrev pub handed : Verdict (ℕ × ℕ) → List ℕ → List ℕ
+handed (no f) s = []
+handed (yes p) s = take (p .1) (drop (p .0) s)
 
 -- where they stand, the block and the byte in it: a record at its place in the library
-abbrev pub standing : Answer (ℕ × ℕ) → RefT (List ℕ) → ℕ × ℕ
-standing (refused e) l = ptr l
-standing (given p) l = (ptr l .0, p .0 + ptr l .1)
+abbrev pub standing : Verdict (ℕ × ℕ) → RefT (List ℕ) → ℕ × ℕ
+standing (no f) l = ptr l
+standing (yes p) l = (ptr l .0, p .0 + ptr l .1)
 
 -- finding x in the library l: the bytes of r, and that they are the library's own
 pub record Finds (l : RefT (List ℕ)) (x : List ℕ) (r : RefT (List ℕ)) : Type 0 where
@@ -105,17 +116,20 @@ pub record Finds (l : RefT (List ℕ)) (x : List ℕ) (r : RefT (List ℕ)) : Ty
 
 -- ---- what writing answers
 
-abbrev pub toldBytes : Writing → Answer ℕ
-toldBytes (writing.Bytes n) = given n
-toldBytes (writing.Refused f) = refused (told f)
+abbrev pub verdictWritten : Writing → Verdict ℕ
+verdictWritten (writing.Bytes n) = yes n
+verdictWritten (writing.Refused f) = no f
 
--- 1, 2, 3, then 5 where the output of a bytes is short; else the library's length
-unfoldable pub written : ℕ → List ℕ → List ℕ → ℕ → Answer ℕ
+abbrev pub toldWritten : Writing → Answer ℕ
+toldWritten r = tells (verdictWritten r)
+
+-- 1, 2, 3, then 5 where the output of a bytes is shorter than the library; else the library's length
+unfoldable pub written : ℕ → List ℕ → List ℕ → ℕ → Verdict ℕ
 written v ns ws a =
-    demand 1 (offered v ns ws)
-    (named ns (demand 5 (leb (wholeOf (wordsOf v) (length ns / 16)) a) (given (wholeOf (wordsOf v) (length ns / 16)))))
+    andThen (offerJudged v ns ws)
+    (λ (p : ℕ × ℕ). refuseIf (ltb a (wholeOf (p .1) (p .0))) ShortOutput (yes (wholeOf (p .1) (p .0))))
 
 -- writing ns and ws as a library of version v into l: the answer r, and what stands in the buffer after it
 pub record Writes (v : ℕ) (ns ws l : List ℕ) (r : Writing) (l′ : List ℕ) : Type 0 where
-  pub answer : toldBytes r ≡ written v ns ws (length l)
+  pub answer : toldWritten r ≡ tells (written v ns ws (length l))
   pub library : l′ ≡ left (written v ns ws (length l)) (libraryOf v ns ws) l

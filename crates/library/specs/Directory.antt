@@ -5,6 +5,10 @@ use Prim.Native.Nat.{ℕ, zero, suc, _/_}
 use lib.ListN.{length, take, drop}
 use Rattle.name.specs.Name.{wellFormed, same}
 
+-- the bytes of a name with its padding
+abbrev pub nameBytes : ℕ
+nameBytes = 16
+
 -- the first n pieces of w elements
 abbrev pub pieces : ℕ → ℕ → List ℕ → List (List ℕ)
 pieces w zero s = []
@@ -13,6 +17,13 @@ pieces w (suc n) s = take w s ∷ pieces w n (drop w s)
 -- all pieces of w elements; what is left over at the end is none
 abbrev pub cut : ℕ → List ℕ → List (List ℕ)
 cut w s = pieces w (length s / w) s
+
+-- the names of a directory, and how many there are
+abbrev pub namesIn : List ℕ → List (List ℕ)
+namesIn d = cut nameBytes d
+
+abbrev pub namesHeld : List ℕ → ℕ
+namesHeld d = length d / nameBytes
 
 -- every name is well-formed
 abbrev pub allNamed : List (List ℕ) → Bool

@@ -6,11 +6,30 @@ ghost use mathlib.Core.List.{_++_};
 ghost use Prim.Native.Nat.{_+_, _*_, _/_, _%_, _^_, _<_, _≤_};
 ghost use lib.Dec.{ltb};
 ghost use lib.ListN.{length, take, drop};
-ghost use Rattle.bytes_le.specs.Le.{bytesOf};
+ghost use Rattle.bytes_le.specs.Le.{wordBytes, bytesOf};
+ghost use Rattle.refusal.specs.Order.{tells};
 ghost use Rattle.name.specs.Name.{same};
-ghost use Rattle.library.specs.Directory.{cut, allNamed, among, twice, placeOf};
-ghost use Rattle.library.specs.Format.{wordsOf, version, count, agree, wordsIn, flat, headerOf, offered};
-ghost use Rattle.library.specs.Answers.{given, demand, named, sound, over, toldLook, Reads, toldAt, locating, Finds, Writes};
+ghost use Rattle.bytes_le.specs.Buffer.{over};
+ghost use Rattle.library.specs.inner.Inspecting.{found, mostWords, slots, slotOf};
+ghost use Rattle.library.specs.Directory.{nameBytes, namesIn, allNamed, among, twice, placeOf};
+ghost use Rattle.library.specs.Format.{mostCards, wordsOf, writtenVersion, agree, wordsIn, bytesOfAll, headerOf};
+ghost use Rattle.library.specs.Answers.{namesJudged, libraryJudged, offerJudged, Reads, toldLocated, locating, Finds, Writes};
+use bytes_le::WORD_BYTES;
+
+// The bytes of the header, and so where the directory starts.
+const HEADER_BYTES: usize = 16;
+
+// The bytes of a name with its padding.
+const NAME_BYTES: usize = 16;
+
+// The most cards that a library holds.
+const MOST_CARDS: usize = 256;
+
+// The version that is written.
+const WRITTEN_VERSION: u16 = 1;
+
+// How many marks the search for a name that stands twice keeps.
+const SLOTS: usize = 4093;
 
 // What reading answers: the count of cards, or why not.
 pub enum Reading {
@@ -30,15 +49,15 @@ pub enum Located {
     Refused(Refusal),
 }
 
-// A library, or what is to become one, judged: its count of cards and the words of a record, or what is wrong.
-enum Look {
-    Good { cards: usize, words: usize },
-    Bad(Refusal),
+// A library, or what is to become one, inspected: its count of cards and the words of a record, or what is wrong.
+enum Inspection {
+    Numbers { cards: usize, words: usize },
+    Refused(Refusal),
 }
 
 // How many words a record of a version has; 0 where there is no such version.
 fn width(version: u16) -> usize
-    ensures { λ r. ⌜ (r ≡ wordsOf version) × (r ≤ 24) ⌝ }
+    ensures { λ r. ⌜ (r ≡ wordsOf version) × (r ≤ mostWords) ⌝ }
 {
     match version {
         1 => 16,
@@ -54,18 +73,18 @@ fn agrees(version: u16, count: u16, directory: u32, records: u32, whole: u32, le
     if k == 0 {
         return false;
     }
-    if 256 < count {
-        return false;
-    }
-    if directory != 16 {
-        return false;
-    }
     let n = count as usize;
-    let e = 16 + 16 * n;
+    if MOST_CARDS < n {
+        return false;
+    }
+    if directory as usize != HEADER_BYTES {
+        return false;
+    }
+    let e = HEADER_BYTES + NAME_BYTES * n;
     if records as usize != e {
         return false;
     }
-    let all = e + 8 * (k * n);
+    let all = e + WORD_BYTES * (k * n);
     if whole as usize != all {
         return false;
     }
@@ -74,12 +93,12 @@ fn agrees(version: u16, count: u16, directory: u32, records: u32, whole: u32, le
 
 // Whether every name of a directory is well-formed.
 fn all_named(d: &[u8]) -> bool
-    ensures { λ r. ⌜ r ≡ allNamed (cut 16 (now (d .entry))) ⌝ }
+    ensures { λ r. ⌜ r ≡ allNamed (namesIn (now (d .entry))) ⌝ }
 {
     let mut t = d;
-    while 16 <= t.len() {
-        if name::is_well_formed(&t[..16]) {
-            t = &t[16..];
+    while NAME_BYTES <= t.len() {
+        if name::is_well_formed(&t[..NAME_BYTES]) {
+            t = &t[NAME_BYTES..];
         } else {
             return false;
         }
@@ -89,11 +108,11 @@ fn all_named(d: &[u8]) -> bool
 
 // Whether a directory starts with the name that has these two words.
 fn starts(d: &[u8], low: u64, high: u64) -> bool
-    requires { ⌜ 16 ≤ length (now d) ⌝ }
-    ensures { λ r. ⌜ r ≡ same (bytesOf 8 low ++ bytesOf 8 high) (take 16 (now (d .entry))) ⌝ }
+    requires { ⌜ nameBytes ≤ length (now d) ⌝ }
+    ensures { λ r. ⌜ r ≡ same (bytesOf wordBytes low ++ bytesOf wordBytes high) (take nameBytes (now (d .entry))) ⌝ }
 {
     let x = bytes_le::u64_at(d, 0);
-    let y = bytes_le::u64_at(d, 8);
+    let y = bytes_le::u64_at(d, WORD_BYTES);
     if low != x {
         return false;
     }
@@ -102,28 +121,28 @@ fn starts(d: &[u8], low: u64, high: u64) -> bool
 
 // Whether the name with these two words stands in a directory.
 fn holds(d: &[u8], low: u64, high: u64) -> bool
-    ensures { λ r. ⌜ r ≡ among (bytesOf 8 low ++ bytesOf 8 high) (cut 16 (now (d .entry))) ⌝ }
+    ensures { λ r. ⌜ r ≡ among (bytesOf wordBytes low ++ bytesOf wordBytes high) (namesIn (now (d .entry))) ⌝ }
 {
     let mut t = d;
-    while 16 <= t.len() {
+    while NAME_BYTES <= t.len() {
         if starts(t, low, high) {
             return true;
         }
-        t = &t[16..];
+        t = &t[NAME_BYTES..];
     }
     false
 }
 
-// A number below 4096 from a name's two words, so that one name always has the same.
+// The number of a mark, from a name's two words, so that one name always has the same.
 fn slot(low: u64, high: u64) -> usize
-    ensures { λ r. ⌜ (r ≡ (low + high) % 2 ^ 64 % 4093) × (r < 4096) ⌝ }
+    ensures { λ r. ⌜ (r ≡ slotOf low high) × (r < slots) ⌝ }
 {
-    (std::num::wrapping_add_u64(low, high) % 4093) as usize
+    (std::num::wrapping_add_u64(low, high) % SLOTS as u64) as usize
 }
 
-// Whether a name stands in the directory, which is looked through only where its slot is marked.
+// Whether a name stands in the directory, which is looked through only where its mark has been made.
 fn again(mark: u8, d: &[u8], low: u64, high: u64) -> bool
-    ensures { λ r. ⌜ r ≡ (ltb 0 mark && among (bytesOf 8 low ++ bytesOf 8 high) (cut 16 (now (d .entry)))) ⌝ }
+    ensures { λ r. ⌜ r ≡ (ltb 0 mark && among (bytesOf wordBytes low ++ bytesOf wordBytes high) (namesIn (now (d .entry)))) ⌝ }
 {
     if mark == 0 {
         return false;
@@ -131,44 +150,44 @@ fn again(mark: u8, d: &[u8], low: u64, high: u64) -> bool
     holds(d, low, high)
 }
 
-// Whether some name of a directory stands twice: from the last name on, each marks its slot, and is compared with those after it where the slot was marked.
+// Whether some name of a directory stands twice: from the last name on, each makes its mark, and is compared with those after it where that was made before.
 fn doubled(d: &[u8]) -> bool
-    ensures { λ r. ⌜ r ≡ twice (cut 16 (now (d .entry))) ⌝ }
+    ensures { λ r. ⌜ r ≡ twice (namesIn (now (d .entry))) ⌝ }
 {
-    let mut seen = [0u8; 4096];
-    let mut i = d.len() / 16;
+    let mut marks = [0u8; SLOTS];
+    let mut i = d.len() / NAME_BYTES;
     while 0 < i {
         i -= 1;
-        let t = &d[16 * i..];
+        let t = &d[NAME_BYTES * i..];
         let low = bytes_le::u64_at(t, 0);
-        let high = bytes_le::u64_at(t, 8);
+        let high = bytes_le::u64_at(t, WORD_BYTES);
         let k = slot(low, high);
-        if again(seen[k], &t[16..], low, high) {
+        if again(marks[k], &t[NAME_BYTES..], low, high) {
             return true;
         }
-        seen[k] = 1;
+        marks[k] = 1;
     }
     false
 }
 
-// What is wrong with a directory, or else the counts that are handed in.
-fn judge(d: &[u8], cards: usize, words: usize) -> Look
-    ensures { λ r. ⌜ toldLook r ≡ named (now (d .entry)) (given (cards, words)) ⌝ }
+// What is wrong with a directory, or else the numbers that are handed in.
+fn judge(d: &[u8], cards: usize, words: usize) -> Inspection
+    ensures { λ r. ⌜ found r ≡ namesJudged (now (d .entry)) (cards, words) ⌝ }
 {
     if all_named(d) {
         if doubled(d) {
-            Look::Bad(Refusal::NameTwice)
+            Inspection::Refused(Refusal::NameTwice)
         } else {
-            Look::Good { cards, words }
+            Inspection::Numbers { cards, words }
         }
     } else {
-        Look::Bad(Refusal::BadName)
+        Inspection::Refused(Refusal::BadName)
     }
 }
 
-// A library judged.
-fn inspect(s: &[u8]) -> Look
-    ensures { λ r. ⌜ toldLook r ≡ sound (now (s .entry)) (given (count (now (s .entry)), wordsOf (version (now (s .entry))))) ⌝ }
+// A library inspected.
+fn inspect(s: &[u8]) -> Inspection
+    ensures { λ r. ⌜ found r ≡ libraryJudged (now (s .entry)) ⌝ }
 {
     let version = bytes_le::u16_at(s, 0);
     let count = bytes_le::u16_at(s, 2);
@@ -177,9 +196,13 @@ fn inspect(s: &[u8]) -> Look
     let whole = bytes_le::u32_at(s, 12);
     if agrees(version, count, directory, records, whole, s.len()) {
         let n = count as usize;
-        judge(&s[16..16 + 16 * n], n, width(version))
+        judge(
+            &s[HEADER_BYTES..HEADER_BYTES + NAME_BYTES * n],
+            n,
+            width(version),
+        )
     } else {
-        Look::Bad(Refusal::Malformed)
+        Inspection::Refused(Refusal::Malformed)
     }
 }
 
@@ -197,14 +220,14 @@ fn copy(src: &[u8], dst: &mut [u8])
 
 // Puts the words that bytes spell at the start of a buffer.
 fn load(src: &[u8], dst: &mut [u64])
-    requires { ⌜ length (now src) / 8 ≤ length (now dst) ⌝ }
+    requires { ⌜ length (now src) / wordBytes ≤ length (now dst) ⌝ }
     ensures { λ r. ⌜ now (dst .exit) ≡ over (wordsIn (now (src .entry))) (now (dst .entry)) ⌝ }
 {
     let mut t = src;
     let mut i = 0;
-    while 8 <= t.len() {
+    while WORD_BYTES <= t.len() {
         dst[i] = bytes_le::u64_at(t, 0);
-        t = &t[8..];
+        t = &t[WORD_BYTES..];
         i += 1;
     }
 }
@@ -214,44 +237,44 @@ pub fn read(library: &[u8], names: &mut [u8], words: &mut [u64]) -> Reading
     ensures { λ r. ⌜ Reads (now (library .entry)) (now (names .entry)) (now (words .entry)) r (now (names .exit)) (now (words .exit)) ⌝ }
 {
     match inspect(library) {
-        Look::Bad(f) => Reading::Refused(f),
-        Look::Good { cards, words: k } => {
-            let a = 16 * cards;
+        Inspection::Refused(f) => Reading::Refused(f),
+        Inspection::Numbers { cards, words: k } => {
+            let a = NAME_BYTES * cards;
             if names.len() < a {
                 return Reading::Refused(Refusal::ShortOutput);
             }
             if words.len() < k * cards {
                 return Reading::Refused(Refusal::ShortOutput);
             }
-            let e = 16 + a;
+            let e = HEADER_BYTES + a;
             let n = cards as u32;
-            copy(&library[16..e], names);
+            copy(&library[HEADER_BYTES..e], names);
             load(&library[e..], words);
             Reading::Cards(n)
         }
     }
 }
 
-// Whether a directory starts with the padded name x: its sixteen bytes are copied before they are compared.
-fn begins(d: &[u8], x: &[u8; 16]) -> bool
-    requires { ⌜ 16 ≤ length (now d) ⌝ }
-    ensures { λ r. ⌜ r ≡ same (now (x .entry)) (take 16 (now (d .entry))) ⌝ }
+// Whether a directory starts with the padded name x: its bytes are copied before they are compared.
+fn begins(d: &[u8], x: &[u8; NAME_BYTES]) -> bool
+    requires { ⌜ nameBytes ≤ length (now d) ⌝ }
+    ensures { λ r. ⌜ r ≡ same (now (x .entry)) (take nameBytes (now (d .entry))) ⌝ }
 {
-    let held = name::pad(&d[..16]);
+    let held = name::pad(&d[..NAME_BYTES]);
     name::is_same(x, &held)
 }
 
 // The place of a padded name among those of a directory; their count where it is none of them.
-fn search(d: &[u8], x: &[u8; 16]) -> usize
-    ensures { λ r. ⌜ r ≡ placeOf (now (x .entry)) (cut 16 (now (d .entry))) ⌝ }
+fn search(d: &[u8], x: &[u8; NAME_BYTES]) -> usize
+    ensures { λ r. ⌜ r ≡ placeOf (now (x .entry)) (namesIn (now (d .entry))) ⌝ }
 {
     let mut t = d;
     let mut i = 0;
-    while 16 <= t.len() {
+    while NAME_BYTES <= t.len() {
         if begins(t, x) {
             return i;
         }
-        t = &t[16..];
+        t = &t[NAME_BYTES..];
         i += 1;
     }
     i
@@ -259,22 +282,22 @@ fn search(d: &[u8], x: &[u8; 16]) -> usize
 
 // The place of a card's record in a library, by the card's name.
 pub fn locate(library: &[u8], name: &[u8]) -> Located
-    ensures { λ r. ⌜ toldAt r ≡ locating (now (library .entry)) (now (name .entry)) ⌝ }
+    ensures { λ r. ⌜ toldLocated r ≡ tells (locating (now (library .entry)) (now (name .entry))) ⌝ }
 {
     match inspect(library) {
-        Look::Bad(f) => Located::Refused(f),
-        Look::Good { cards, words } => {
+        Inspection::Refused(f) => Located::Refused(f),
+        Inspection::Numbers { cards, words } => {
             if !name::is_asked(name) {
                 return Located::Refused(Refusal::BadName);
             }
-            let e = 16 + 16 * cards;
+            let e = HEADER_BYTES + NAME_BYTES * cards;
             let wanted = name::pad(name);
-            let i = search(&library[16..e], &wanted);
+            let i = search(&library[HEADER_BYTES..e], &wanted);
             if cards <= i {
                 return Located::Refused(Refusal::NameNotHeld);
             }
-            let at = e + 8 * (words * i);
-            let size = 8 * words;
+            let at = e + WORD_BYTES * (words * i);
+            let size = WORD_BYTES * words;
             Located::Record { at, size }
         }
     }
@@ -304,61 +327,61 @@ fn put(dst: &mut [u8], at: usize, w: usize, x: u64)
     }
 }
 
-// The eight bytes of a word.
-fn bytes(x: u64) -> [u8; 8]
-    ensures { λ r. ⌜ r ≡ bytesOf 8 x ⌝ }
+// The bytes of a word.
+fn bytes(x: u64) -> [u8; WORD_BYTES]
+    ensures { λ r. ⌜ r ≡ bytesOf wordBytes x ⌝ }
 {
-    let mut b = [0u8; 8];
-    put(&mut b, 0, 8, x);
+    let mut b = [0u8; WORD_BYTES];
+    put(&mut b, 0, WORD_BYTES, x);
     b
 }
 
 // Puts the bytes of words at the start of a buffer.
 fn store(words: &[u64], dst: &mut [u8])
-    requires { ⌜ 8 * length (now words) ≤ length (now dst) ⌝ }
-    ensures { λ r. ⌜ now (dst .exit) ≡ over (flat (now (words .entry))) (now (dst .entry)) ⌝ }
+    requires { ⌜ wordBytes * length (now words) ≤ length (now dst) ⌝ }
+    ensures { λ r. ⌜ now (dst .exit) ≡ over (bytesOfAll (now (words .entry))) (now (dst .entry)) ⌝ }
 {
     let mut i = 0;
     while i < words.len() {
         let b = bytes(words[i]);
-        copy(&b, &mut dst[8 * i..]);
+        copy(&b, &mut dst[WORD_BYTES * i..]);
         i += 1;
     }
 }
 
 // The header of a library.
-fn header(version: u16, count: usize) -> [u8; 16]
-    requires { ⌜ count ≤ 256 ⌝ }
+fn header(version: u16, count: usize) -> [u8; HEADER_BYTES]
+    requires { ⌜ count ≤ mostCards ⌝ }
     ensures { λ r. ⌜ r ≡ headerOf version count ⌝ }
 {
-    let records = 16 + 16 * count;
-    let whole = records + 8 * (width(version) * count);
-    let mut h = [0u8; 16];
+    let records = HEADER_BYTES + NAME_BYTES * count;
+    let whole = records + WORD_BYTES * (width(version) * count);
+    let mut h = [0u8; HEADER_BYTES];
     put(&mut h, 0, 2, version as u64);
     put(&mut h, 2, 2, count as u64);
-    put(&mut h, 4, 4, 16);
+    put(&mut h, 4, 4, HEADER_BYTES as u64);
     put(&mut h, 8, 4, records as u64);
     put(&mut h, 12, 4, whole as u64);
     h
 }
 
-// Names and words judged for a library of a version.
-fn offer(version: u16, names: &[u8], words: &[u64]) -> Look
-    ensures { λ r. ⌜ toldLook r ≡ demand 1 (offered version (now (names .entry)) (now (words .entry))) (named (now (names .entry)) (given (length (now (names .entry)) / 16, wordsOf version))) ⌝ }
+// Names and words inspected for a library of a version.
+fn offer(version: u16, names: &[u8], words: &[u64]) -> Inspection
+    ensures { λ r. ⌜ found r ≡ offerJudged version (now (names .entry)) (now (words .entry)) ⌝ }
 {
     let k = width(version);
     if k == 0 {
-        return Look::Bad(Refusal::Malformed);
+        return Inspection::Refused(Refusal::Malformed);
     }
-    let n = names.len() / 16;
-    if names.len() != 16 * n {
-        return Look::Bad(Refusal::Malformed);
+    let n = names.len() / NAME_BYTES;
+    if names.len() != NAME_BYTES * n {
+        return Inspection::Refused(Refusal::Malformed);
     }
-    if 256 < n {
-        return Look::Bad(Refusal::Malformed);
+    if MOST_CARDS < n {
+        return Inspection::Refused(Refusal::Malformed);
     }
     if words.len() != k * n {
-        return Look::Bad(Refusal::Malformed);
+        return Inspection::Refused(Refusal::Malformed);
     }
     judge(names, n, k)
 }
@@ -368,26 +391,26 @@ fn write_as(version: u16, names: &[u8], words: &[u64], library: &mut [u8]) -> Wr
     ensures { λ r. ⌜ Writes version (now (names .entry)) (now (words .entry)) (now (library .entry)) r (now (library .exit)) ⌝ }
 {
     match offer(version, names, words) {
-        Look::Bad(f) => Writing::Refused(f),
-        Look::Good { cards, words: k } => {
-            let e = 16 + 16 * cards;
-            let whole = e + 8 * (k * cards);
+        Inspection::Refused(f) => Writing::Refused(f),
+        Inspection::Numbers { cards, words: k } => {
+            let e = HEADER_BYTES + NAME_BYTES * cards;
+            let whole = e + WORD_BYTES * (k * cards);
             if library.len() < whole {
                 return Writing::Refused(Refusal::ShortOutput);
             }
             let n = whole as u32;
             let h = header(version, cards);
             copy(&h, library);
-            copy(names, &mut library[16..]);
+            copy(names, &mut library[HEADER_BYTES..]);
             store(words, &mut library[e..]);
             Writing::Bytes(n)
         }
     }
 }
 
-// Writes a library of version 1: it goes to the start of the buffer, and a refusal changes nothing.
+// Writes a library of the present version: it goes to the start of the buffer, and a refusal changes nothing.
 pub fn write(names: &[u8], words: &[u64], library: &mut [u8]) -> Writing
-    ensures { λ r. ⌜ Writes 1 (now (names .entry)) (now (words .entry)) (now (library .entry)) r (now (library .exit)) ⌝ }
+    ensures { λ r. ⌜ Writes writtenVersion (now (names .entry)) (now (words .entry)) (now (library .entry)) r (now (library .exit)) ⌝ }
 {
-    write_as(1, names, words, library)
+    write_as(WRITTEN_VERSION, names, words, library)
 }

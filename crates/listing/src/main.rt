@@ -27,11 +27,11 @@ fn list_cards(library: &[u8], names: &[u8], n: u32) {
     let mut rest = names;
     let mut left = n;
     while 0 < left {
-        if rest.len() < 16 {
+        if rest.len() < name::LENGTH {
             return;
         }
-        list_card(library, &rest[0..16]);
-        rest = &rest[16..];
+        list_card(library, &rest[0..name::LENGTH]);
+        rest = &rest[name::LENGTH..];
         left -= 1;
     }
 }

@@ -12,7 +12,7 @@ use lib.ListN.{length, take, drop, getD, set, replicate, length-drop, length-tak
 use lib.Seq.{take-add, take-at, drop-at, drop-cons, take-all, take-suc, set-at, append-snoc, length-take-le}
 use Rattle.bytes_le.specs.Le.{le, bytesOf, Word, le-bytes, length-bytes}
 use Rattle.bytes_le.proofs.Laws.{rest}
-use Rattle.name.specs.Name.{mark, run, zeros, wellFormed, asked, padded, same, same-equal, same-self}
+use Rattle.name.specs.Name.{nameLength, mark, run, zeros, wellFormed, asked, padded, same, same-equal, same-self}
 
 pub and-true : {a b : Bool} → a ≡ true → a && b ≡ b
 and-true {a} {b} e = ap (λ (t : Bool). t && b) e
@@ -62,7 +62,10 @@ module _ {s : List ℕ} {i : ℕ} (v : Zeros s i) (h : i < length s) where
   zeros-not l = sym (v .so-far ∙ ap zeros (split s i h) ∙ and-false (ne-eqb (getD s i 0) 0 l) _)
 
   pub zeros-on : getD s i 0 ≡ 0 → Zeros s (i + 1)
-  zeros-on l = record { within = omega arith; so-far = v .so-far ∙ ap zeros (split s i h) ∙ and-true (eq-eqb (getD s i 0) 0 l) }
+  zeros-on l = record {
+    within = omega arith;
+    so-far = v .so-far ∙ ap zeros (split s i h) ∙ and-true (eq-eqb (getD s i 0) 0 l);
+  }
 
 pub zeros-all : {s : List ℕ} {i : ℕ} → Zeros s i → length s ≤ i → true ≡ zeros s
 zeros-all {s} v h = sym (v .so-far ∙ ap zeros (drop-of-length-le s h))
@@ -70,21 +73,24 @@ zeros-all {s} v h = sym (v .so-far ∙ ap zeros (drop-of-length-le s h))
 -- ---- the tests of a whole name
 
 module _ (s : List ℕ) where
-  pub not-sixteen : (length s ≡ 16 → ⊥) → false ≡ wellFormed s
+  pub not-sixteen : (length s ≡ nameLength → ⊥) → false ≡ wellFormed s
   unfolding wellFormed
-  not-sixteen h = sym (and-false (ne-eqb (length s) 16 h) _)
+  not-sixteen h = sym (and-false (ne-eqb (length s) nameLength h) _)
 
-  module _ (h : length s ≡ 16) {k : ℕ} (e : k ≡ run s) where
+  module _ (h : length s ≡ nameLength) {k : ℕ} (e : k ≡ run s) where
     pub no-mark : k ≡ 0 → false ≡ wellFormed s
     unfolding wellFormed
-    no-mark z = let l : run s ≤ 0 = omega arith in sym (and-true (eq-eqb (length s) 16 h) ∙ and-false (le-ltb 0 (run s) l) _)
+    no-mark z =
+        let l : run s ≤ 0 = omega arith in sym
+        (and-true (eq-eqb (length s) nameLength h) ∙ and-false (le-ltb 0 (run s) l) _)
 
     -- t is what was found of the part after the k leading bytes
     pub then-zeros : (k ≡ 0 → ⊥) → (t : Bool) → t ≡ zeros (take (length s - k) (drop k s)) → t ≡ wellFormed s
     unfolding wellFormed
     then-zeros z t f =
         let l : 0 < run s = omega arith in
-        f ∙ ap zeros (rest s k ∙ ap (λ (n : ℕ). drop n s) e) ∙ sym (and-true (eq-eqb (length s) 16 h) ∙ and-true (lt-ltb 0 (run s) l))
+        f ∙ ap zeros (rest s k ∙ ap (λ (n : ℕ). drop n s) e)
+        ∙ sym (and-true (eq-eqb (length s) nameLength h) ∙ and-true (lt-ltb 0 (run s) l))
 
 module _ (x : List ℕ) where
   pub asked-none : length x ≤ 0 → false ≡ asked x
@@ -92,13 +98,15 @@ module _ (x : List ℕ) where
   asked-none h = sym (and-false (le-ltb 0 (length x) h) _)
 
   module _ (h : 0 < length x) where
-    pub asked-long : 16 < length x → false ≡ asked x
+    pub asked-long : nameLength < length x → false ≡ asked x
     unfolding asked
-    asked-long l = sym (and-true (lt-ltb 0 (length x) h) ∙ and-false (lt-leb (length x) 16 l) _)
+    asked-long l = sym (and-true (lt-ltb 0 (length x) h) ∙ and-false (lt-leb (length x) nameLength l) _)
 
-    pub asked-run : length x ≤ 16 → {k : ℕ} → k ≡ run x → eqb k (length x) ≡ asked x
+    pub asked-run : length x ≤ nameLength → {k : ℕ} → k ≡ run x → eqb k (length x) ≡ asked x
     unfolding asked
-    asked-run l e = ap (λ (n : ℕ). eqb n (length x)) e ∙ sym (and-true (lt-ltb 0 (length x) h) ∙ and-true (le-leb (length x) 16 l))
+    asked-run l e =
+        ap (λ (n : ℕ). eqb n (length x)) e
+        ∙ sym (and-true (lt-ltb 0 (length x) h) ∙ and-true (le-leb (length x) nameLength l))
 
 -- ---- filling a list from its front
 
@@ -116,11 +124,14 @@ module _ {new old cur : List ℕ} {i : ℕ} (v : Filled new old cur i) where
   pub fill-more : (x : ℕ) → i < length new → x ≡ getD new i 0 → Filled new old (set cur i x) (i + 1)
   fill-more x h e =
       let ho : i < length old = let f = v .fits in omega arith in
-      let apart : cur ≡ take i new ++ getD old i 0 ∷ drop (suc i) old = v .so-far ∙ ap (λ (l : List ℕ). take i new ++ l) (drop-cons old i 0 ho) in
+      let apart : cur ≡ take i new ++ getD old i 0 ∷ drop (suc i) old = v .so-far
+      ∙ ap (λ (l : List ℕ). take i new ++ l) (drop-cons old i 0 ho) in
       let stored : set cur i x ≡ take i new ++ x ∷ drop (suc i) old =
-      ap (λ (l : List ℕ). set l i x) apart ∙ set-at (take i new) (getD old i 0) (drop (suc i) old) x i (length-take-le i new (v .within)) in
+      ap (λ (l : List ℕ). set l i x) apart
+      ∙ set-at (take i new) (getD old i 0) (drop (suc i) old) x i (length-take-le i new (v .within)) in
       let longer : take i new ++ x ∷ drop (suc i) old ≡ take (suc i) new ++ drop (suc i) old =
-      ap (λ (y : ℕ). take i new ++ y ∷ drop (suc i) old) e ∙ sym (append-snoc (take i new) (getD new i 0) (drop (suc i) old))
+      ap (λ (y : ℕ). take i new ++ y ∷ drop (suc i) old) e
+      ∙ sym (append-snoc (take i new) (getD new i 0) (drop (suc i) old))
       ∙ ap (λ (l : List ℕ). l ++ drop (suc i) old) (sym (take-suc new i 0 h)) in
       record {
         fits = v .fits;
@@ -139,29 +150,34 @@ module _ {new old cur : List ℕ} {i : ℕ} (v : Filled new old cur i) where
 drop-zeros : (k n : ℕ) → drop {A = ℕ} k (replicate n 0) ≡ replicate (n - k) 0
 drop-zeros zero n = ap (λ (m : ℕ). replicate m 0) (sym (sub-zero n))
 drop-zeros (suc k) zero = let e : 0 ≡ 0 - suc k = omega arith in ap (λ (m : ℕ). replicate m 0) e
-drop-zeros (suc k) (suc n) = let e : n - k ≡ suc n - suc k = omega arith in drop-zeros k n ∙ ap (λ (m : ℕ). replicate m 0) e
+drop-zeros (suc k) (suc n) =
+    let e : n - k ≡ suc n - suc k = omega arith in drop-zeros k n ∙ ap (λ (m : ℕ). replicate m 0) e
 
-pub taken-few : (x : List ℕ) → length (take 16 x) ≤ length {A = ℕ} (replicate 16 0)
+pub taken-few : (x : List ℕ) → length (take nameLength x) ≤ length {A = ℕ} (replicate nameLength 0)
 taken-few x = rw length-take (omega arith)
 
-pub taken-short : (x : List ℕ) → length x < 16 → length x ≡ length (take 16 x)
-taken-short x h = let l : length x ≤ 16 = omega arith in sym (ap length (take-all 16 x l))
+pub taken-short : (x : List ℕ) → length x < nameLength → length x ≡ length (take nameLength x)
+taken-short x h = let l : length x ≤ nameLength = omega arith in sym (ap length (take-all nameLength x l))
 
-pub taken-sixteen : (x : List ℕ) → 16 ≤ length x → 16 ≡ length (take 16 x)
-taken-sixteen x h = sym (length-take-le 16 x h)
+pub taken-sixteen : (x : List ℕ) → nameLength ≤ length x → nameLength ≡ length (take nameLength x)
+taken-sixteen x h = sym (length-take-le nameLength x h)
 
-pub is-padded : (x : List ℕ) {cur : List ℕ} {i : ℕ} → Filled (take 16 x) (replicate 16 0) cur i → length (take 16 x) ≤ i → cur ≡ padded x
+pub is-padded : (x : List ℕ) {cur : List ℕ} {i : ℕ} → Filled (take nameLength x) (replicate nameLength 0) cur i
+    → length (take nameLength x) ≤ i
+    → cur ≡ padded x
 unfolding padded
 is-padded x v h =
-    let e : 16 - length (take 16 x) ≡ 16 - length x = rw length-take (omega arith) in
-    fill-all v h ∙ ap (λ (l : List ℕ). take 16 x ++ l) (drop-zeros (length (take 16 x)) 16 ∙ ap (λ (n : ℕ). replicate n 0) e)
+    let e : nameLength - length (take nameLength x) ≡ nameLength - length x = rw length-take (omega arith) in
+    fill-all v h
+    ∙ ap (λ (l : List ℕ). take nameLength x ++ l)
+    (drop-zeros (length (take nameLength x)) nameLength ∙ ap (λ (n : ℕ). replicate n 0) e)
 
 -- sixteen bytes have no padding
-pub padded-full : (x : List ℕ) → length x ≡ 16 → padded x ≡ x
+pub padded-full : (x : List ℕ) → length x ≡ nameLength → padded x ≡ x
 unfolding padded
 padded-full x h =
-    let e : 16 - length x ≡ 0 = omega arith in
-    ap₂ (λ (l : List ℕ) (n : ℕ). l ++ replicate n 0) (take-all 16 x (le-of-eq h)) e ∙ append-nil x
+    let e : nameLength - length x ≡ 0 = omega arith in
+    ap₂ (λ (l : List ℕ) (n : ℕ). l ++ replicate n 0) (take-all nameLength x (le-of-eq h)) e ∙ append-nil x
 
 -- ---- two names as words
 
@@ -183,11 +199,12 @@ pub record Words (a : List ℕ) (x y : ℕ) : Type 0 where
   pub bytes : a ≡ bytesOf 8 x ++ bytesOf 8 y
 
 -- the words that are read at the start of a slice are those of the name there
-pub words-of : (t : List ℕ) {x y : ℕ} → 16 ≤ length t → Word t x → Word (drop 8 t) y → Words (take 16 t) x y
+pub words-of : (t : List ℕ) {x y : ℕ} → nameLength ≤ length t → Word t x → Word (drop 8 t) y
+    → Words (take nameLength t) x y
 words-of t {x} {y} h p q =
     let l : 8 ≤ length t = omega arith in
     let m : 8 ≤ length (drop 8 t) = rw length-drop (omega arith) in
-    let f : take 16 t ≡ take 8 t ++ take 8 (drop 8 t) = take-add 8 8 t in
+    let f : take nameLength t ≡ take 8 t ++ take 8 (drop 8 t) = take-add 8 8 t in
     let k : length (take 8 t) ≡ 8 = length-take-le 8 t l in
     record {
       low = p .value ∙ ap le (sym (ap (take 8) f ∙ take-at (take 8 t) (take 8 (drop 8 t)) 8 k));

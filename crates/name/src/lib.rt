@@ -1,7 +1,10 @@
 // Names of cards: sixteen bytes with their padding, or as they are asked for, without it. Every function takes any slice.
 ghost use mathlib.Core.Path.{_≡_};
 ghost use lib.ListN.{length, take};
-ghost use Rattle.name.specs.Name.{mark, run, zeros, wellFormed, asked, padded, same};
+ghost use Rattle.name.specs.Name.{nameLength, mark, run, zeros, wellFormed, asked, padded, same};
+
+// The bytes of a name with its padding.
+pub const LENGTH: usize = 16;
 
 // Whether a name may hold the byte.
 fn marks(b: u8) -> bool
@@ -46,7 +49,7 @@ fn blank(s: &[u8]) -> bool
 pub fn is_well_formed(s: &[u8]) -> bool
     ensures { λ r. ⌜ r ≡ wellFormed (now (s .entry)) ⌝ }
 {
-    if s.len() != 16 {
+    if s.len() != LENGTH {
         return false;
     }
     let k = leading(s);
@@ -63,7 +66,7 @@ pub fn is_asked(x: &[u8]) -> bool
     if x.len() == 0 {
         return false;
     }
-    if 16 < x.len() {
+    if LENGTH < x.len() {
         return false;
     }
     leading(x) == x.len()
@@ -71,17 +74,17 @@ pub fn is_asked(x: &[u8]) -> bool
 
 // How many bytes of x a name has room for.
 fn taken(x: &[u8]) -> usize
-    ensures { λ r. ⌜ r ≡ length (take 16 (now (x .entry))) ⌝ }
+    ensures { λ r. ⌜ r ≡ length (take nameLength (now (x .entry))) ⌝ }
 {
-    if x.len() < 16 { x.len() } else { 16 }
+    if x.len() < LENGTH { x.len() } else { LENGTH }
 }
 
 // The name with its padding; of more than sixteen bytes the first sixteen.
-pub fn pad(x: &[u8]) -> [u8; 16]
+pub fn pad(x: &[u8]) -> [u8; LENGTH]
     ensures { λ r. ⌜ r ≡ padded (now (x .entry)) ⌝ }
 {
     let n = taken(x);
-    let mut held = [0u8; 16];
+    let mut held = [0u8; LENGTH];
     let mut i = 0;
     while i < n {
         held[i] = x[i];
@@ -91,7 +94,7 @@ pub fn pad(x: &[u8]) -> [u8; 16]
 }
 
 // Whether two padded names are one, as two words each.
-pub fn is_same(a: &[u8; 16], b: &[u8; 16]) -> bool
+pub fn is_same(a: &[u8; LENGTH], b: &[u8; LENGTH]) -> bool
     ensures { λ r. ⌜ r ≡ same (now (a .entry)) (now (b .entry)) ⌝ }
 {
     let low = bytes_le::u64_at(a, 0);

@@ -1,2 +1,2 @@
-pub mod Reciprocal
-pub mod Words
+-- Laws over plain numbers, on which the functions' proofs rest.
+pub mod Exact

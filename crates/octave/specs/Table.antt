@@ -1,14 +1,15 @@
--- The table of the exponential over one octave, the rule of its entries, and the share between two of them.
+-- The table of the exponential over one octave, the rule of its entries, and the way from one to the next.
 use mathlib.Core.Path.{_≡_, refl, subst}
 use mathlib.Core.Bool.{Bool, _&&_}
 use mathlib.Core.List.{List, [], _∷_}
 use Prim.Native.Nat.{ℕ, suc, suc-le-suc, _+_, _-_, _*_, _/_, _%_, _^_, _≤_, _<_}
-use native.Mathlib.Nat.{pow-le-pow-left, pow-le-pow-right, lt-of-not-le, le-of-suc-le-suc, le-antisymm, le-trans, le-of-lt, le-of-eq, lt-irrefl, mul-comm, mul-le-mul-left, mod-lt, div-le-of-le-mul}
+use native.Mathlib.Nat.{pow-le-pow-left, pow-le-pow-right, mul-comm, mul-le-mul-left, mod-lt, div-le-of-le-mul}
+use native.Mathlib.Nat.{lt-of-not-le, le-of-suc-le-suc, le-antisymm, le-trans, le-of-lt, le-of-eq, lt-irrefl}
 use native.Mathlib.Omega.{arith}
 use lib.Dec.{leb, leb→le, lit<}
 use lib.ListN.{getD}
 use mir.Facts.{and-yes}
-use Rattle.octave.specs.Every.{every, at-each}
+use Rattle.octave.specs.laws.Every.{at-each}
 
 -- points of the table in an octave
 abbrev pub points : ℕ
@@ -22,10 +23,15 @@ steps = 1024
 abbrev pub parts : ℕ
 parts = points * steps
 
--- the rule of the entry at j: the greatest t whose power is within 2^(30 points + j), so that t is near 2^(30 + j / points)
+-- binary places of an entry
+abbrev pub places : ℕ
+places = 30
+
+-- the rule of the entry at j: the greatest t whose power is within 2^(places * points + j),
+-- so that t is near 2^(places + j / points)
 pub record IsEntry (j t : ℕ) : Type 0 where
-  pub within : t ^ points ≤ 2 ^ (30 * points + j)
-  pub greatest : 2 ^ (30 * points + j) < suc t ^ points
+  pub within : t ^ points ≤ 2 ^ (places * points + j)
+  pub greatest : 2 ^ (places * points + j) < suc t ^ points
 
 -- the entries at 0, 1, .., points
 unfoldable pub entries : List ℕ
@@ -46,19 +52,26 @@ unfoldable pub entryOf : ℕ → ℕ
 unfolding entries
 entryOf j = getD entries j 0
 
--- the mantissa at the part f of an octave: from the point at or below f, the share of the way to the next, rounded downward
+-- the mantissa at the part f of an octave: from the point at or below f, its part of the way to the next,
+-- rounded downward
 abbrev pub mantissaOf : ℕ → ℕ
 mantissaOf f = entryOf (f / steps) + (entryOf (suc (f / steps)) - entryOf (f / steps)) * (f % steps) / steps
 
 -- the whole table's test
+withinPower : ℕ → Bool
+withinPower j = leb (entryOf j ^ points) (2 ^ (places * points + j))
+
+beyondPower : ℕ → Bool
+beyondPower j = leb (suc (2 ^ (places * points + j))) (suc (entryOf j) ^ points)
+
 right : ℕ → Bool
-right j = leb (entryOf j ^ points) (2 ^ (30 * points + j)) && leb (suc (2 ^ (30 * points + j))) (suc (entryOf j) ^ points)
+right j = withinPower j && beyondPower j
 
 -- every entry follows the rule
 pub rule : (j : ℕ) → j ≤ points → IsEntry j (entryOf j)
-unfolding entries entryOf right
+unfolding entries entryOf withinPower beyondPower right
 rule j h =
-    let p = and-yes (leb (entryOf j ^ points) (2 ^ (30 * points + j))) (leb (suc (2 ^ (30 * points + j))) (suc (entryOf j) ^ points)) (at-each right (suc points) tt j (omega arith)) in
+    let p = and-yes (withinPower j) (beyondPower j) (at-each right (suc points) tt j (omega arith)) in
     record { within = leb→le _ _ (p .0); greatest = leb→le _ _ (p .1) }
 
 -- what follows from the rule alone: between rules, one power is not above the other's next
@@ -74,19 +87,49 @@ between i j t u h p q = le-of-suc-le-suc (lt-of-not-le (λ (l : suc u ≤ t). ab
 
 -- so no other number follows the rule
 pub entry-only : (j t : ℕ) → j ≤ points → IsEntry j t → t ≡ entryOf j
-entry-only j t h p = le-antisymm (between j j t (entryOf j) (omega arith) p (rule j h)) (between j j (entryOf j) t (omega arith) (rule j h) p)
+entry-only j t h p =
+    le-antisymm (between j j t (entryOf j) (omega arith) p (rule j h))
+    (between j j (entryOf j) t (omega arith) (rule j h) p)
 
--- the entries rise to 2^31
+-- the entries rise from 2^places to twice that
 pub entry-rises : (j : ℕ) → j < points → entryOf j ≤ entryOf (suc j)
-entry-rises j h = between j (suc j) (entryOf j) (entryOf (suc j)) (omega arith) (rule j (omega arith)) (rule (suc j) h)
+entry-rises j h =
+    between j (suc j) (entryOf j) (entryOf (suc j)) (omega arith) (rule j (omega arith)) (rule (suc j) h)
 
-last : entryOf points ≡ 2 ^ 31
+first : entryOf 0 ≡ 2 ^ places
+unfolding entryOf entries
+first = refl
+
+last : entryOf points ≡ 2 ^ suc places
 unfolding entryOf entries
 last = refl
 
-pub entry-high : (j : ℕ) → j ≤ points → entryOf j ≤ 2147483648
-entry-high j h = subst (λ (t : ℕ). entryOf j ≤ t) last (between j points (entryOf j) (entryOf points) h (rule j h) (rule points (omega arith)))
+pub entry-low : (j : ℕ) → j ≤ points → 2 ^ places ≤ entryOf j
+entry-low j h =
+    let l = between 0 j (entryOf 0) (entryOf j) (omega arith) (rule 0 (omega arith)) (rule j h) in
+    subst (λ (t : ℕ). t ≤ entryOf j) first l
+
+pub entry-high : (j : ℕ) → j ≤ points → entryOf j ≤ 2 ^ suc places
+entry-high j h =
+    let l = between j points (entryOf j) (entryOf points) h (rule j h) (rule points (omega arith)) in
+    subst (λ (t : ℕ). entryOf j ≤ t) last l
 
 -- no more than the whole way from an entry to the next
-pub share-within : (d f : ℕ) → d * (f % steps) / steps ≤ d
-share-within d f = div-le-of-le-mul steps (le-trans (mul-le-mul-left d (le-of-lt (mod-lt f (lit< tt)))) (le-of-eq (mul-comm d steps)))
+pub way-within : (d f : ℕ) → d * (f % steps) / steps ≤ d
+way-within d f =
+    div-le-of-le-mul steps (le-trans (mul-le-mul-left d (le-of-lt (mod-lt f (lit< tt)))) (le-of-eq (mul-comm d steps)))
+
+-- so that a mantissa keeps within the first entry and the last
+pub record IsMantissa (m : ℕ) : Type 0 where
+  pub low : 2 ^ places ≤ m
+  pub high : m ≤ 2 ^ suc places
+
+pub mantissa-size : (f : ℕ) → f < parts → IsMantissa (mantissaOf f)
+mantissa-size f h =
+    let j = f / steps in
+    let k : j < points = omega arith in
+    let l = entry-low j (omega arith) in
+    let r = entry-rises j k in
+    let t = entry-high (suc j) k in
+    let w = way-within (entryOf (suc j) - entryOf j) f in
+    record { low = omega arith; high = omega arith }

@@ -2,25 +2,50 @@
 ghost use mathlib.Core.Path.{_≡_};
 ghost use Prim.Native.Nat.{_*_, _≤_, _<_};
 ghost use lib.IntN.{subℕ};
+ghost use Rattle.volts.specs.Volts.{span};
 ghost use Rattle.octave.specs.Table.{points, parts, entries, entryOf, mantissaOf};
-ghost use Rattle.octave.specs.Position.{positionOf, InRange};
-ghost use Rattle.octave.specs.Gain.{gainOf};
-ghost use Rattle.octave.specs.Worked.{octaveOf, placeOf, reach, Worked, Askable};
+ghost use Rattle.octave.specs.Position.{InRange};
+ghost use Rattle.octave.specs.Exponential.{exponentialOf};
+ghost use Rattle.octave.specs.inner.Reciprocal.{reciprocalOf, noReciprocal, placeOf, Placeable, Askable};
+use volts::SPAN;
 
 // Points of the table in an octave, and steps from one to the next.
 const POINTS: u64 = 64;
 
 const STEPS: u64 = 1024;
 
-// Parts of an octave; the same for 1000 octaves, since octaves are in nanovolts and voltages in microvolts.
-const PARTS: u64 = POINTS * STEPS;
+// Parts of an octave, in which positions count.
+pub const PARTS: u64 = POINTS * STEPS;
 
-const FINE: u64 = 1000 * PARTS;
+// Octaves are in nanovolts and voltages in microvolts.
+const NANOVOLTS: u64 = 1000;
 
-// Voltages are raised by REACH microvolts and positions by BIAS octaves, so that none is negative.
-const REACH: u64 = 5000000;
+const FINE: u64 = NANOVOLTS * PARTS;
 
-const BIAS: u64 = 8192;
+// Positions are raised by BIAS octaves, as voltages are by SPAN, so that none is negative.
+pub const BIAS: u64 = 8192;
+
+// Binary places of a mantissa.
+pub const PLACES: u64 = 30;
+
+// Binary places of the reciprocal: HALF in its lower half, TOP in the other.
+const HALF: u64 = 32;
+
+const TOP: u64 = 22;
+
+const HALF_SPAN: u64 = 1 << HALF;
+
+// Both quotients of the reciprocal take its places in two shifts: one that 64 bits have room for, and the rest of it.
+const SCALE_FIRST: u64 = 37;
+
+const SCALE_THEN: u64 = HALF + TOP - SCALE_FIRST;
+
+const REST_FIRST: u64 = 34;
+
+const REST_THEN: u64 = HALF + TOP - REST_FIRST;
+
+// What makes up for the roundings of a product by a raised voltage.
+const SLACK: u64 = 2 * SPAN + 1;
 
 // The table has both ends of the octave.
 pub const ENTRIES: usize = POINTS as usize + 1;
@@ -95,8 +120,8 @@ const POWERS: Table = [
     2147483648,
 ];
 
-// The octave's reciprocal, 1000 * parts * 2^54 / w, is high * 2^32 + low.
-pub struct Octave {
+// The reciprocal of the octave w, FINE * 2^54 / w, is high * 2^32 + low; base and add raise a position by BIAS.
+pub struct Reciprocal {
     pub w: u32,
     pub high: u32,
     pub low: u32,
@@ -104,10 +129,10 @@ pub struct Octave {
     pub add: u64,
 }
 
-// m, and n raised by 8192.
-pub struct Gain {
-    pub m: u32,
-    pub whole: u32,
+// m, and n raised by BIAS.
+pub struct Exponential {
+    pub m: u64,
+    pub n: u64,
 }
 
 // The table, to be made once for a call and lent.
@@ -117,39 +142,44 @@ pub fn table() -> Table
     POWERS
 }
 
-// The position of v microvolts for the octave w, in parts of it, rounded downward.
-pub fn position(v: i32, w: u32) -> i64
-    ensures { λ r. ⌜ r ≡ positionOf v w ⌝ }
-{
-    whole::floor_quotient(v as i64 * (FINE as i64), w as u64)
-}
-
-// What is worked once for the octave w. The reciprocal FINE * 2^54 / w goes through 37 and 17 places, the rest of the offset through 34 and 20.
-pub fn octave_of(w: u64) -> Octave
+// What is worked once for the octave w.
+pub fn reciprocal_of(w: u64) -> Reciprocal
     requires { ⌜ InRange w ⌝ }
-    ensures { λ r. ⌜ r ≡ octaveOf w ⌝ }
+    ensures { λ r. ⌜ r ≡ reciprocalOf w ⌝ }
 {
-    let scale = whole::share(FINE << 37, 17, w, 9223372036854775808);
-    let offset = w * (BIAS * PARTS) - REACH * FINE;
-    let rest = whole::share(offset % w << 34, 20, w, 9223372036854775808);
-    Octave {
+    let scale = whole::shifted_quotient(FINE << SCALE_FIRST, SCALE_THEN, w, u64::MAX);
+    let offset = w * (BIAS * PARTS) - SPAN * FINE;
+    let rest = whole::shifted_quotient(offset % w << REST_FIRST, REST_THEN, w, u64::MAX);
+    Reciprocal {
         w: w as u32,
-        high: (scale / 4294967296) as u32,
-        low: (scale % 4294967296) as u32,
+        high: (scale / HALF_SPAN) as u32,
+        low: (scale % HALF_SPAN) as u32,
         base: (offset / w) as u32,
-        add: rest + (2 * REACH + 1),
+        add: rest + SLACK,
     }
 }
 
-// The position of u - REACH microvolts, raised by BIAS octaves.
-fn place(u: u64, o: Octave) -> u64
-    requires { ⌜ u ≤ 2 * reach ⌝ }
-    requires { ⌜ Worked o ⌝ }
+// The reciprocal of no octave.
+pub fn no_reciprocal() -> Reciprocal
+    ensures { λ r. ⌜ r ≡ noReciprocal ⌝ }
+{
+    Reciprocal {
+        w: 0,
+        high: 0,
+        low: 0,
+        base: 0,
+        add: 0,
+    }
+}
+
+// The position of u - SPAN microvolts, raised by BIAS octaves, in parts of one and rounded downward.
+pub fn place(u: u64, o: Reciprocal) -> u64
+    requires { ⌜ Placeable u o ⌝ }
     ensures { λ r. ⌜ r ≡ placeOf u (o .w) ⌝ }
 {
     let low = u * (o.low as u64) + o.add;
-    let high = u * (o.high as u64) + (low >> 32);
-    (o.base as u64) + (high >> 22)
+    let high = u * (o.high as u64) + (low >> HALF);
+    (o.base as u64) + (high >> TOP)
 }
 
 fn wide(x: u32) -> u64
@@ -168,7 +198,7 @@ fn entry(t: &Table, j: usize) -> u64
 }
 
 // The mantissa at the part f of an octave.
-fn mantissa(t: &Table, f: u64) -> u32
+fn mantissa(t: &Table, f: u64) -> u64
     requires { ⌜ f < parts ⌝ }
     requires { ⌜ now t ≡ entries ⌝ }
     ensures { λ r. ⌜ r ≡ mantissaOf f ⌝ }
@@ -176,17 +206,17 @@ fn mantissa(t: &Table, f: u64) -> u32
     let j = (f / STEPS) as usize;
     let low = entry(t, j);
     let high = entry(t, j + 1);
-    (low + (high - low) * (f % STEPS) / STEPS) as u32
+    low + (high - low) * (f % STEPS) / STEPS
 }
 
-// The exponential at u - REACH microvolts, for a worked octave.
-pub fn gain_at(t: &Table, u: u64, o: Octave) -> Gain
+// The exponential at u - SPAN microvolts, for an octave's reciprocal.
+pub fn exponential_at(t: &Table, u: u64, o: Reciprocal) -> Exponential
     requires { ⌜ Askable (now t) u o ⌝ }
-    ensures { λ r. ⌜ r ≡ gainOf (subℕ u reach) (o .w) ⌝ }
+    ensures { λ r. ⌜ r ≡ exponentialOf (subℕ u span) (o .w) ⌝ }
 {
     let p = place(u, o);
-    Gain {
+    Exponential {
         m: mantissa(t, p % PARTS),
-        whole: (p / PARTS) as u32,
+        n: p / PARTS,
     }
 }

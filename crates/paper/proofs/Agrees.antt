@@ -1,64 +1,66 @@
 -- Every worked case agrees with the paper's value: one theorem over the whole list, computed by the checker.
 use mathlib.Core.Path.{_≡_, refl, ap, ap₂, _∙_}
-use mathlib.Core.Bool.{false, true, not}
+use mathlib.Core.Bool.{false, true}
 use mathlib.Core.List.{List, [], _∷_, map}
 use Prim.Native.Nat.{ℕ}
 use lib.Dec.{leb}
 use lib.ListN.{take, replicate}
 use lib.IntN.{ℤ, pos, negsuc}
 use lib.Ieee.{ofBits, toBits, lt, eq, ne, le, whole, mul, div, sub, toUnsigned, size}
-use Rattle.refusal.specs.declared.Refusal.the-variants.{Malformed, BadName, NoRoom, NumbersUsedUp}
-use Rattle.float.specs.declared.Split.{Split}
-use Rattle.card.specs.declared.WorkedCard.{WorkedCard}
-use Rattle.card.specs.declared.Judged.{Judged}
-use Rattle.card.specs.declared.Judged.the-variants.{Card}
-use Rattle.card.specs.Record.{finiteUp, rightLength}
-use Rattle.card.specs.Clip.{clippedUp, clippedAt, maskUp}
-use Rattle.card.specs.Judge.{judgeOf, IsWorked}
-use Rattle.card.proofs.Sure.{judged-is-worked}
+use Rattle.refusal.specs.Order.{Verdict, yes}
 use Rattle.name.specs.Name.{asked, padded}
 use Rattle.whole.specs.Root.{rootBits, rootOf}
+use Rattle.volts.specs.Volts.{voltsMost}
 use Rattle.octave.specs.Table.{entries, entryOf}
-use Rattle.branch.specs.Ticks.{expOf}
+use Rattle.float.specs.declared.Split.{Split}
+use Rattle.float.specs.Split.{keptPower}
+use Rattle.card.specs.declared.WorkedCard.{WorkedCard}
+use Rattle.card.specs.Record.{finiteUp}
+use Rattle.card.specs.Clip.{clippedUp, clippedAt, maskUp, clipOf}
+use Rattle.card.specs.Judge.{judgeOf}
+use Rattle.card.specs.inner.Worked.{IsWorked}
+use Rattle.card.proofs.WorkedCards.{judged-is-worked}
+use Rattle.branch.specs.Rows.{roles}
+use Rattle.branch.specs.Ticks.{expOf, rootFor}
 use Rattle.branch.specs.Outcome.{outcomeOf}
-use Rattle.branch.specs.Ready.{readyOf, reach, Askable}
+use Rattle.branch.specs.inner.Ready.{readyOf, Askable}
 use Rattle.branch.proofs.Laws.{askable}
 use Rattle.board.specs.declared.Board.{Board}
-use Rattle.board.specs.Verdict.{cardsMost, unless, afterwards, judgedCard, loadVerdict, placeVerdict, moveVerdict}
+use Rattle.board.specs.Counts.{cardsMost}
+use Rattle.board.specs.Verdict.{loadOrder, loadVerdict, placeVerdict, moveVerdict}
 use Rattle.board.specs.Desk.{overloads, rowsGive, flow, sumOver, anyOf, usedUp}
-use Rattle.board.specs.Model.{first, freeCard, placeGives, placeOverloads, tabulate, totalsOf, freshBoard, loaded, loadedOf, placedOf, movedOf}
+use Rattle.board.specs.Model.{first, freeCard, placeGives, placeOverloads, tabulate, totalsOf, freshBoard, loaded}
+use Rattle.board.specs.Model.{loadedOf, placedOf, movedOf}
 use Rattle.paper.specs.Words.{recordOf}
 use Rattle.paper.specs.Cases.{theCard, theBoard, Case, boardCase, cases}
 
 -- ---- the board: its card is worked once, and the calls go on from that
 
 abbrev none : Split
-none = record { a = 0; up = 2048 }
+none = record { a = 0; down = keptPower (pos 0) }
 
 -- 2^-40, and 2^-38
 abbrev current : Split
-current = record { a = 1073741824; up = 1978 }
+current = record { a = 1073741824; down = keptPower (negsuc 69) }
 
 abbrev ratio : Split
-ratio = record { a = 1073741824; up = 1980 }
+ratio = record { a = 1073741824; down = keptPower (negsuc 67) }
 
 abbrev worked : WorkedCard
-worked = record { sn = current; bulk = current; side = none; nonideal = none; ex = current; sub = none; sf = none; rex = ratio; rsub = ratio; octave = 16000000; second = 16000000; exsub = false; direct = true }
+worked = record { sn = current; bulk = current; side = none; nonideal = none; ex = current; sub = none; sf = none; rex = ratio; rsub = ratio; octave = 16000000; second = 16000000; exsub = false; «rcbli_zero» = true }
 
-card-is : judgeOf (recordOf theCard) ≡ Card worked
-unfolding recordOf judgeOf finiteUp clippedUp clippedAt ofBits lt eq ne le whole mul div sub toUnsigned size
+card-is : judgeOf (recordOf theCard) ≡ yes worked
+unfolding recordOf judgeOf clipOf finiteUp clippedUp clippedAt ofBits lt eq ne le whole mul div sub toUnsigned size
 card-is = refl
 
 abbrev a1 : List ℕ
 a1 = 0x61 ∷ 0x31 ∷ []
 
 -- loading, with the judgement given
-loadedFrom : Judged → Board
-loadedFrom j =
+loadedFrom : Verdict WorkedCard → Board
+loadedFrom judged =
     loaded freshBoard a1
-    (unless (not (rightLength (recordOf theCard))) Malformed
-    (unless (not (asked a1)) BadName
-    (afterwards (afterwards (judgedCard j) (leb cardsMost (freeCard (freshBoard .cards))) NoRoom) (usedUp (freshBoard .next)) NumbersUsedUp)))
+    (loadOrder a1 (recordOf theCard) judged (leb cardsMost (freeCard (freshBoard .cards))) (usedUp (freshBoard .next)))
     .board
 
 runFrom : Board → Board
@@ -69,13 +71,13 @@ board-from : theBoard ≡ runFrom (loadedFrom (judgeOf (recordOf theCard)))
 unfolding theBoard runFrom loadedFrom loadedOf loadVerdict
 board-from = refl
 
-totals-from : take 4 (runFrom (loadedFrom (Card worked)) .totals) ≡ negsuc 2047 ∷ pos 1024 ∷ pos 1024 ∷ pos 0 ∷ []
-unfolding runFrom loadedFrom loadedOf placedOf movedOf freshBoard recordOf entryOf entries expOf rootOf rootBits readyOf outcomeOf asked padded placeVerdict moveVerdict overloads rowsGive flow sumOver anyOf first placeGives placeOverloads tabulate totalsOf
+totals-from : take 4 (runFrom (loadedFrom (yes worked)) .totals) ≡ negsuc 2047 ∷ pos 1024 ∷ pos 1024 ∷ pos 0 ∷ []
+unfolding runFrom loadedFrom loadedOf placedOf movedOf freshBoard recordOf entryOf entries expOf rootFor rootOf rootBits readyOf outcomeOf asked padded placeVerdict moveVerdict overloads rowsGive flow sumOver anyOf first placeGives placeOverloads tabulate totalsOf
 totals-from = refl
 
 board-row : boardCase .worked ≡ boardCase .paper
 unfolding boardCase
-board-row = ap (λ (b : Board). take 4 (b .totals)) (board-from ∙ ap (λ (j : Judged). runFrom (loadedFrom j)) card-is) ∙ totals-from
+board-row = ap (λ (b : Board). take 4 (b .totals)) (board-from ∙ ap (λ (j : Verdict WorkedCard). runFrom (loadedFrom j)) card-is) ∙ totals-from
 
 -- ---- all of them
 
@@ -84,7 +86,7 @@ tail [] = []
 tail (c ∷ rest) = rest
 
 other-rows : map (λ (c : Case). c .worked) (tail cases) ≡ map (λ (c : Case). c .paper) (tail cases)
-unfolding cases entries finiteUp clippedUp clippedAt maskUp ofBits toBits lt eq ne le whole mul div sub toUnsigned size expOf rootOf rootBits
+unfolding cases entries finiteUp clippedUp clippedAt maskUp ofBits toBits lt eq ne le whole mul div sub toUnsigned size expOf rootFor rootOf rootBits
 other-rows = refl
 
 pub paper-agrees : map (λ (c : Case). c .worked) cases ≡ map (λ (c : Case). c .paper) cases
@@ -96,5 +98,5 @@ paper-agrees = ap₂ (λ (l : List ℤ) (ls : List (List ℤ)). l ∷ ls) board-
 pub worked-card : IsWorked worked
 worked-card = judged-is-worked (recordOf theCard) worked card-is
 
-pub askable-card : Askable entries (readyOf worked) (replicate 7 reach)
+pub askable-card : Askable entries (readyOf worked) (replicate roles voltsMost)
 askable-card = askable worked worked-card

@@ -1,18 +1,20 @@
 -- The worked cases that are proved, as one list. Each works a value from the very definitions that the contracts cite; `paper-agrees` in proofs/ is the theorem.
 use mathlib.Core.List.{List, [], _∷_}
 use Prim.Native.Nat.{ℕ}
-use lib.ListN.{getD, take}
+use lib.ListN.{getD, take, replicate}
 use lib.IntN.{ℤ, pos, negsuc}
 use lib.Ieee.{nan, binary64, toBits}
-use Rattle.float.specs.declared.Split.{Split}
-use Rattle.card.specs.declared.Judged.{Judged}
-use Rattle.card.specs.declared.Judged.the-variants.{Card, Refused}
-use Rattle.card.specs.declared.Clipping.{Clipping}
-use Rattle.card.specs.Clip.{clipOf}
-use Rattle.card.specs.Judge.{judgeOf}
+use Rattle.refusal.specs.Order.{Verdict, no, yes}
 use Rattle.octave.specs.Table.{entryOf}
+use Rattle.float.specs.declared.Split.{Split}
+use Rattle.float.specs.Split.{keptPower}
+use Rattle.card.specs.declared.WorkedCard.{WorkedCard}
+use Rattle.card.specs.Limits.{width}
+use Rattle.card.specs.Clip.{clipOf, numbersOf, maskOf}
+use Rattle.card.specs.Judge.{judgeOf}
 use Rattle.branch.specs.declared.Over.{Over}
 use Rattle.branch.specs.declared.Over.the-variants.{Within, Ticks, Injection}
+use Rattle.branch.specs.Rows.{roles}
 use Rattle.branch.specs.Outcome.{outcomeOf}
 use Rattle.board.specs.declared.Board.{Board}
 use Rattle.board.specs.Model.{freshBoard, loadedOf, placedOf, movedOf}
@@ -24,10 +26,10 @@ theCard = wordsOf two-to-minus-40 one 0 one
 
 -- ---- ways of working
 
--- row k, from 1, of a judged card, with the base at v microvolts and every other role at 0
-abbrev pub ticksAt : Judged → ℕ → ℤ → List ℤ
-ticksAt (Refused f) k v = []
-ticksAt (Card c) k v = getD (outcomeOf c (pos 0 ∷ v ∷ v ∷ pos 0 ∷ pos 0 ∷ pos 0 ∷ pos 0 ∷ []) .ticks) k (pos 0) ∷ []
+-- row k, from 0, of a judged card, with the base at v microvolts and every other role at 0
+abbrev pub ticksAt : Verdict WorkedCard → ℕ → ℤ → List ℤ
+ticksAt (no f) k v = []
+ticksAt (yes c) k v = getD (outcomeOf c (pos 0 ∷ v ∷ v ∷ pos 0 ∷ pos 0 ∷ pos 0 ∷ pos 0 ∷ []) .ticks) k (pos 0) ∷ []
 
 -- the ideal value 2^-40 with less-one is row 2 of the paper's card
 unfoldable pub ideal : ℤ → List ℤ
@@ -45,18 +47,18 @@ overNumbers (Ticks k) = pos 15 ∷ pos k ∷ []
 overNumbers (Injection k) = pos 18 ∷ pos k ∷ []
 
 -- the paper's card with this a * 2^b in place of sN, at 0 microvolts throughout
-abbrev pub withSn : Split → Judged → List ℤ
-withSn s (Refused f) = []
-withSn s (Card c) =
+abbrev pub withSn : Split → Verdict WorkedCard → List ℤ
+withSn s (no f) = []
+withSn s (yes c) =
     overNumbers
     (outcomeOf
-    (record { sn = s; bulk = c .bulk; side = c .side; nonideal = c .nonideal; ex = c .ex; sub = c .sub; sf = c .sf; rex = c .rex; rsub = c .rsub; octave = c .octave; second = c .second; exsub = c .exsub; direct = c .direct })
-    (pos 0 ∷ pos 0 ∷ pos 0 ∷ pos 0 ∷ pos 0 ∷ pos 0 ∷ pos 0 ∷ [])
+    (record { sn = s; bulk = c .bulk; side = c .side; nonideal = c .nonideal; ex = c .ex; sub = c .sub; sf = c .sf; rex = c .rex; rsub = c .rsub; octave = c .octave; second = c .second; exsub = c .exsub; «rcbli_zero» = c .«rcbli_zero» })
+    (replicate roles (pos 0))
     .over)
 
--- the mask of a clipping, and the bits of its number i
-abbrev pub clipShows : ℕ → Clipping → List ℤ
-clipShows i c = pos (c .mask) ∷ pos (toBits binary64 (getD (c .numbers) i nan)) ∷ []
+-- the mask of a record's clipping, and the bits of its number i
+abbrev pub clipShows : ℕ → List ℕ → List ℤ
+clipShows i s = pos (maskOf width s) ∷ pos (toBits binary64 (getD (numbersOf width s) i nan)) ∷ []
 
 -- the paper's board: the card loaded as a1, one transistor placed, nodes 1 and 2 moved to 16,000 microvolts
 unfoldable pub theBoard : Board
@@ -90,8 +92,8 @@ cases =
     ∷ record { worked = ideal (negsuc 0); paper = negsuc 0 ∷ [] }
     ∷ record { worked = five (pos 16000); paper = pos 512 ∷ [] }
     ∷ record { worked = five (negsuc 15999); paper = negsuc 373 ∷ [] }
-    ∷ record { worked = withSn (record { a = 1073741825; up = 2021 }) (judgeOf (recordOf theCard)); paper = pos 15 ∷ pos 1 ∷ [] }
-    ∷ record { worked = clipShows 4 (clipOf (recordOf (wordsOf two-to-minus-40 one two one))); paper = pos 16 ∷ pos one ∷ [] }
-    ∷ record { worked = clipShows 4 (clipOf (recordOf (wordsOf two-to-minus-40 one one one))); paper = pos 0 ∷ pos one ∷ [] }
-    ∷ record { worked = clipShows 1 (clipOf (recordOf (wordsOf minus-zero one 0 one))); paper = pos 0 ∷ pos 0 ∷ [] }
+    ∷ record { worked = withSn (record { a = 1073741825; down = keptPower (negsuc 26) }) (judgeOf (recordOf theCard)); paper = pos 15 ∷ pos 1 ∷ [] }
+    ∷ record { worked = clipShows 4 (recordOf (wordsOf two-to-minus-40 one two one)); paper = pos 16 ∷ pos one ∷ [] }
+    ∷ record { worked = clipShows 4 (recordOf (wordsOf two-to-minus-40 one one one)); paper = pos 0 ∷ pos one ∷ [] }
+    ∷ record { worked = clipShows 1 (recordOf (wordsOf minus-zero one 0 one)); paper = pos 0 ∷ pos 0 ∷ [] }
     ∷ []

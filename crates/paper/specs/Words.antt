@@ -1,4 +1,4 @@
--- The cards of the worked cases as sixteen words, and the bytes of their records.
+-- The cards of the worked cases as words, and the bytes of their records.
 use mathlib.Core.List.{List, [], _∷_, _++_}
 use Prim.Native.Nat.{ℕ}
 use Rattle.bytes_le.specs.Le.{bytesOf}
@@ -22,8 +22,8 @@ two-to-minus-40 = 0x3d70000000000000
 abbrev pub two-to-minus-38 : ℕ
 two-to-minus-38 = 0x3d90000000000000
 
--- a card with this I_s, I_k, XI_B1 and beta_ri. The others, in the order of a record: MULT 1, beta_f 1, I_Bf 0, m_Lf 1, I_Ss 0, I_CSs 0, I_ks 1,
--- both resistances 0, EXSUB 0, an octave of 16,000,000 nV, LEVEL 504.
+-- a card with this I_s, I_k, XI_B1 and beta_ri. The others, in the order of a record: MULT 1, beta_f 1, I_Bf 0,
+-- m_Lf 1, I_Ss 0, I_CSs 0, I_ks 1, both resistances 0, EXSUB 0, an octave of 16,000,000 nV, LEVEL 504.
 abbrev pub wordsOf : ℕ → ℕ → ℕ → ℕ → List ℕ
 wordsOf is ik xi bri = one ∷ is ∷ ik ∷ one ∷ xi ∷ 0 ∷ one ∷ bri ∷ 0 ∷ 0 ∷ one ∷ 0 ∷ 0 ∷ 0 ∷ 0x416e848000000000 ∷ 0x407f800000000000 ∷ []
 

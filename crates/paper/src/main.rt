@@ -7,35 +7,36 @@ mod shown; // shown.rt: a line of output
 use board::Answer;
 use board::Answered;
 use board::Board;
+use branch::Admission;
 use branch::Reply;
-use branch::Told;
+use records::RECORD;
 
 // The refusal's number; 0 where there is none.
-fn told_number(t: Told) -> i64 {
-    match t {
-        Told::Given => 0,
-        Told::Refused(f) => refusal::number(f) as i64,
+fn told_number(a: Admission) -> i64 {
+    match a {
+        Admission::Given => 0,
+        Admission::Refused(f) => refusal::number(f) as i64,
     }
 }
 
 // The reply for a record with the base at v microvolts and every other role at 0.
-fn at_base(bytes: [u8; 128], v: i64) -> Reply {
-    branch::currents(&bytes, 0, v, v, 0, 0, 0, 0)
+fn at_base(bytes: [u8; RECORD], v: i64) -> Reply {
+    branch::currents(&bytes, &[0, v, v, 0, 0, 0, 0])
 }
 
-fn refusal_at(bytes: [u8; 128], v: i64) -> i64 {
+fn refusal_at(bytes: [u8; RECORD], v: i64) -> i64 {
     let r = at_base(bytes, v);
-    let t = r.told;
-    told_number(t)
+    let a = r.admission;
+    told_number(a)
 }
 
 // Row 5 at v microvolts.
-fn fifth(bytes: [u8; 128], v: i64) -> i64 {
+fn fifth(bytes: [u8; RECORD], v: i64) -> i64 {
     let r = at_base(bytes, v);
     r.ticks[4]
 }
 
-fn mask_of(bytes: [u8; 128]) -> i64 {
+fn mask_of(bytes: [u8; RECORD]) -> i64 {
     let c = card::clip(&bytes);
     c.mask as i64
 }
@@ -105,14 +106,19 @@ fn run_table() {
     shown::line(b"t_64", b"", wide(t[64]), 2147483648);
 }
 
+// The paper's octave, in nanovolts.
+const OCTAVE: u64 = 16000000;
+
+// The position of -1 microvolt for it.
+fn position() -> i64 {
+    let o = octave::reciprocal_of(OCTAVE);
+    let u = volts::across(volts::ZERO - 1, volts::ZERO);
+    whole::difference(octave::place(u, o), octave::BIAS * octave::PARTS)
+}
+
 fn main() {
     run_table();
-    shown::line(
-        b"position at -1 uV",
-        b"",
-        octave::position(-1, 16000000),
-        -5,
-    );
+    shown::line(b"position at -1 uV", b"", position(), -5);
     shown::line(b"branch 5 at 0 uV", b"", fifth(records::five(), 0), 0);
     shown::line(b"sN = 8 A at 0 uV", b"", refusal_at(records::eight(), 0), 0);
     shown::line(b"XI_B1 = 1 mask", b"", mask_of(records::xi_one()), 0);

@@ -1,3 +1,4 @@
 pub mod Told
 pub mod Order
+pub mod Clash
 pub mod Unique

@@ -1,11 +1,11 @@
--- The order of a call's refusals: one test after the other, each with the refusal that it draws; and what the call tells of its verdict.
-use mathlib.Core.Path.{_≡_, refl, sym, ap}
+-- The order of a call's refusals: test after test, each with the refusal that it draws; and what is told of it.
+use mathlib.Core.Path.{_≡_, refl, ap}
 use mathlib.Core.Bool.{Bool, true, false}
 use mathlib.Core.List.{List}
 use Prim.Native.Nat.{ℕ}
-use native.Mathlib.Omega.{arith}
 use Rattle.refusal.specs.declared.Refusal.{Refusal}
 use Rattle.refusal.specs.Told.{numberOf, told, told-injective}
+use Rattle.refusal.specs.Clash.{clash}
 
 -- a refusal, or what the call goes on with
 pub data Verdict (A : Type 0) : Type 0 where
@@ -48,11 +48,29 @@ numberIf false n next = next
 -- what is told leaves no two verdicts
 pub tells-one : {A : Type 0} (v w : Verdict A) → tells v ≡ tells w → v ≡ w
 tells-one (no f) (no g) e = let h : told f ≡ told g = cc in ap no (told-injective f g h)
-tells-one (no f) (yes b) e = let z : _≡_ {A = ℕ} 0 1 = cc in absurd (omega arith)
-tells-one (yes a) (no g) e = let z : _≡_ {A = ℕ} 0 1 = cc in absurd (omega arith)
+tells-one (no f) (yes b) e = clash cc
+tells-one (yes a) (no g) e = clash cc
 tells-one (yes a) (yes b) e = cc
 
 -- a test that is true draws its refusal, with its number; one that is not leaves what comes after
-pub number-if : {A : Type 0} (b : Bool) (f : Refusal) (v : Verdict A) (n : ℕ) → numberTold v ≡ n → numberTold (refuseIf b f v) ≡ numberIf b (numberOf f) n
+pub number-if : {A : Type 0} (b : Bool) (f : Refusal) (v : Verdict A) (n : ℕ) → numberTold v ≡ n
+    → numberTold (refuseIf b f v) ≡ numberIf b (numberOf f) n
 number-if true f v n e = refl
 number-if false f v n e = e
+
+-- the same, without a name for the number of what comes after
+pub number-first : {A : Type 0} (b : Bool) (f : Refusal) (v : Verdict A)
+    → numberTold (refuseIf b f v) ≡ numberIf b (numberOf f) (numberTold v)
+number-first b f v = number-if b f v (numberTold v) refl
+
+-- what is given has passed the test
+pub passes-if : {A : Type 0} (b : Bool) (f : Refusal) (v : Verdict A) (a : A) → refuseIf b f v ≡ yes a
+    → (b ≡ false) × (v ≡ yes a)
+passes-if true f v a e = clash cc
+passes-if false f v a e = (refl, e)
+
+-- a test of the earlier verdict comes first in the whole order too
+pub then-if : {A B : Type 0} (b : Bool) (f : Refusal) (v : Verdict A) (next : A → Verdict B)
+    → andThen (refuseIf b f v) next ≡ refuseIf b f (andThen v next)
+then-if true f v next = refl
+then-if false f v next = refl

@@ -1,6 +1,7 @@
+-- Laws over plain values that the proofs of functions cite.
 pub mod Texts
 pub mod Ranges
 pub mod Numerals
-pub mod Passing
-pub mod Twos
+pub mod ByteLoops
+pub mod HexPairs
 pub mod Listed

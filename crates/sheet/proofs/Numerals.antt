@@ -16,11 +16,11 @@ use mir.Syntax.{w64}
 use mir.Val.{SFits, toZ, ofZ}
 use Rattle.whole.proofs.Halves.{back}
 use lib.IntN.{ℤ, pos, negsuc, negℤ, natAbs}
-use Rattle.sheet.specs.Digits.{glyphOf, digitsOf, plainDigits, decimalOf, signOf, belowZero, openedOf, signedDigits, picoOf, ampereDigits}
+use Rattle.sheet.specs.Digits.{glyphOf, digitsOf, plainDigits, decimalOf, signOf, belowZero, openedOf, signedDigits, picoOf, ampereDigits, decimals}
 use Rattle.sheet.specs.Lines.{readingOf}
 use Rattle.sheet.specs.declared.Parsed.{Parsed}
 use Rattle.sheet.specs.declared.Parsed.the-variants.{Number, Nothing}
-use Rattle.sheet.specs.Number.{allDigits, valueOf, nearest, parsedWith, parsedAfter, parsedOf}
+use Rattle.sheet.specs.Number.{allDigits, decimalValue, nearest, parsedWith, parsedAfter, parsedOf, firstBeyond}
 use Rattle.sheet.proofs.Texts.{then}
 
 -- ---- a digit after those before it
@@ -28,7 +28,9 @@ use Rattle.sheet.proofs.Texts.{then}
 digits-more : (b k x : ℕ) → 0 < k → digitsOf b k x ≡ digitsOf b (k - 1) (x / b) ++ glyphOf (x % b) ∷ []
 unfolding digitsOf
 digits-more b zero x h = absurd (not-suc-le-zero h)
-digits-more b (suc k) x h = let e : k ≡ suc k - 1 = omega arith in ap (λ (n : ℕ). digitsOf b n (x / b) ++ glyphOf (x % b) ∷ []) e
+digits-more b (suc k) x h =
+    let e : k ≡ suc k - 1 = omega arith in
+    ap (λ (n : ℕ). digitsOf b n (x / b) ++ glyphOf (x % b) ∷ []) e
 
 plain-one : (k x : ℕ) → 0 < k → x < 10 → plainDigits k x ≡ glyphOf x ∷ []
 unfolding plainDigits
@@ -38,37 +40,46 @@ plain-one (suc k) x h l = rw (lt-ltb x 10 l)
 plain-more : (k x : ℕ) → 0 < k → 10 ≤ x → plainDigits k x ≡ plainDigits (k - 1) (x / 10) ++ glyphOf (x % 10) ∷ []
 unfolding plainDigits
 plain-more zero x h l = absurd (not-suc-le-zero h)
-plain-more (suc k) x h l = let e : k ≡ suc k - 1 = omega arith in rw (le-ltb x 10 l) (ap (λ (n : ℕ). plainDigits n (x / 10) ++ glyphOf (x % 10) ∷ []) e)
+plain-more (suc k) x h l =
+    let e : k ≡ suc k - 1 = omega arith in
+    rw (le-ltb x 10 l) (ap (λ (n : ℕ). plainDigits n (x / 10) ++ glyphOf (x % 10) ∷ []) e)
 
 module _ {t r s : Text} {g : ℕ} (k x : ℕ) (h : 0 < k) where
-  pub spell-on : (b : ℕ) → Adds t (digitsOf b (k - 1) (x / b)) r → g ≡ glyphOf (x % b) → Adds r (g ∷ []) s → Adds t (digitsOf b k x) s
+  pub spell-on : (b : ℕ) → Adds t (digitsOf b (k - 1) (x / b)) r → g ≡ glyphOf (x % b) → Adds r (g ∷ []) s
+      → Adds t (digitsOf b k x) s
   spell-on b p e q = rw (digits-more b k x h) (then p (rw e at q))
 
-  pub plain-on : 10 ≤ x → Adds t (plainDigits (k - 1) (x / 10)) r → g ≡ glyphOf (x % 10) → Adds r (g ∷ []) s → Adds t (plainDigits k x) s
+  pub plain-on : 10 ≤ x → Adds t (plainDigits (k - 1) (x / 10)) r → g ≡ glyphOf (x % 10) → Adds r (g ∷ []) s
+      → Adds t (plainDigits k x) s
   plain-on l p e q = rw (plain-more k x h l) (then p (rw e at q))
 
-pub plain-last : {t s : Text} {g : ℕ} (k x : ℕ) → 0 < k → x < 10 → g ≡ glyphOf x → Adds t (g ∷ []) s → Adds t (plainDigits k x) s
+pub plain-last : {t s : Text} {g : ℕ} (k x : ℕ) → 0 < k → x < 10 → g ≡ glyphOf x → Adds t (g ∷ []) s
+    → Adds t (plainDigits k x) s
 plain-last k x h l e q = rw (plain-one k x h l) (rw e at q)
 
 -- ---- a number held among those of 64 bits
 
-pub near-below : (x : ℕ) → x ≤ 2 ^ 63 → (x ≡ 0 → ⊥) → negsuc (x - 1) ≡ nearest true x
+pub near-below : (x : ℕ) → x ≤ firstBeyond → (x ≡ 0 → ⊥) → negsuc (x - 1) ≡ nearest true x
 near-below zero h n = absurd (n refl)
-near-below (suc x) h n = let e : min (suc x) (2 ^ 63) ≡ suc x = omega arith in rw e (ap negsuc (omega arith))
+near-below (suc x) h n = let e : min (suc x) firstBeyond ≡ suc x = omega arith in rw e (ap negsuc (omega arith))
 
 pub near-zero : (x : ℕ) → x ≡ 0 → pos 0 ≡ nearest true x
 near-zero x e = rw e
 
-pub near-inside : (x : ℕ) → x < 2 ^ 63 → pos x ≡ nearest false x
-near-inside x h = let e : x ≡ min x (2 ^ 63 - 1) = omega arith in ap pos e
+pub near-inside : (x : ℕ) → x < firstBeyond → pos x ≡ nearest false x
+near-inside x h = let e : x ≡ min x (firstBeyond - 1) = omega arith in ap pos e
 
-pub near-end : (x : ℕ) → 2 ^ 63 ≤ x → pos (2 ^ 63 - 1) ≡ nearest false x
-near-end x h = let e : 2 ^ 63 - 1 ≡ min x (2 ^ 63 - 1) = omega arith in ap pos e
+pub near-end : (x : ℕ) → firstBeyond ≤ x → pos (firstBeyond - 1) ≡ nearest false x
+near-end x h = let e : firstBeyond - 1 ≡ min x (firstBeyond - 1) = omega arith in ap pos e
 
--- held at 2^63 a number is as near to them as before
-pub held-near : (below : Bool) (n : ℕ) → nearest below (min n (2 ^ 63)) ≡ nearest below n
-held-near false n = let e : min (min n (2 ^ 63)) (2 ^ 63 - 1) ≡ min n (2 ^ 63 - 1) = omega arith in ap pos e
-held-near true n = let e : min (min n (2 ^ 63)) (2 ^ 63) ≡ min n (2 ^ 63) = omega arith in ap (λ (m : ℕ). negℤ (pos m)) e
+-- held at the first beyond them a number is as near to them as before
+pub held-near : (below : Bool) (n : ℕ) → nearest below (min n firstBeyond) ≡ nearest below n
+held-near false n =
+    let e : min (min n firstBeyond) (firstBeyond - 1) ≡ min n (firstBeyond - 1) = omega arith in
+    ap pos e
+held-near true n =
+    let e : min (min n firstBeyond) firstBeyond ≡ min n firstBeyond = omega arith in
+    ap (λ (m : ℕ). negℤ (pos m)) e
 
 -- ---- signed numbers in digits
 
@@ -77,7 +88,8 @@ module _ {t r : Text} (v : ℤ) (h : SFits w64 v) where
   pub as-given : (f : ℤ → List ℕ) → Adds t (f (toZ w64 (ofZ w64 v))) r → Adds t (f v) r
   as-given f a = subst (λ (z : ℤ). Adds t (f z) r) (back v h) a
 
-  pub as-read : (n : ℕ) (w : ℤ) → SFits w64 w → Adds t (readingOf n (toZ w64 (ofZ w64 v)) (toZ w64 (ofZ w64 w))) r → Adds t (readingOf n v w) r
+  pub as-read : (n : ℕ) (w : ℤ) → SFits w64 w → Adds t (readingOf n (toZ w64 (ofZ w64 v)) (toZ w64 (ofZ w64 w))) r
+      → Adds t (readingOf n v w) r
   as-read n w k a = rw (back v h, back w k) at a
 
 module _ {t r s : Text} {o : Opened} (z : ℤ) (e : o ≡ openedOf z) where
@@ -85,7 +97,8 @@ module _ {t r s : Text} {o : Opened} (z : ℤ) (e : o ≡ openedOf z) where
   signed-done p q = then (rw (ap (λ (u : Opened). u .below) e) at p) (rw (ap (λ (u : Opened). u .size) e) at q)
 
   -- the steps of a current: its picoamperes, whether a sign is shown, the sign, then the rest
-  pub amperes-done : {n : ℕ} {m : Bool} → n ≡ picoOf (o .size) → m ≡ (o .below && ltb 0 n) → Adds t (signOf m) r → Adds r (decimalOf (n / 10 ^ 12) ++ 46 ∷ digitsOf 10 12 n) s → Adds t (ampereDigits z) s
+  pub amperes-done : {n : ℕ} {m : Bool} → n ≡ picoOf (o .size) → m ≡ (o .below && ltb 0 n) → Adds t (signOf m) r
+      → Adds r (decimalOf (n / 10 ^ decimals) ++ 46 ∷ digitsOf 10 decimals n) s → Adds t (ampereDigits z) s
   amperes-done f g p q =
       let size : o .size ≡ natAbs z = ap (λ (u : Opened). u .size) e in
       let below : o .below ≡ belowZero z = ap (λ (u : Opened). u .below) e in
@@ -102,9 +115,11 @@ module _ (s : List ℕ) (below : Bool) where
   unfolding parsedWith
   bad-numeral e h = rw (lt-ltb 0 (length s) h, ← e)
 
-  pub good-numeral : true ≡ allDigits s → 0 < length s → {x : ℕ} → x ≡ min (valueOf s) (2 ^ 63) → {z : ℤ} → z ≡ nearest below x → Number z ≡ parsedWith below s
+  pub good-numeral : true ≡ allDigits s → 0 < length s → {x : ℕ} → x ≡ min (decimalValue s) firstBeyond → {z : ℤ}
+      → z ≡ nearest below x → Number z ≡ parsedWith below s
   unfolding parsedWith
-  good-numeral e h f g = rw (lt-ltb 0 (length s) h, ← e) (ap Number (g ∙ ap (nearest below) f ∙ held-near below (valueOf s)))
+  good-numeral e h f g =
+      rw (lt-ltb 0 (length s) h, ← e) (ap Number (g ∙ ap (nearest below) f ∙ held-near below (decimalValue s)))
 
 module _ (w : List ℕ) where
   pub no-numeral : length w ≡ 0 → Nothing ≡ parsedOf w
@@ -115,9 +130,12 @@ module _ (w : List ℕ) where
       by [] e = refl
       by (b ∷ w) e = absurd (omega arith)
 
-  pub with-minus : {r : Parsed} → getD w 0 0 ≡ 45 → r ≡ parsedWith true (take (length w - 1) (drop 1 w)) → r ≡ parsedOf w
+  pub with-minus : {r : Parsed} → getD w 0 0 ≡ 45 → r ≡ parsedWith true (take (length w - 1) (drop 1 w))
+      → r ≡ parsedOf w
   unfolding parsedOf
-  with-minus z e = rw (eq-eqb (getD w 0 0) 45 z) (e ∙ ap (parsedWith true) (take-all (length w - 1) (drop 1 w) (rw length-drop (le-refl _))))
+  with-minus z e =
+      rw (eq-eqb (getD w 0 0) 45 z)
+      (e ∙ ap (parsedWith true) (take-all (length w - 1) (drop 1 w) (rw length-drop (le-refl _))))
 
   pub without-minus : {r : Parsed} → (getD w 0 0 ≡ 45 → ⊥) → r ≡ parsedWith false w → r ≡ parsedOf w
   unfolding parsedOf

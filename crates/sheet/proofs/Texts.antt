@@ -29,7 +29,8 @@ unfolding appended
 one e = record { sum = sym e }
 
 pub then : {t r s : Text} {a b : List ℕ} → Adds t a r → Adds r b s → Adds t (a ++ b) s
-then {t} {a = a} {b = b} p q = record { sum = q .sum ∙ ap (λ (u : Text). appended u b) (p .sum) ∙ sym (append-two t a b) }
+then {t} {a = a} {b = b} p q =
+    record { sum = q .sum ∙ ap (λ (u : Text). appended u b) (p .sum) ∙ sym (append-two t a b) }
 
 -- ---- what has been gathered from nothing on is the text
 
@@ -76,7 +77,9 @@ module _ (m : List ℕ) (b : ℕ) where
 append-text : (m l : List ℕ) → appended (textOf m) l ≡ textOf (m ++ l)
 unfolding appended
 append-text m [] = ap textOf (sym (append-nil m))
-append-text m (b ∷ l) = ap (λ (t : Text). appended t l) (push-text m b) ∙ append-text (m ++ b ∷ []) l ∙ ap textOf (append-assoc m (b ∷ []) l)
+append-text m (b ∷ l) =
+    ap (λ (t : Text). appended t l) (push-text m b) ∙ append-text (m ++ b ∷ []) l ∙ ap textOf
+    (append-assoc m (b ∷ []) l)
 
 pub gathered : {t r : Text} {l : List ℕ} → t ≡ emptyText → Adds t l r → r ≡ textOf l
 unfolding textOf

@@ -6,6 +6,24 @@ use lib.Dec.{ltb}
 use lib.IntN.{ℤ, pos, negsuc, natAbs}
 use Rattle.sheet.specs.declared.digits.Opened.{Opened}
 
+-- how many hexadecimal digits a clip mask has, and a word of 64 bits
+abbrev pub maskDigits : ℕ
+maskDigits = 4
+
+abbrev pub wordDigits : ℕ
+wordDigits = 16
+
+-- how many decimal digits a number of 64 bits has at most
+abbrev pub mostDigits : ℕ
+mostDigits = 20
+
+-- how many ticks an ampere has, and with how many decimals it is printed
+abbrev pub ampereTicks : ℕ
+ampereTicks = 2 ^ 50
+
+abbrev pub decimals : ℕ
+decimals = 12
+
 -- the byte of a digit below sixteen: 0 to 9, then a to f
 abbrev pub glyphOf : ℕ → ℕ
 glyphOf d = cond (ltb d 10) (48 + d) (87 + d)
@@ -23,9 +41,9 @@ unfoldable pub plainDigits : ℕ → ℕ → List ℕ
 plainDigits zero n = []
 plainDigits (suc k) n = cond (ltb n 10) (glyphOf n ∷ []) (plainDigits k (n / 10) ++ glyphOf (n % 10) ∷ [])
 
--- of a number of 64 bits, which has at most twenty
+-- of a number of 64 bits
 abbrev pub decimalOf : ℕ → List ℕ
-decimalOf n = plainDigits 20 n
+decimalOf n = plainDigits mostDigits n
 
 -- a minus sign, where there is to be one
 abbrev pub signOf : Bool → List ℕ
@@ -42,12 +60,12 @@ openedOf z = record { below = belowZero z; size = natAbs z }
 abbrev pub signedDigits : ℤ → List ℕ
 signedDigits z = signOf (belowZero z) ++ decimalOf (natAbs z)
 
--- n ticks of 2^-50 ampere in whole picoamperes, cut
+-- n ticks in whole picoamperes, the last decimal, cut
 abbrev pub picoOf : ℕ → ℕ
-picoOf n = n * 10 ^ 12 / 2 ^ 50
+picoOf n = n * 10 ^ decimals / ampereTicks
 
--- ticks as amperes with twelve decimals, cut toward zero: a minus sign only where some digit is not zero
+-- ticks as amperes with their decimals, cut toward zero: a minus sign only where some digit is not zero
 abbrev pub ampereDigits : ℤ → List ℕ
 ampereDigits z =
     signOf (belowZero z && ltb 0 (picoOf (natAbs z)))
-    ++ (decimalOf (picoOf (natAbs z) / 10 ^ 12) ++ 46 ∷ digitsOf 10 12 (picoOf (natAbs z)))
+    ++ (decimalOf (picoOf (natAbs z) / 10 ^ decimals) ++ 46 ∷ digitsOf 10 decimals (picoOf (natAbs z)))

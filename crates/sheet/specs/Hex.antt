@@ -1,12 +1,14 @@
 -- Bytes in a word: two hex digits for each, or `-` for none.
 use mathlib.Core.Path.{_≡_}
 use mathlib.Core.Bool.{Bool, true, false, cond, _&&_, _||_}
-use mathlib.Core.List.{List, [], _∷_, _++_}
+use mathlib.Core.List.{List, [], _∷_}
 use Prim.Native.Nat.{ℕ, _+_, _*_, _-_, _/_}
 use lib.Dec.{eqb, leb}
-use lib.ListN.{length, drop, getD}
+use lib.ListN.{length, getD}
+use Rattle.bytes_le.specs.Buffer.{over}
 use Rattle.sheet.specs.declared.Hex.{Hex}
 use Rattle.sheet.specs.declared.Hex.the-variants.{Bytes, Bad}
+use Rattle.sheet.specs.Lines.{space}
 
 abbrev pub between : ℕ → ℕ → ℕ → Bool
 between low b high = leb low b && leb b high
@@ -34,10 +36,6 @@ isDash w = eqb (length w) 1 && eqb (getD w 0 0) 45
 -- a word that spells bytes: a dash, or pairs of digits, for no more bytes than there is room for
 unfoldable pub spells : List ℕ → ℕ → Bool
 spells w space = isDash w || (leb (length w / 2) space && allPairs w)
-
--- new, and after it what old has there
-abbrev pub over : List ℕ → List ℕ → List ℕ
-over new old = new ++ drop (length new) old
 
 abbrev pub hexIf : Bool → ℕ → Hex
 hexIf true n = Bytes n

@@ -4,10 +4,11 @@ use mathlib.Core.List.{List, [], _∷_, _++_}
 use Prim.Native.Nat.{ℕ}
 use lib.Dec.{eqb, leb}
 use lib.IntN.{ℤ}
-use Rattle.card.specs.Clip.{clipOf}
+use Rattle.refusal.specs.Order.{numberTold}
+use Rattle.card.specs.Limits.{width}
+use Rattle.card.specs.Clip.{maskOf}
 use Rattle.card.specs.Judge.{judgeOf}
-use Rattle.card.specs.Told.{judgedNumber}
-use Rattle.sheet.specs.Digits.{hexDigits, decimalOf, signedDigits, ampereDigits}
+use Rattle.sheet.specs.Digits.{maskDigits, hexDigits, decimalOf, signedDigits, ampereDigits}
 
 abbrev pub space : ℕ
 space = 32
@@ -30,11 +31,12 @@ listedMask number mask = cond (leb 6 number && leb number 10) 0 mask
 
 -- a card's name, which has no padding, its mask and its number
 abbrev pub cardLine : List ℕ → ℕ → ℕ → List ℕ
-cardLine name mask number = name ++ (space ∷ (hexDigits 4 (listedMask number mask) ++ (space ∷ (decimalOf number ++ newline ∷ []))))
+cardLine name mask number =
+    name ++ (space ∷ (hexDigits maskDigits (listedMask number mask) ++ (space ∷ (decimalOf number ++ newline ∷ []))))
 
 -- the listing of a card: the mask that clipping its record gives, and 0 or the number by which loading refuses it
 unfoldable pub listingLine : List ℕ → List ℕ → List ℕ
-listingLine name bytes = cardLine name (clipOf bytes .mask) (judgedNumber (judgeOf bytes))
+listingLine name bytes = cardLine name (maskOf width bytes) (numberTold (judgeOf bytes))
 
 -- a node's number, its microvolts and its ticks
 unfoldable pub readingOf : ℕ → ℤ → ℤ → List ℕ

@@ -19,18 +19,23 @@ allDigits [] = true
 allDigits (b ∷ l) = isDigit b && allDigits l
 
 -- the number that digits spell after x
-unfoldable pub valueFrom : ℕ → List ℕ → ℕ
-valueFrom x [] = x
-valueFrom x (b ∷ l) = valueFrom (10 * x + digitOf b) l
+unfoldable pub decimalFrom : ℕ → List ℕ → ℕ
+decimalFrom x [] = x
+decimalFrom x (b ∷ l) = decimalFrom (10 * x + digitOf b) l
 
-abbrev pub valueOf : List ℕ → ℕ
-valueOf l = valueFrom 0 l
+abbrev pub decimalValue : List ℕ → ℕ
+decimalValue l = decimalFrom 0 l
 
--- the signed number of 64 bits nearest to n, or to -n: itself, unless it is beyond them. The two ends, -2^63 and 2^63 - 1, are no card, transistor,
+-- the first size that no signed number of 64 bits above zero has
+abbrev pub firstBeyond : ℕ
+firstBeyond = 2 ^ 63
+
+-- the signed number of 64 bits nearest to n, or to -n: itself, unless it is beyond them. The two ends, -2^63 and 2^63
+-- - 1, are no card, transistor,
 -- node or voltage, so that a number beyond them is refused as they are.
 abbrev pub nearest : Bool → ℕ → ℤ
-nearest false n = pos (min n (2 ^ 63 - 1))
-nearest true n = negℤ (pos (min n (2 ^ 63)))
+nearest false n = pos (min n (firstBeyond - 1))
+nearest true n = negℤ (pos (min n firstBeyond))
 
 abbrev pub parsedIf : Bool → ℤ → Parsed
 parsedIf true z = Number z
@@ -38,7 +43,7 @@ parsedIf false z = Nothing
 
 -- digits, at least one, with or without a minus sign before them
 unfoldable pub parsedWith : Bool → List ℕ → Parsed
-parsedWith below l = parsedIf (ltb 0 (length l) && allDigits l) (nearest below (valueOf l))
+parsedWith below l = parsedIf (ltb 0 (length l) && allDigits l) (nearest below (decimalValue l))
 
 abbrev pub parsedAfter : Bool → List ℕ → Parsed
 parsedAfter true w = parsedWith true (drop 1 w)

@@ -10,7 +10,8 @@ use Rattle.sheet.specs.declared.Text.{Text}
 abbrev pub room : ℕ
 room = 104
 
--- the text of a list of bytes: those that there is room for, and zeros after them (`text-whole` in specs/Room: each line has room)
+-- the text of a list of bytes: those that there is room for, and zeros after them (`text-whole` in
+-- specs/laws/LinesFit: each line has room)
 unfoldable pub textOf : List ℕ → Text
 textOf l = record { bytes = take room l ++ replicate (room - length l) 0; len = length (take room l) }
 

@@ -9,6 +9,19 @@ use crate::Text;
 use crate::gather;
 use whole::Int;
 
+// How many decimal digits a number of 64 bits has at most.
+const MOST_DIGITS: usize = 20;
+
+// How many ticks an ampere has, how many picoamperes, and with how many decimals it is printed.
+const AMPERE_TICKS: u64 = 1125899906842624;
+
+const AMPERE_PICOS: u64 = 1000000000000;
+
+const DECIMALS: usize = 12;
+
+// Four decimals of an ampere.
+const FOUR: u64 = 10000;
+
 // A signed number: whether it is below zero, and its size.
 struct Opened {
     below: bool,
@@ -58,7 +71,7 @@ fn plain(t: Text, x: u64, k: usize) -> Text
 pub(crate) fn decimal(t: Text, x: u64) -> Text
     ensures { λ r. ⌜ Adds t (decimalOf x) r ⌝ }
 {
-    plain(t, x, 20)
+    plain(t, x, MOST_DIGITS)
 }
 
 fn sign(t: Text, below: bool) -> Text
@@ -93,12 +106,12 @@ pub(crate) fn signed(t: Text, v: i64) -> Text
 fn picoamperes(t: u64) -> u64
     ensures { λ r. ⌜ r ≡ picoOf t ⌝ }
 {
-    let a = t % 1125899906842624 * 10000;
-    let b = a % 1125899906842624 * 10000;
-    let c = b % 1125899906842624 * 10000;
-    let high = t / 1125899906842624 * 10000 + a / 1125899906842624;
-    let low = b / 1125899906842624 * 10000 + c / 1125899906842624;
-    high * 100000000 + low
+    let a = t % AMPERE_TICKS * FOUR;
+    let b = a % AMPERE_TICKS * FOUR;
+    let c = b % AMPERE_TICKS * FOUR;
+    let high = t / AMPERE_TICKS * FOUR + a / AMPERE_TICKS;
+    let low = b / AMPERE_TICKS * FOUR + c / AMPERE_TICKS;
+    high * FOUR * FOUR + low
 }
 
 // Whether a current of p picoamperes is shown with a minus sign.
@@ -114,7 +127,7 @@ pub(crate) fn amperes(t: Text, ticks: i64) -> Text
     let s = open(ticks);
     let p = picoamperes(s.size);
     let signed = sign(t, shows_minus(s.below, p));
-    let above = decimal(signed, p / 1000000000000);
+    let above = decimal(signed, p / AMPERE_PICOS);
     let point = gather::push(above, b'.');
-    spell(point, p, 10, 12)
+    spell(point, p, 10, DECIMALS)
 }

@@ -1,7 +1,7 @@
 // What the desk's programs print and parse. A text that is printed comes back as bytes with their count; a word that is parsed is lent.
 ghost use mathlib.Core.Path.{_≡_};
 ghost use Rattle.sheet.specs.Text.{textOf};
-ghost use Rattle.sheet.specs.Digits.{hexDigits};
+ghost use Rattle.sheet.specs.Digits.{maskDigits, wordDigits, hexDigits};
 ghost use Rattle.sheet.specs.Lines.{labelLine, unpadded, listingLine, nodeLine, sheetLine};
 ghost use Rattle.sheet.specs.Number.{parsedOf};
 ghost use Rattle.sheet.specs.Hex.{ReadsHex};
@@ -11,6 +11,11 @@ mod digits; // digits.rt: numbers in digits
 mod lines; // lines.rt: what a line is made of
 mod numeral; // numeral.rt: a decimal numeral read
 mod pairs; // pairs.rt: hex digits read in pairs
+
+// How many hexadecimal digits a clip mask has, and a word of 64 bits.
+const MASK_DIGITS: usize = 4;
+
+const WORD_DIGITS: usize = 16;
 
 // Room for the longest line.
 pub const ROOM: usize = 104;
@@ -43,18 +48,18 @@ pub fn label_line(label: &[u8], n: u64) -> Text
     gather::push(number, b'\n')
 }
 
-// A clip mask: four hex digits.
+// A clip mask in hex digits.
 pub fn mask_digits(mask: u32) -> Text
-    ensures { λ r. ⌜ r ≡ textOf (hexDigits 4 mask) ⌝ }
+    ensures { λ r. ⌜ r ≡ textOf (hexDigits maskDigits mask) ⌝ }
 {
-    digits::hex(gather::empty(), mask as u64, 4)
+    digits::hex(gather::empty(), mask as u64, MASK_DIGITS)
 }
 
-// A word of 64 bits: sixteen hex digits.
+// A word of 64 bits in hex digits.
 pub fn word_digits(word: u64) -> Text
-    ensures { λ r. ⌜ r ≡ textOf (hexDigits 16 word) ⌝ }
+    ensures { λ r. ⌜ r ≡ textOf (hexDigits wordDigits word) ⌝ }
 {
-    digits::hex(gather::empty(), word, 16)
+    digits::hex(gather::empty(), word, WORD_DIGITS)
 }
 
 // A name without its padding: the part before the first zero.
@@ -79,7 +84,7 @@ pub fn listing_line(name: &[u8], bytes: &[u8]) -> Text
     let mask = lines::listed_mask(number, card::clip(bytes).mask);
     let named = gather::append(gather::empty(), name);
     let spaced = gather::push(named, b' ');
-    let masked = digits::hex(spaced, mask as u64, 4);
+    let masked = digits::hex(spaced, mask as u64, MASK_DIGITS);
     let parted = gather::push(masked, b' ');
     let numbered = digits::decimal(parted, number as u64);
     gather::push(numbered, b'\n')

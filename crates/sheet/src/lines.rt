@@ -1,7 +1,7 @@
 // What the lines are made of.
 ghost use mathlib.Core.Path.{_≡_};
+ghost use Rattle.refusal.specs.Order.{numberTold};
 ghost use Rattle.card.specs.Judge.{judgeOf};
-ghost use Rattle.card.specs.Told.{judgedNumber};
 ghost use Rattle.sheet.specs.Text.{Adds};
 ghost use Rattle.sheet.specs.Lines.{listedMask, readingOf};
 use crate::Text;
@@ -11,7 +11,7 @@ use card::Judged;
 
 // The number that loading gives of a record: 0 where it takes it.
 pub(crate) fn judged(bytes: &[u8]) -> u32
-    ensures { λ r. ⌜ r ≡ judgedNumber (judgeOf (now (bytes .entry))) ⌝ }
+    ensures { λ r. ⌜ r ≡ numberTold (judgeOf (now (bytes .entry))) ⌝ }
 {
     match card::judge(bytes) {
         Judged::Card(_) => 0,

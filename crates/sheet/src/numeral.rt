@@ -1,9 +1,14 @@
 // A decimal numeral of any length.
 ghost use mathlib.Core.Path.{_≡_};
-ghost use Prim.Native.Nat.{_+_, _*_, _^_, _≤_, min};
-ghost use Rattle.sheet.specs.Number.{isDigit, digitOf, allDigits, valueOf, nearest, parsedWith};
+ghost use Prim.Native.Nat.{_+_, _*_, _≤_, min};
+ghost use Rattle.sheet.specs.Number.{firstBeyond, isDigit, digitOf, allDigits, decimalValue, nearest, parsedWith};
 use crate::Parsed;
 use whole::Int;
+
+// The first size that no signed number of 64 bits above zero has, and the number before it.
+const BEYOND: u64 = 9223372036854775808;
+
+const LAST: i64 = 9223372036854775807;
 
 fn is_digit(b: u8) -> bool
     ensures { λ r. ⌜ r ≡ isDigit b ⌝ }
@@ -37,25 +42,21 @@ fn all_digits(s: &[u8]) -> bool
     true
 }
 
-// x with a digit after it, held at 2^63.
+// x with a digit after it, held at the first beyond.
 fn longer(x: u64, d: u64) -> u64
     requires { ⌜ d ≤ 9 ⌝ }
-    ensures { λ r. ⌜ r ≡ min (10 * x + d) (2 ^ 63) ⌝ }
+    ensures { λ r. ⌜ r ≡ min (10 * x + d) firstBeyond ⌝ }
 {
-    if 922337203685477580 < x {
-        return 9223372036854775808;
+    if BEYOND / 10 < x {
+        return BEYOND;
     }
     let y = 10 * x + d;
-    if 9223372036854775808 < y {
-        9223372036854775808
-    } else {
-        y
-    }
+    if BEYOND < y { BEYOND } else { y }
 }
 
-// The value of the digits, held at 2^63.
+// The value of the digits, held at the first beyond.
 fn value(s: &[u8]) -> u64
-    ensures { λ r. ⌜ r ≡ min (valueOf (now (s .entry))) (2 ^ 63) ⌝ }
+    ensures { λ r. ⌜ r ≡ min (decimalValue (now (s .entry))) firstBeyond ⌝ }
 {
     let mut x: u64 = 0;
     let mut i = 0;
@@ -66,9 +67,9 @@ fn value(s: &[u8]) -> u64
     x
 }
 
-// The number of that size and sign; 2^63 itself is there only below zero.
+// The number of that size and sign; the first beyond is there only below zero.
 fn held(x: u64, below: bool) -> i64
-    requires { ⌜ x ≤ 2 ^ 63 ⌝ }
+    requires { ⌜ x ≤ firstBeyond ⌝ }
     ensures { λ r. ⌜ r ≡ nearest below x ⌝ }
 {
     if below {
@@ -77,10 +78,10 @@ fn held(x: u64, below: bool) -> i64
         } else {
             whole::close(Int::NegSuc(x - 1))
         }
-    } else if x < 9223372036854775808 {
+    } else if x < BEYOND {
         whole::close(Int::Pos(x))
     } else {
-        9223372036854775807
+        LAST
     }
 }
 

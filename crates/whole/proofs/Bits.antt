@@ -32,7 +32,7 @@ all-bits x = refl
 -- t holds the bits found, and k are left
 pub record Turn (x t k : ℕ) : Type 0 where
   pub same : rootBits k x t ≡ rootOf x
-  pub room : t + 2 ^ k ≤ 4294967296
+  pub room : t + 2 ^ k ≤ 2 ^ 32
   pub few : k ≤ 32
 
 pub begun : (x : ℕ) → Turn x 0 32
@@ -54,10 +54,10 @@ module _ (x t k : ℕ) (s : Turn x t k) (h : 0 < k) where
   twice : 2 ^ k ≡ 2 ^ (k - 1) * 2
   twice = ap (λ (n : ℕ). 2 ^ n) one-more ∙ pow-suc 2 (k - 1)
 
-  pub small : t + bit (k - 1) ≤ 4294967295
+  pub small : t + bit (k - 1) ≤ 2 ^ 32 - 1
   small = omega (arith, is, twice, s, pow-pos (k - 1))
 
-  pub squared : (t + bit (k - 1)) * (t + bit (k - 1)) ≤ 18446744065119617025
+  pub squared : (t + bit (k - 1)) * (t + bit (k - 1)) ≤ (2 ^ 32 - 1) * (2 ^ 32 - 1)
   squared = mul-le-mul small small
 
   pub taken : (t + bit (k - 1)) * (t + bit (k - 1)) ≤ x → Turn x (t + bit (k - 1)) (k - 1)

@@ -1,19 +1,18 @@
 -- Signed words and their halves: v and -1 - v, and what a word reads back as.
 use mathlib.Core.Path.{_≡_, refl, sym, ap, subst, _∙_}
 use mathlib.Core.Bool.{true, false}
-use Prim.Native.Nat.{ℕ, zero, suc, _/_, _<_, _^_}
-use native.Mathlib.Nat.{zero-add, not-suc-le-zero, lt-of-lt-of-le, lt-of-le-of-lt, div-le-self}
+use Prim.Native.Nat.{ℕ, zero, suc}
+use native.Mathlib.Nat.{zero-add, not-suc-le-zero, lt-of-lt-of-le}
 use native.Mathlib.Omega.{arith}
 use lib.Dec.{T, lit≤}
 use lib.IntN.{ℤ, pos, negsuc, natAbs, _-ℤ_}
-use lib.Signed.{mag, ltZ, nonNeg}
+use lib.Signed.{ltZ, nonNeg}
 use mir.Syntax.{w64}
 use mir.Val.{Fits, SFits, toZ, ofZ}
 use mir.ValLaws.{toZ-ofZ}
 use borrow.Author.Tests.{le-ltb, ltb-true}
-use Rattle.whole.specs.declared.Int.{Int}
 use Rattle.whole.specs.declared.Int.the-variants.{Pos, NegSuc}
-use Rattle.whole.specs.Signed.{intOf, valueOf, value-of-int}
+use Rattle.whole.specs.Signed.{intOf}
 
 -- -1 - v
 abbrev pub mirror : ℤ → ℤ
@@ -51,7 +50,8 @@ module _ (v : ℤ) (h : SFits w64 v) where
   less-back = toZ-ofZ w64 _ less-fits ∙ mirrored
 
 -- a negative number opened
-opened-down : (v : ℤ) → SFits w64 v → ltZ v (pos 0) ≡ true → (NegSuc (natAbs (mirror v)) ≡ intOf v) × Unsigned (mirror v)
+opened-down : (v : ℤ) → SFits w64 v → ltZ v (pos 0) ≡ true →
+    (NegSuc (natAbs (mirror v)) ≡ intOf v) × Unsigned (mirror v)
 opened-down (pos n) h e = absurd (not-suc-le-zero (ltb-true n 0 e))
 opened-down (negsuc n) h e = (refl, from-pos n (record { sfits = h .sfits }))
 
@@ -61,32 +61,15 @@ opened-up (pos n) h e = (refl, from-pos n h)
 opened-up (negsuc n) h e = absurd (subst T e tt)
 
 module _ (v : ℤ) (h : SFits w64 v) where
-  pub open-down : ltZ (toZ w64 (ofZ w64 v)) (pos 0) ≡ true → (NegSuc (natAbs (toZ w64 (ofZ w64 (negsuc 0 -ℤ toZ w64 (ofZ w64 v))))) ≡ intOf v) × Unsigned (toZ w64 (ofZ w64 (negsuc 0 -ℤ toZ w64 (ofZ w64 v))))
+  pub open-down : ltZ (toZ w64 (ofZ w64 v)) (pos 0) ≡ true →
+      (NegSuc (natAbs (toZ w64 (ofZ w64 (negsuc 0 -ℤ toZ w64 (ofZ w64 v))))) ≡ intOf v)
+      × Unsigned (toZ w64 (ofZ w64 (negsuc 0 -ℤ toZ w64 (ofZ w64 v))))
   open-down t =
       let e : ltZ v (pos 0) ≡ true = subst (λ (z : ℤ). ltZ z (pos 0) ≡ true) (back v h) t in
       subst (λ (z : ℤ). (NegSuc (natAbs z) ≡ intOf v) × Unsigned z) (sym (less-back v h)) (opened-down v h e)
 
-  pub open-up : ltZ (toZ w64 (ofZ w64 v)) (pos 0) ≡ false → (Pos (natAbs (toZ w64 (ofZ w64 v))) ≡ intOf v) × Unsigned (toZ w64 (ofZ w64 v))
+  pub open-up : ltZ (toZ w64 (ofZ w64 v)) (pos 0) ≡ false →
+      (Pos (natAbs (toZ w64 (ofZ w64 v))) ≡ intOf v) × Unsigned (toZ w64 (ofZ w64 v))
   open-up t =
       let e : ltZ v (pos 0) ≡ false = subst (λ (z : ℤ). ltZ z (pos 0) ≡ false) (back v h) t in
       subst (λ (z : ℤ). (Pos (natAbs z) ≡ intOf v) × Unsigned z) (sym (back v h)) (opened-up v h e)
-
--- what an opened word holds, and that its quotients have room among the signed words
-module _ (v : ℤ) (h : SFits w64 v) (i : Int) (e : i ≡ intOf (toZ w64 (ofZ w64 v))) where
-  value : valueOf i ≡ v
-  value = ap valueOf e ∙ value-of-int (toZ w64 (ofZ w64 v)) ∙ back v h
-
-  pub is-up : (n : ℕ) → i ≡ Pos n → pos n ≡ v
-  is-up n g = sym (ap valueOf g) ∙ value
-
-  pub is-down : (n : ℕ) → i ≡ NegSuc n → negsuc n ≡ v
-  is-down n g = sym (ap valueOf g) ∙ value
-
-  small : mag v < 2 ^ 63
-  small = h .sfits
-
-  pub room-up : (n d : ℕ) → i ≡ Pos n → n / d < 2 ^ 63
-  room-up n d g = lt-of-le-of-lt (div-le-self n d) (subst (λ (z : ℤ). mag z < 2 ^ 63) (sym (is-up n g)) small)
-
-  pub room-down : (n d : ℕ) → i ≡ NegSuc n → n / d < 2 ^ 63
-  room-down n d g = lt-of-le-of-lt (div-le-self n d) (subst (λ (z : ℤ). mag z < 2 ^ 63) (sym (is-down n g)) small)

@@ -1,5 +1,6 @@
+-- Laws over plain numbers, on which the functions' proofs rest.
 pub mod Halves
 pub mod Shifts
 pub mod Bits
 pub mod Judged
-pub mod Shares
+pub mod Parts

@@ -4,7 +4,7 @@ use Prim.Native.Nat.{ℕ, suc, _*_, _-_, _/_, _%_, _<_}
 use native.Mathlib.Nat.{div-add-mod', mod-lt}
 use native.Mathlib.Omega.{arith}
 use lib.IntN.{ℤ, pos, negsuc, _+ℤ_, _*ℤ_}
-use Rattle.whole.specs.Biased.{sub-down, turned}
+use Rattle.whole.specs.laws.Biased.{sub-down, turned}
 
 -- the greatest whole number not above z / d: for -(a + 1) it is -(a / d + 1). A quotient by 0 is the one that ℕ has.
 abbrev pub floorDiv : ℤ → ℕ → ℤ

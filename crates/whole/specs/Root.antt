@@ -35,7 +35,10 @@ found (suc k) x t l h = judge (leb (u * u) x) refl (found k x u) (found k x t)
     doubled : t + 2 ^ suc k ≡ u + 2 ^ k
     doubled = omega (arith, pow-suc 2 k)
 
-    judge : (b : Bool) → leb (u * u) x ≡ b → (u * u ≤ x → x < (u + 2 ^ k) * (u + 2 ^ k) → IsRoot x (rootBits k x u)) → (t * t ≤ x → x < u * u → IsRoot x (rootBits k x t)) → IsRoot x (rootBits k x (cond b u t))
+    judge : (b : Bool) → leb (u * u) x ≡ b →
+        (u * u ≤ x → x < (u + 2 ^ k) * (u + 2 ^ k) → IsRoot x (rootBits k x u)) →
+        (t * t ≤ x → x < u * u → IsRoot x (rootBits k x t)) →
+        IsRoot x (rootBits k x (cond b u t))
     judge true e high low = high (leb-true (u * u) x e) (subst (λ (n : ℕ). x < n * n) doubled h)
     judge false e high low = low l (leb-false (u * u) x e)
 

@@ -3,11 +3,8 @@ use borrow.Author.Needs.{needs}
 use Rattle.board.proofs.no_card.Statement.{statement}
 use Rattle.board.proofs.no_card.Tie as tie
 
-no-ready-requires : tie.Need-no-ready-requires
-no-ready-requires c κs = search needs
-
 returns : tie.Need-returns
 returns c = rw (c .no-ready .ensures)
 
 pub no-card-spec : {M : Type 1} → statement M
-no-card-spec = tie.close (tie.spec no-ready-requires returns)
+no-card-spec = tie.close (tie.spec (λ c κs. search needs) returns)

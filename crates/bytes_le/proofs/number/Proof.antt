@@ -24,38 +24,28 @@ returns c =
     let w = c .before .before .args .w in
     (sym (ap le (ap (take w) (drop-of-length-le s (c .if1 .taken)) ∙ take-nil w)), some w)
 
-sub-t : tie.Need-sub-t Inv-loop μ-loop
-sub-t c = search needs
-
-part-t-start : tie.Need-part-t-start Inv-loop μ-loop
-part-t-start c = search needs
-
-part-t-end : tie.Need-part-t-end Inv-loop μ-loop
-part-t-end c = search needs
-
 loop-holds : tie.Need-loop-holds Inv-loop μ-loop
 loop-holds c = let a = c .before .before .before .args in down-first (drop (a .at) (a .s .now)) (a .w)
 
-sub-i : tie.Need-sub-i Inv-loop μ-loop
-sub-i c = search needs
-
 mul-x : tie.Need-mul-x Inv-loop μ-loop
-mul-x c = record { fits = lt-of-le-of-lt (le-add-right _ 0) (down-fits (c .before .loop .inv) (c .loop-test .taken) 0 (search needs) (omega arith)) }
-
-byte-requires : tie.Need-byte-requires Inv-loop μ-loop
-byte-requires c κs = search needs
+mul-x c =
+    record
+    { fits = lt-of-le-of-lt (le-add-right _ 0) (down-fits (c .before .loop .inv) (c .loop-test .taken) 0 (search needs) (omega arith)) }
 
 add-x : tie.Need-add-x Inv-loop μ-loop
-add-x c = record { fits = down-fits (c .before .before .loop .inv) (c .before .loop-test .taken) _ (search needs) (c .byte .ensures .1) }
+add-x c =
+    record
+    { fits = down-fits (c .before .before .loop .inv) (c .before .loop-test .taken) _ (search needs) (c .byte .ensures .1) }
 
-loop-less : tie.Need-loop-less Inv-loop μ-loop
-loop-less c = search needs
+abbrev start-before-byte : tie.After-byte Inv-loop μ-loop → tie.Start Inv-loop μ-loop
+start-before-byte c = c .before .before .before .before .before .before
 
 loop-again : tie.Need-loop-again Inv-loop μ-loop
 loop-again c =
-    let a = c .before .before .before .before .before .before .args in
+    let a = (start-before-byte c) .args in
     down-more (c .before .before .loop .inv) (c .before .loop-test .taken) _
-    (c .byte .ensures .0 ∙ ap (λ (l : List ℕ). getD l (c .before .before .loop .i - 1) 0) (rest (a .s .now) (a .at))) (c .byte .ensures .1)
+    (c .byte .ensures .0 ∙ ap (λ (l : List ℕ). getD l (c .before .before .loop .i - 1) 0) (rest (a .s .now) (a .at)))
+    (c .byte .ensures .1)
 
 returns-2 : tie.Need-returns-2 Inv-loop μ-loop
 returns-2 c = down-last (c .before .loop .inv) (c .loop-test .left)
@@ -67,14 +57,14 @@ number-spec =
     Inv-loop
     μ-loop
     returns
-    sub-t
-    part-t-start
-    part-t-end
+    (λ c. search needs)
+    (λ c. search needs)
+    (λ c. search needs)
     loop-holds
-    sub-i
+    (λ c. search needs)
     mul-x
-    byte-requires
+    (λ c κs. search needs)
     add-x
-    loop-less
+    (λ c. search needs)
     loop-again
     returns-2)

@@ -5,141 +5,75 @@ use borrow.Author.Needs.{needs}
 use Rattle.bytes_le.proofs.word.Statement.{statement}
 use Rattle.bytes_le.proofs.word.Tie as tie
 
-number-requires : tie.Need-number-requires
-number-requires c κs = search needs
-
 returns : tie.Need-returns
 returns c = short-word _ _ (c .before .if1 .taken) (c .number .ensures .0)
 
-shared-slice-read-wide : tie.Need-shared-slice-read-wide
-shared-slice-read-wide c = search needs
+abbrev wide6-before-wide8 : tie.After-wide8 → tie.After-wide6
+wide6-before-wide8 c = c .before .before .before .before
 
-wide-requires : tie.Need-wide-requires
-wide-requires c κs = search needs
+abbrev wide5-before-wide8 : tie.After-wide8 → tie.After-wide5
+wide5-before-wide8 c = c .before .before .before .before .before .before
 
-shared-slice-read-wide-2 : tie.Need-shared-slice-read-wide-2
-shared-slice-read-wide-2 c = search needs
+abbrev wide4-before-wide8 : tie.After-wide8 → tie.After-wide4
+wide4-before-wide8 c = c .before .before .before .before .before .before .before .before
 
-wide-requires-2 : tie.Need-wide-requires-2
-wide-requires-2 c κs = search needs
+abbrev wide3-before-wide8 : tie.After-wide8 → tie.After-wide3
+wide3-before-wide8 c = c .before .before .before .before .before .before .before .before .before .before
 
-mul-low : tie.Need-mul-low
-mul-low c = search needs
+abbrev wide2-before-wide8 : tie.After-wide8 → tie.After-wide2
+wide2-before-wide8 c = c .before .before .before .before .before .before .before .before .before .before .before .before
 
-add-low : tie.Need-add-low
-add-low c = search needs
+abbrev wide-before-wide8 : tie.After-wide8 → tie.After-wide
+wide-before-wide8 c =
+    c .before .before .before .before .before .before .before .before .before .before .before .before .before .before
 
-shared-slice-read-wide-3 : tie.Need-shared-slice-read-wide-3
-shared-slice-read-wide-3 c = search needs
-
-wide-requires-3 : tie.Need-wide-requires-3
-wide-requires-3 c κs = search needs
-
-mul-low-2 : tie.Need-mul-low-2
-mul-low-2 c = search needs
-
-add-low-2 : tie.Need-add-low-2
-add-low-2 c = search needs
-
-shared-slice-read-wide-4 : tie.Need-shared-slice-read-wide-4
-shared-slice-read-wide-4 c = search needs
-
-wide-requires-4 : tie.Need-wide-requires-4
-wide-requires-4 c κs = search needs
-
-mul-low-3 : tie.Need-mul-low-3
-mul-low-3 c = search needs
-
-add-low-3 : tie.Need-add-low-3
-add-low-3 c = search needs
-
-shared-slice-read-wide-5 : tie.Need-shared-slice-read-wide-5
-shared-slice-read-wide-5 c = search needs
-
-wide-requires-5 : tie.Need-wide-requires-5
-wide-requires-5 c κs = search needs
-
-shared-slice-read-wide-6 : tie.Need-shared-slice-read-wide-6
-shared-slice-read-wide-6 c = search needs
-
-wide-requires-6 : tie.Need-wide-requires-6
-wide-requires-6 c κs = search needs
-
-mul-high : tie.Need-mul-high
-mul-high c = search needs
-
-add-high : tie.Need-add-high
-add-high c = search needs
-
-shared-slice-read-wide-7 : tie.Need-shared-slice-read-wide-7
-shared-slice-read-wide-7 c = search needs
-
-wide-requires-7 : tie.Need-wide-requires-7
-wide-requires-7 c κs = search needs
-
-mul-high-2 : tie.Need-mul-high-2
-mul-high-2 c = search needs
-
-add-high-2 : tie.Need-add-high-2
-add-high-2 c = search needs
-
-shared-slice-read-wide-8 : tie.Need-shared-slice-read-wide-8
-shared-slice-read-wide-8 c = search needs
-
-wide-requires-8 : tie.Need-wide-requires-8
-wide-requires-8 c κs = search needs
-
-mul-high-3 : tie.Need-mul-high-3
-mul-high-3 c = search needs
-
-add-high-3 : tie.Need-add-high-3
-add-high-3 c = search needs
-
-mul-result : tie.Need-mul-result
-mul-result c = search needs
-
-add-result : tie.Need-add-result
-add-result c = search needs
+abbrev else1-before-wide8 : tie.After-wide8 → tie.Else1
+else1-before-wide8 c =
+    c .before .before .before .before .before .before .before .before .before .before .before .before .before .before
+    .before .before
 
 returns-2 : tie.Need-returns-2
 returns-2 c =
-    whole-word _ _ _ _ _ _ _ _ _ (c .before .before .before .before .before .before .before .before .before .before .before .before .before .before .wide .ensures) (c .before .before .before .before .before .before .before .before .before .before .before .before .wide2 .ensures) (c .before .before .before .before .before .before .before .before .before .before .wide3 .ensures) (c .before .before .before .before .before .before .before .before .wide4 .ensures) (c .before .before .before .before .before .before .wide5 .ensures) (c .before .before .before .before .wide6 .ensures) (c .before .before .wide7 .ensures) (c .wide8 .ensures)
-    (c .before .before .before .before .before .before .before .before .before .before .before .before .before .before .before .before .if1 .left) _ refl
+    whole-word _ _ _ _ _ _ _ _ _ ((wide-before-wide8 c) .wide .ensures) ((wide2-before-wide8 c) .wide2 .ensures)
+    ((wide3-before-wide8 c) .wide3 .ensures) ((wide4-before-wide8 c) .wide4 .ensures)
+    ((wide5-before-wide8 c) .wide5 .ensures) ((wide6-before-wide8 c) .wide6 .ensures)
+    (c .before .before .wide7 .ensures) (c .wide8 .ensures)
+    ((else1-before-wide8 c) .if1 .left) _ refl
 
 pub word-spec : {M : Type 1} → statement M
 word-spec =
     tie.close
     (tie.spec
-    number-requires
+    (λ c κs. search needs)
     returns
-    shared-slice-read-wide
-    wide-requires
-    shared-slice-read-wide-2
-    wide-requires-2
-    mul-low
-    add-low
-    shared-slice-read-wide-3
-    wide-requires-3
-    mul-low-2
-    add-low-2
-    shared-slice-read-wide-4
-    wide-requires-4
-    mul-low-3
-    add-low-3
-    shared-slice-read-wide-5
-    wide-requires-5
-    shared-slice-read-wide-6
-    wide-requires-6
-    mul-high
-    add-high
-    shared-slice-read-wide-7
-    wide-requires-7
-    mul-high-2
-    add-high-2
-    shared-slice-read-wide-8
-    wide-requires-8
-    mul-high-3
-    add-high-3
-    mul-result
-    add-result
+    (λ c. search needs)
+    (λ c κs. search needs)
+    (λ c. search needs)
+    (λ c κs. search needs)
+    (λ c. search needs)
+    (λ c. search needs)
+    (λ c. search needs)
+    (λ c κs. search needs)
+    (λ c. search needs)
+    (λ c. search needs)
+    (λ c. search needs)
+    (λ c κs. search needs)
+    (λ c. search needs)
+    (λ c. search needs)
+    (λ c. search needs)
+    (λ c κs. search needs)
+    (λ c. search needs)
+    (λ c κs. search needs)
+    (λ c. search needs)
+    (λ c. search needs)
+    (λ c. search needs)
+    (λ c κs. search needs)
+    (λ c. search needs)
+    (λ c. search needs)
+    (λ c. search needs)
+    (λ c κs. search needs)
+    (λ c. search needs)
+    (λ c. search needs)
+    (λ c. search needs)
+    (λ c. search needs)
     returns-2)

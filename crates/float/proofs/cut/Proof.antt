@@ -1,7 +1,7 @@
 -- `float::cut` meets its contract: x is what its bits are read as, field by field.
 use mathlib.Core.Path.{_≡_, refl, sym, ap, subst, _∙_}
 use mathlib.Core.Bool.{Bool, true, false}
-use Prim.Native.Nat.{ℕ, zero, suc, _+_, _/_, _^_, _<_}
+use Prim.Native.Nat.{ℕ, zero, suc, _+_, _-_, _/_, _^_, _<_}
 use native.Mathlib.Omega.{arith}
 use lib.Dec.{T}
 use lib.IntN.{negsuc}
@@ -9,25 +9,28 @@ use lib.Ieee.{Float, nan, inf, fin, binary64, fits, ofFields}
 use lib.Ieee.Scale.{finite}
 use borrow.Author.Needs.{needs}
 use Rattle.float.specs.declared.Split.{Split}
-use Rattle.float.specs.Split.{splitOf}
+use Rattle.float.specs.Split.{splitOf, splitBias}
 use Rattle.float.proofs.Words.{finite-no-nan}
 use Rattle.float.proofs.Units.{odd-split, plain-split, led-units, led-value, unled-value}
 use Rattle.float.proofs.Kept.{read-back}
 use Rattle.float.proofs.cut.Statement.{statement}
 use Rattle.float.proofs.cut.Tie as tie
 
-low : (x : Float) (s : Bool) (d n : ℕ) (r : Split) → ofFields binary64 s d n ≡ x → d ≡ 0 → n < 2 ^ 52 → r ≡ splitOf (fin false n (negsuc 1073)) → r ≡ splitOf x
+low : (x : Float) (s : Bool) (d n : ℕ) (r : Split) → ofFields binary64 s d n ≡ x → d ≡ 0 → n < 2 ^ 52
+    → r ≡ splitOf (fin false n (negsuc 1073)) → r ≡ splitOf x
 low x s d n r e z l h =
-    h ∙ plain-split n ∙ sym (odd-split s n 0 (omega arith))
+    h ∙ plain-split n (omega arith) ∙ sym (odd-split s n 0 (omega arith) (omega arith))
     ∙ ap splitOf (sym (unled-value s n) ∙ ap (λ (k : ℕ). ofFields binary64 s k n) (sym z) ∙ e)
 
-high : (x : Float) (s : Bool) (d n : ℕ) → ofFields binary64 s d n ≡ x → (d ≡ 0 → ⊥) → n < 2 ^ 52 → T (finite x) → record { a = (2 ^ 52 + n) / 2 ^ 22; up = d + 995 } ≡ splitOf x
-high x s zero n e z l f = absurd (z refl)
-high x s (suc j) n e z l f =
-    sym (led-units n j l) ∙ sym (odd-split s (2 ^ 52 + n) j (omega arith))
+high : (x : Float) (s : Bool) (d n : ℕ) → ofFields binary64 s d n ≡ x → (d ≡ 0 → ⊥) → n < 2 ^ 52 → d < 2048
+    → T (finite x)
+    → record { a = (2 ^ 52 + n) / 2 ^ 22; down = 9225 - d } ≡ splitOf x
+high x s zero n e z l k f = absurd (z refl)
+high x s (suc j) n e z l k f =
+    sym (led-units n j l) ∙ sym (odd-split s (2 ^ 52 + n) j (omega arith) (omega arith))
     ∙ ap splitOf (sym (led-value s j n (subst (λ (y : Float). T (finite y)) (sym e) f)) ∙ e)
 
-none : (x : Float) → finite x ≡ false → record { a = 0; up = 2048 } ≡ splitOf x
+none : (x : Float) → finite x ≡ false → record { a = 0; down = splitBias } ≡ splitOf x
 none nan e = refl
 none (inf s) e = refl
 none (fin s m d) e = absurd (subst T e tt)
@@ -62,14 +65,16 @@ add-t6 c = search needs
 cast-t9 : tie.Need-cast-t9
 cast-t9 c = search needs
 
-add-t10 : tie.Need-add-t10
-add-t10 c = search needs
+sub-t10 : tie.Need-sub-t10
+sub-t10 c = search needs
 
 cast-t11 : tie.Need-cast-t11
 cast-t11 c = search needs
 
 returns-2 : tie.Need-returns-2
-returns-2 c = high _ _ _ _ (read-back _ (held (c .before .before .before))) (c .if2 .left) (omega arith) (is-number (c .before))
+returns-2 c =
+    high _ _ _ _ (read-back _ (held (c .before .before .before))) (c .if2 .left) (omega arith) (omega arith)
+    (is-number (c .before))
 
 returns-3 : tie.Need-returns-3
 returns-3 c = none (c .before .before .args .x) (sym (c .before .is-finite .ensures) ∙ c .if1 .left)
@@ -84,7 +89,7 @@ cut-spec =
     returns
     add-t6
     cast-t9
-    add-t10
+    sub-t10
     cast-t11
     returns-2
     returns-3)

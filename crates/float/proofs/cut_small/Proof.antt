@@ -20,19 +20,21 @@ count n h l =
 
 shifted : (n z : ℕ) → n < 2 ^ 52 → z ≡ size n → n * 2 ^ (53 - z) % 2 ^ 64 ≡ wholeF n
 shifted n z l e =
-    ap (λ (x : ℕ). n * 2 ^ (53 - x) % 2 ^ 64) e ∙ shl-exact (size n) (53 - size n) 64 (size-lt n) (omega (arith, size-le n 53 (omega arith)))
+    ap (λ (x : ℕ). n * 2 ^ (53 - x) % 2 ^ 64) e
+    ∙ shl-exact (size n) (53 - size n) 64 (size-lt n) (omega (arith, size-le n 53 (omega arith)))
 
-some-units : (n z : ℕ) → (n ≡ 0 → ⊥) → n < 2 ^ 52 → z ≡ size n → record { a = n * 2 ^ (53 - z) % 2 ^ 64 / 2 ^ 22; up = z + 943 } ≡ unitsOf n 0
+some-units : (n z : ℕ) → (n ≡ 0 → ⊥) → n < 2 ^ 52 → z ≡ size n
+    → record { a = n * 2 ^ (53 - z) % 2 ^ 64 / 2 ^ 22; down = 9277 - z } ≡ unitsOf n 0
 some-units zero z h l e = absurd (h refl)
 some-units (suc n) z h l e =
-    let up : z + 943 ≡ 0 + size (suc n) + 943 = omega arith in
-    ap₂ (λ (x y : ℕ). record { a = x / 2 ^ 22; up = y }) (shifted (suc n) z l e) up
+    let down : 9277 - z ≡ 9277 - (0 + size (suc n)) = omega arith in
+    ap₂ (λ (x y : ℕ). record { a = x / 2 ^ 22; down = y }) (shifted (suc n) z l e) down
 
 counted : (c : tie.Else1) → leadingZeros 64 (c .before .args .n) + size (c .before .args .n) ≡ 64
 counted c = count (c .before .args .n) (c .if1 .left) (c .before .pre)
 
 returns : tie.Need-returns
-returns c = ap (λ (n : ℕ). unitsOf n 0) (sym (c .if1 .taken)) ∙ sym (plain-split (c .before .args .n))
+returns c = ap (λ (n : ℕ). unitsOf n 0) (sym (c .if1 .taken)) ∙ sym (plain-split (c .before .args .n) (let l = c .before .pre in omega arith))
 
 sub-size : tie.Need-sub-size
 sub-size c = omega (arith, counted c)
@@ -54,17 +56,18 @@ cast-t4 c =
     let e = shifted n (64 - leadingZeros 64 n) (c .before .pre) (omega (arith, counted c)) in
     omega (arith, e, f .1)
 
-add-t9 : tie.Need-add-t9
-add-t9 c = search needs
+sub-t9 : tie.Need-sub-t9
+sub-t9 c = search needs
 
 cast-t10 : tie.Need-cast-t10
 cast-t10 c = search needs
 
 returns-2 : tie.Need-returns-2
 returns-2 c =
-    some-units (c .before .args .n) (64 - leadingZeros 64 (c .before .args .n)) (c .if1 .left) (c .before .pre) (omega (arith, counted c))
-    ∙ sym (plain-split (c .before .args .n))
+    some-units (c .before .args .n) (64 - leadingZeros 64 (c .before .args .n)) (c .if1 .left) (c .before .pre)
+    (omega (arith, counted c))
+    ∙ sym (plain-split (c .before .args .n) (let l = c .before .pre in omega arith))
 
 pub cut-small-spec : {M : Type 1} → statement M
 cut-small-spec =
-    tie.close (tie.spec returns sub-size cast-size sub-t6 shl-t7 cast-t4 add-t9 cast-t10 returns-2)
+    tie.close (tie.spec returns sub-size cast-size sub-t6 shl-t7 cast-t4 sub-t9 cast-t10 returns-2)

@@ -10,11 +10,8 @@ use Rattle.library.proofs.again.Tie as tie
 returns : tie.Need-returns
 returns c = sym (and-false (le-ltb 0 (c .before .before .args .mark) (omega arith)) _)
 
-holds-requires : tie.Need-holds-requires
-holds-requires c κs = search needs
-
 returns-2 : tie.Need-returns-2
 returns-2 c = c .holds .ensures ∙ sym (and-true (lt-ltb 0 (c .before .before .before .args .mark) (omega arith)))
 
 pub again-spec : {M : Type 1} → statement M
-again-spec = tie.close (tie.spec returns holds-requires returns-2)
+again-spec = tie.close (tie.spec returns (λ c κs. search needs) returns-2)

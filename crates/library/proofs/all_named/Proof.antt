@@ -19,28 +19,31 @@ loop-holds : tie.Need-loop-holds Inv-loop μ-loop
 loop-holds c = record { so-far = refl }
 
 slice-aggregate-is-well-formed : tie.Need-slice-aggregate-is-well-formed Inv-loop μ-loop
-slice-aggregate-is-well-formed c = sym (length-take-le 16 (c .before .before .loop .t .now) (c .before .loop-test .taken))
+slice-aggregate-is-well-formed c =
+    sym (length-take-le 16 (c .before .before .loop .t .now) (c .before .loop-test .taken))
 
-is-well-formed-requires : tie.Need-is-well-formed-requires Inv-loop μ-loop
-is-well-formed-requires c κs = search needs
+abbrev in-loop-before-t : tie.After-t Inv-loop μ-loop → tie.In-loop Inv-loop μ-loop
+in-loop-before-t c = c .before .before .before .before
 
-sub-t : tie.Need-sub-t Inv-loop μ-loop
-sub-t c = search needs
+abbrev loop-before-else1 : tie.Else1 Inv-loop μ-loop → tie.At-loop Inv-loop μ-loop
+loop-before-else1 c = c .before .before .before .before
 
-part-t-start : tie.Need-part-t-start Inv-loop μ-loop
-part-t-start c = search needs
-
-part-t-end : tie.Need-part-t-end Inv-loop μ-loop
-part-t-end c = search needs
+abbrev loop-before-t : tie.After-t Inv-loop μ-loop → tie.At-loop Inv-loop μ-loop
+loop-before-t c = c .before .before .before .before .before
 
 loop-less : tie.Need-loop-less Inv-loop μ-loop
-loop-less c = shorter (c .before .before .before .before .before .loop .t .now) (c .before .before .before .before .loop-test .taken)
+loop-less c = shorter ((loop-before-t c) .loop .t .now) ((in-loop-before-t c) .loop-test .taken)
 
 loop-again : tie.Need-loop-again Inv-loop μ-loop
-loop-again c = walk-on (c .before .before .before .before .before .loop .inv) (c .before .before .before .before .loop-test .taken) (and-true (sym (c .before .before .is-well-formed .ensures) ∙ c .before .if1 .taken))
+loop-again c =
+    walk-on ((loop-before-t c) .loop .inv) ((in-loop-before-t c) .loop-test .taken)
+    (and-true (sym (c .before .before .is-well-formed .ensures) ∙ c .before .if1 .taken))
 
 returns : tie.Need-returns Inv-loop μ-loop
-returns c = sym (walk-here (c .before .before .before .before .loop .inv) (c .before .before .before .loop-test .taken) ∙ and-false (sym (c .before .is-well-formed .ensures) ∙ c .if1 .left) _)
+returns c =
+    sym
+    (walk-here ((loop-before-else1 c) .loop .inv) (c .before .before .before .loop-test .taken) ∙ and-false
+    (sym (c .before .is-well-formed .ensures) ∙ c .if1 .left) _)
 
 returns-2 : tie.Need-returns-2 Inv-loop μ-loop
 returns-2 c = sym (walk-end (c .before .loop .inv) (c .loop-test .left))
@@ -53,10 +56,10 @@ all-named-spec =
     μ-loop
     loop-holds
     slice-aggregate-is-well-formed
-    is-well-formed-requires
-    sub-t
-    part-t-start
-    part-t-end
+    (λ c κs. search needs)
+    (λ c. search needs)
+    (λ c. search needs)
+    (λ c. search needs)
     loop-less
     loop-again
     returns

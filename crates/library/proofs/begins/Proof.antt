@@ -10,17 +10,15 @@ use Rattle.library.proofs.begins.Tie as tie
 slice-aggregate-pad : tie.Need-slice-aggregate-pad
 slice-aggregate-pad c = sym (length-take-le 16 (c .before .before .args .d .now) (c .before .before .pre))
 
-pad-requires : tie.Need-pad-requires
-pad-requires c κs = search needs
-
-is-same-requires : tie.Need-is-same-requires
-is-same-requires c κs = search needs
+abbrev start-before-is-same : tie.After-is-same → tie.Start
+start-before-is-same c = c .before .before .before .before .before
 
 returns : tie.Need-returns
 returns c =
-    let d = c .before .before .before .before .before .args .d .now in
+    let d = (start-before-is-same c) .args .d .now in
     c .is-same .ensures
-    ∙ ap (same (c .before .before .before .before .before .args .x .now)) (c .before .before .pad .ensures ∙ padded-full _ (length-take-le 16 d (c .before .before .before .before .before .pre)))
+    ∙ ap (same ((start-before-is-same c) .args .x .now))
+    (c .before .before .pad .ensures ∙ padded-full _ (length-take-le 16 d ((start-before-is-same c) .pre)))
 
 pub begins-spec : {M : Type 1} → statement M
-begins-spec = tie.close (tie.spec slice-aggregate-pad pad-requires is-same-requires returns)
+begins-spec = tie.close (tie.spec slice-aggregate-pad (λ c κs. search needs) (λ c κs. search needs) returns)

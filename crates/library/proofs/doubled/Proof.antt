@@ -1,72 +1,63 @@
--- `library::doubled` meets its contract: of the names passed none stands twice, and each has its slot marked.
+-- `library::doubled` meets its contract: of the names passed none stands twice, and each has its mark.
 use native.Mathlib.Omega.{arith}
-use Rattle.library.proofs.Seen.{Seen, seen-none, seen-all, holds-name, seen-twice, seen-more}
+use Rattle.library.proofs.Doubles.{holds-name, Marked, marks-all, marks-more, marks-none, marks-twice}
 use borrow.Author.Needs.{needs}
 use Rattle.library.proofs.doubled.Statement.{statement}
 use Rattle.library.proofs.doubled.Tie as tie
 
 abbrev Inv-loop : tie.InvT-loop
-Inv-loop d seen₀ i₀ seen i = Seen d seen i
+Inv-loop d marks₀ i₀ marks i = Marked d marks i
 
 abbrev μ-loop : tie.MeasureT-loop
-μ-loop d seen₀ i₀ seen i = i
+μ-loop d marks₀ i₀ marks i = i
 
 loop-holds : tie.Need-loop-holds Inv-loop μ-loop
-loop-holds c = seen-none _
-
-sub-i : tie.Need-sub-i Inv-loop μ-loop
-sub-i c = search needs
-
-mul-t : tie.Need-mul-t Inv-loop μ-loop
-mul-t c = search needs
-
-sub-t : tie.Need-sub-t Inv-loop μ-loop
-sub-t c = search needs
-
-part-t-start : tie.Need-part-t-start Inv-loop μ-loop
-part-t-start c = search needs
-
-part-t-end : tie.Need-part-t-end Inv-loop μ-loop
-part-t-end c = search needs
-
-u64-at-requires : tie.Need-u64-at-requires Inv-loop μ-loop
-u64-at-requires c κs = search needs
-
-u64-at-requires-2 : tie.Need-u64-at-requires-2 Inv-loop μ-loop
-u64-at-requires-2 c κs = search needs
-
-slot-requires : tie.Need-slot-requires Inv-loop μ-loop
-slot-requires c κs = search needs
+loop-holds c = marks-none _
 
 array-read-again : tie.Need-array-read-again Inv-loop μ-loop
 array-read-again c = let h = c .slot .ensures .1 in search needs
 
+abbrev in-loop-before-slot : tie.After-slot Inv-loop μ-loop → tie.In-loop Inv-loop μ-loop
+in-loop-before-slot c = c .before .before .before .before
+
+abbrev u64-at2-before-then1 : tie.Then1 Inv-loop μ-loop → tie.After-u64-at2 Inv-loop μ-loop
+u64-at2-before-then1 c = c .before .before .before .before
+
+abbrev u64-at2-before-else1 : tie.Else1 Inv-loop μ-loop → tie.After-u64-at2 Inv-loop μ-loop
+u64-at2-before-else1 c = c .before .before .before .before
+
+abbrev loop-before-slot : tie.After-slot Inv-loop μ-loop → tie.At-loop Inv-loop μ-loop
+loop-before-slot c = c .before .before .before .before .before
+
+abbrev u64-at-before-then1 : tie.Then1 Inv-loop μ-loop → tie.After-u64-at Inv-loop μ-loop
+u64-at-before-then1 c = c .before .before .before .before .before
+
+abbrev u64-at-before-else1 : tie.Else1 Inv-loop μ-loop → tie.After-u64-at Inv-loop μ-loop
+u64-at-before-else1 c = c .before .before .before .before .before
+
 sub-again : tie.Need-sub-again Inv-loop μ-loop
-sub-again c = omega (arith, holds-name (c .before .before .before .before .before .loop .inv) (c .before .before .before .before .loop-test .taken))
+sub-again c = omega (arith, holds-name ((loop-before-slot c) .loop .inv) ((in-loop-before-slot c) .loop-test .taken))
 
 part-again-start : tie.Need-part-again-start Inv-loop μ-loop
-part-again-start c = omega (arith, holds-name (c .before .before .before .before .before .loop .inv) (c .before .before .before .before .loop-test .taken))
-
-part-again-end : tie.Need-part-again-end Inv-loop μ-loop
-part-again-end c = search needs
-
-again-requires : tie.Need-again-requires Inv-loop μ-loop
-again-requires c κs = search needs
+part-again-start c =
+    omega (arith, holds-name ((loop-before-slot c) .loop .inv) ((in-loop-before-slot c) .loop-test .taken))
 
 returns : tie.Need-returns Inv-loop μ-loop
-returns c = seen-twice (c .before .before .before .before .before .before .before .before .loop .inv) (c .before .before .before .before .before .before .before .loop-test .taken) (c .before .before .before .before .before .u64-at .ensures) (c .before .before .before .before .u64-at2 .ensures) (c .before .before .before .slot .ensures .0) (c .before .before .before .slot .ensures .1) (c .before .again .ensures) (c .if1 .taken)
-
-array-write-seen : tie.Need-array-write-seen Inv-loop μ-loop
-array-write-seen c = search needs
-
-loop-less : tie.Need-loop-less Inv-loop μ-loop
-loop-less c = search needs
+returns c =
+    marks-twice ((loop-before-slot (c .before .before .before)) .loop .inv)
+    ((in-loop-before-slot (c .before .before .before)) .loop-test .taken) ((u64-at-before-then1 c) .u64-at .ensures)
+    ((u64-at2-before-then1 c) .u64-at2 .ensures) (c .before .before .before .slot .ensures .0)
+    (c .before .before .before .slot .ensures .1) (c .before .again .ensures) (c .if1 .taken)
 
 loop-again : tie.Need-loop-again Inv-loop μ-loop
-loop-again c = seen-more (c .before .before .before .before .before .before .before .before .loop .inv) (c .before .before .before .before .before .before .before .loop-test .taken) (c .before .before .before .before .before .u64-at .ensures) (c .before .before .before .before .u64-at2 .ensures) (c .before .before .before .slot .ensures .0) (c .before .before .before .slot .ensures .1) (c .before .again .ensures) (c .if1 .left)
+loop-again c =
+    marks-more ((loop-before-slot (c .before .before .before)) .loop .inv)
+    ((in-loop-before-slot (c .before .before .before)) .loop-test .taken) ((u64-at-before-else1 c) .u64-at .ensures)
+    ((u64-at2-before-else1 c) .u64-at2 .ensures) (c .before .before .before .slot .ensures .0)
+    (c .before .before .before .slot .ensures .1) (c .before .again .ensures) (c .if1 .left)
 
 returns-2 : tie.Need-returns-2 Inv-loop μ-loop
-returns-2 c = seen-all (c .before .loop .inv) (c .loop-test .left)
+returns-2 c = marks-all (c .before .loop .inv) (c .loop-test .left)
 
 pub doubled-spec : {M : Type 1} → statement M
 doubled-spec =
@@ -75,21 +66,21 @@ doubled-spec =
     Inv-loop
     μ-loop
     loop-holds
-    sub-i
-    mul-t
-    sub-t
-    part-t-start
-    part-t-end
-    u64-at-requires
-    u64-at-requires-2
-    slot-requires
+    (λ c. search needs)
+    (λ c. search needs)
+    (λ c. search needs)
+    (λ c. search needs)
+    (λ c. search needs)
+    (λ c κs. search needs)
+    (λ c κs. search needs)
+    (λ c κs. search needs)
     array-read-again
     sub-again
     part-again-start
-    part-again-end
-    again-requires
+    (λ c. search needs)
+    (λ c κs. search needs)
     returns
-    array-write-seen
-    loop-less
+    (λ c. search needs)
+    (λ c. search needs)
     loop-again
     returns-2)

@@ -1,23 +1,16 @@
 -- `library::header` meets its contract: five numbers, one after the other.
 use Prim.Native.Nat.{_≤_, _*_}
 use native.Mathlib.Omega.{arith}
-use Rattle.library.proofs.Shape.{few}
-use Rattle.library.proofs.Stores.{header-put}
+use Rattle.library.proofs.Headers.{few}
+use Rattle.library.proofs.BytesWritten.{header-put}
 use borrow.Author.Needs.{needs}
 use Rattle.library.proofs.header.Statement.{statement}
 use Rattle.library.proofs.header.Tie as tie
+use Rattle.library.specs.Format.{mostCards}
+use Rattle.library.specs.inner.Inspecting.{mostWords}
 
-fits : (c : tie.After-width) → c .width .result * c .before .args .count ≤ 24 * 256
+fits : (c : tie.After-width) → c .width .result * c .before .args .count ≤ mostWords * mostCards
 fits c = few (c .width .ensures .1) (c .before .pre)
-
-mul-records : tie.Need-mul-records
-mul-records c = search needs
-
-add-records : tie.Need-add-records
-add-records c = search needs
-
-width-requires : tie.Need-width-requires
-width-requires c κs = search needs
 
 mul-whole : tie.Need-mul-whole
 mul-whole c = omega (arith, fits c)
@@ -28,57 +21,48 @@ mul-whole-2 c = omega (arith, fits c)
 add-whole : tie.Need-add-whole
 add-whole c = omega (arith, fits c)
 
-slice-aggregate-put : tie.Need-slice-aggregate-put
-slice-aggregate-put c = search needs
+abbrev put4-before-h10 : tie.After-h10 → tie.After-put4
+put4-before-h10 c = c .before .before .before .before
 
-put-requires : tie.Need-put-requires
-put-requires c κs = search needs
+abbrev put3-before-h10 : tie.After-h10 → tie.After-put3
+put3-before-h10 c = c .before .before .before .before .before .before .before
 
-slice-aggregate-put-2 : tie.Need-slice-aggregate-put-2
-slice-aggregate-put-2 c = search needs
+abbrev put2-before-h10 : tie.After-h10 → tie.After-put2
+put2-before-h10 c = c .before .before .before .before .before .before .before .before .before .before
 
-put-requires-2 : tie.Need-put-requires-2
-put-requires-2 c κs = search needs
+abbrev put-before-h10 : tie.After-h10 → tie.After-put
+put-before-h10 c =
+    c .before .before .before .before .before .before .before .before .before .before .before .before .before
 
-slice-aggregate-put-3 : tie.Need-slice-aggregate-put-3
-slice-aggregate-put-3 c = search needs
-
-put-requires-3 : tie.Need-put-requires-3
-put-requires-3 c κs = search needs
-
-slice-aggregate-put-4 : tie.Need-slice-aggregate-put-4
-slice-aggregate-put-4 c = search needs
-
-put-requires-4 : tie.Need-put-requires-4
-put-requires-4 c κs = search needs
-
-slice-aggregate-put-5 : tie.Need-slice-aggregate-put-5
-slice-aggregate-put-5 c = search needs
-
-put-requires-5 : tie.Need-put-requires-5
-put-requires-5 c κs = search needs
+abbrev width-before-h10 : tie.After-h10 → tie.After-width
+width-before-h10 c =
+    c .before .before .before .before .before .before .before .before .before .before .before .before .before .before
+    .before
 
 returns : tie.Need-returns
-returns c = header-put _ _ (c .before .before .before .before .before .before .before .before .before .before .before .before .before .before .before .width .ensures .0) (c .before .before .before .before .before .before .before .before .before .before .before .before .before .put .ensures) (c .before .before .before .before .before .before .before .before .before .before .put2 .ensures) (c .before .before .before .before .before .before .before .put3 .ensures) (c .before .before .before .before .put4 .ensures) (c .before .put5 .ensures)
+returns c =
+    header-put _ _ ((width-before-h10 c) .width .ensures .0) ((put-before-h10 c) .put .ensures)
+    ((put2-before-h10 c) .put2 .ensures) ((put3-before-h10 c) .put3 .ensures) ((put4-before-h10 c) .put4 .ensures)
+    (c .before .put5 .ensures)
 
 pub header-spec : {M : Type 1} → statement M
 header-spec =
     tie.close
     (tie.spec
-    mul-records
-    add-records
-    width-requires
+    (λ c. search needs)
+    (λ c. search needs)
+    (λ c κs. search needs)
     mul-whole
     mul-whole-2
     add-whole
-    slice-aggregate-put
-    put-requires
-    slice-aggregate-put-2
-    put-requires-2
-    slice-aggregate-put-3
-    put-requires-3
-    slice-aggregate-put-4
-    put-requires-4
-    slice-aggregate-put-5
-    put-requires-5
+    (λ c. search needs)
+    (λ c κs. search needs)
+    (λ c. search needs)
+    (λ c κs. search needs)
+    (λ c. search needs)
+    (λ c κs. search needs)
+    (λ c. search needs)
+    (λ c κs. search needs)
+    (λ c. search needs)
+    (λ c κs. search needs)
     returns)

@@ -2,7 +2,7 @@
 use mathlib.Core.Path.{refl, sym, _∙_}
 use mathlib.Core.List.{_++_}
 use lib.ListN.{length}
-use Rattle.bytes_le.specs.Le.{bytesOf}
+use Rattle.bytes_le.specs.Le.{bytesOf, wordBytes}
 use Rattle.library.specs.Directory.{among}
 use Rattle.library.proofs.Names.{or-true, or-false, shorter, Walk, walk-end, walk-here, walk-on}
 use borrow.Author.Needs.{needs}
@@ -10,7 +10,7 @@ use Rattle.library.proofs.holds.Statement.{statement}
 use Rattle.library.proofs.holds.Tie as tie
 
 abbrev Inv-loop : tie.InvT-loop
-Inv-loop d low high t₀ t = Walk (among (bytesOf 8 low ++ bytesOf 8 high)) d t
+Inv-loop d low high t₀ t = Walk (among (bytesOf wordBytes low ++ bytesOf wordBytes high)) d t
 
 abbrev μ-loop : tie.MeasureT-loop
 μ-loop d low high t₀ t = length t
@@ -18,26 +18,22 @@ abbrev μ-loop : tie.MeasureT-loop
 loop-holds : tie.Need-loop-holds Inv-loop μ-loop
 loop-holds c = record { so-far = refl }
 
-starts-requires : tie.Need-starts-requires Inv-loop μ-loop
-starts-requires c κs = search needs
-
 returns : tie.Need-returns Inv-loop μ-loop
-returns c = sym (walk-here (c .before .before .before .loop .inv) (c .before .before .loop-test .taken) ∙ or-true (sym (c .before .starts .ensures) ∙ c .if1 .taken) _)
+returns c =
+    sym
+    (walk-here (c .before .before .before .loop .inv) (c .before .before .loop-test .taken) ∙ or-true
+    (sym (c .before .starts .ensures) ∙ c .if1 .taken) _)
 
-sub-t : tie.Need-sub-t Inv-loop μ-loop
-sub-t c = search needs
-
-part-t-start : tie.Need-part-t-start Inv-loop μ-loop
-part-t-start c = search needs
-
-part-t-end : tie.Need-part-t-end Inv-loop μ-loop
-part-t-end c = search needs
+abbrev loop-before-t : tie.After-t Inv-loop μ-loop → tie.At-loop Inv-loop μ-loop
+loop-before-t c = c .before .before .before .before
 
 loop-less : tie.Need-loop-less Inv-loop μ-loop
-loop-less c = shorter (c .before .before .before .before .loop .t .now) (c .before .before .before .loop-test .taken)
+loop-less c = shorter ((loop-before-t c) .loop .t .now) (c .before .before .before .loop-test .taken)
 
 loop-again : tie.Need-loop-again Inv-loop μ-loop
-loop-again c = walk-on (c .before .before .before .before .loop .inv) (c .before .before .before .loop-test .taken) (or-false (sym (c .before .before .starts .ensures) ∙ c .before .if1 .left))
+loop-again c =
+    walk-on ((loop-before-t c) .loop .inv) (c .before .before .before .loop-test .taken)
+    (or-false (sym (c .before .before .starts .ensures) ∙ c .before .if1 .left))
 
 returns-2 : tie.Need-returns-2 Inv-loop μ-loop
 returns-2 c = sym (walk-end (c .before .loop .inv) (c .loop-test .left))
@@ -49,11 +45,11 @@ holds-spec =
     Inv-loop
     μ-loop
     loop-holds
-    starts-requires
+    (λ c κs. search needs)
     returns
-    sub-t
-    part-t-start
-    part-t-end
+    (λ c. search needs)
+    (λ c. search needs)
+    (λ c. search needs)
     loop-less
     loop-again
     returns-2)

@@ -1,7 +1,7 @@
 -- `library::load` meets its contract: the buffer holds the words of the bytes passed, and its own after them.
 use native.Mathlib.Omega.{arith}
 use lib.ListN.{length}
-use Rattle.library.proofs.Buffers.{Loading, load-first, load-room, load-more, load-less, load-all}
+use Rattle.library.proofs.WordsRead.{Loading, load-first, load-room, load-more, load-less, load-all}
 use borrow.Author.Needs.{needs}
 use Rattle.library.proofs.load.Statement.{statement}
 use Rattle.library.proofs.load.Tie as tie
@@ -15,23 +15,11 @@ abbrev μ-loop : tie.MeasureT-loop
 loop-holds : tie.Need-loop-holds Inv-loop μ-loop
 loop-holds c = load-first _ (c .before .before .pre)
 
-u64-at-requires : tie.Need-u64-at-requires Inv-loop μ-loop
-u64-at-requires c κs = search needs
-
 mul-dst : tie.Need-mul-dst Inv-loop μ-loop
 mul-dst c = omega (arith, load-room (c .before .before .loop .inv) (c .before .loop-test .taken))
 
 slice-write-dst : tie.Need-slice-write-dst Inv-loop μ-loop
 slice-write-dst c = omega (arith, load-room (c .before .before .loop .inv) (c .before .loop-test .taken))
-
-sub-t : tie.Need-sub-t Inv-loop μ-loop
-sub-t c = search needs
-
-part-t-start : tie.Need-part-t-start Inv-loop μ-loop
-part-t-start c = search needs
-
-part-t-end : tie.Need-part-t-end Inv-loop μ-loop
-part-t-end c = search needs
 
 add-i : tie.Need-add-i Inv-loop μ-loop
 add-i c = omega (arith, load-room (c .before .before .before .loop .inv) (c .before .before .loop-test .taken))
@@ -40,7 +28,8 @@ loop-less : tie.Need-loop-less Inv-loop μ-loop
 loop-less c = load-less (c .before .before .before .loop .inv) (c .before .before .loop-test .taken)
 
 loop-again : tie.Need-loop-again Inv-loop μ-loop
-loop-again c = load-more (c .before .before .before .loop .inv) (c .before .before .loop-test .taken) (c .before .u64-at .ensures)
+loop-again c =
+    load-more (c .before .before .before .loop .inv) (c .before .before .loop-test .taken) (c .before .u64-at .ensures)
 
 same-length : tie.Need-same-length Inv-loop μ-loop
 same-length c = c .before .loop .inv .filled .kept
@@ -55,12 +44,12 @@ load-spec =
     Inv-loop
     μ-loop
     loop-holds
-    u64-at-requires
+    (λ c κs. search needs)
     mul-dst
     slice-write-dst
-    sub-t
-    part-t-start
-    part-t-end
+    (λ c. search needs)
+    (λ c. search needs)
+    (λ c. search needs)
     add-i
     loop-less
     loop-again

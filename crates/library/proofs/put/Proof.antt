@@ -1,9 +1,11 @@
--- `library::put` meets its contract: the bytes passed stand at the place, and what is left of the number has the others.
+-- `library::put` meets its contract: the bytes passed stand at the place, and what is left of the number has the
+-- others.
 use Prim.Native.Nat.{_-_}
-use Rattle.library.proofs.Stores.{Putting, put-first, put-more, put-all}
+use Rattle.library.proofs.BytesWritten.{Putting, put-first, put-more, put-all}
 use borrow.Author.Needs.{needs}
 use Rattle.library.proofs.put.Statement.{statement}
 use Rattle.library.proofs.put.Tie as tie
+use Rattle.bytes_le.proofs.Laws.{rest}
 
 abbrev Inv-loop : tie.InvT-loop
 Inv-loop dst₀ at w x rest₀ i₀ dst rest i = Putting dst₀ at w x dst rest i
@@ -13,21 +15,6 @@ abbrev μ-loop : tie.MeasureT-loop
 
 loop-holds : tie.Need-loop-holds Inv-loop μ-loop
 loop-holds c = put-first _ _ _ _ (c .pre)
-
-cast-dst : tie.Need-cast-dst Inv-loop μ-loop
-cast-dst c = search needs
-
-add-dst : tie.Need-add-dst Inv-loop μ-loop
-add-dst c = search needs
-
-slice-write-dst : tie.Need-slice-write-dst Inv-loop μ-loop
-slice-write-dst c = search needs
-
-add-i : tie.Need-add-i Inv-loop μ-loop
-add-i c = search needs
-
-loop-less : tie.Need-loop-less Inv-loop μ-loop
-loop-less c = search needs
 
 loop-again : tie.Need-loop-again Inv-loop μ-loop
 loop-again c = put-more (c .before .loop .inv) (c .loop-test .taken)
@@ -45,11 +32,11 @@ put-spec =
     Inv-loop
     μ-loop
     loop-holds
-    cast-dst
-    add-dst
-    slice-write-dst
-    add-i
-    loop-less
+    (λ c. search needs)
+    (λ c. search needs)
+    (λ c. search needs)
+    (λ c. search needs)
+    (λ c. search needs)
     loop-again
     same-length
     returns)

@@ -16,29 +16,24 @@ abbrev μ-loop : tie.MeasureT-loop
 loop-holds : tie.Need-loop-holds Inv-loop μ-loop
 loop-holds c = record { counted = omega arith; so-far = omega arith }
 
-begins-requires : tie.Need-begins-requires Inv-loop μ-loop
-begins-requires c κs = search needs
-
 returns : tie.Need-returns Inv-loop μ-loop
-returns c = place-here (c .before .before .before .loop .inv) (c .before .before .loop-test .taken) (sym (c .before .begins .ensures) ∙ c .if1 .taken)
+returns c =
+    place-here (c .before .before .before .loop .inv) (c .before .before .loop-test .taken)
+    (sym (c .before .begins .ensures) ∙ c .if1 .taken)
 
-sub-t : tie.Need-sub-t Inv-loop μ-loop
-sub-t c = search needs
-
-part-t-start : tie.Need-part-t-start Inv-loop μ-loop
-part-t-start c = search needs
-
-part-t-end : tie.Need-part-t-end Inv-loop μ-loop
-part-t-end c = search needs
+abbrev loop-before-t : tie.After-t Inv-loop μ-loop → tie.At-loop Inv-loop μ-loop
+loop-before-t c = c .before .before .before .before
 
 add-i : tie.Need-add-i Inv-loop μ-loop
-add-i c = let v = c .before .before .before .before .loop .inv in omega arith
+add-i c = let v = (loop-before-t c) .loop .inv in omega arith
 
 loop-less : tie.Need-loop-less Inv-loop μ-loop
-loop-less c = shorter (c .before .before .before .before .loop .t .now) (c .before .before .before .loop-test .taken)
+loop-less c = shorter ((loop-before-t c) .loop .t .now) (c .before .before .before .loop-test .taken)
 
 loop-again : tie.Need-loop-again Inv-loop μ-loop
-loop-again c = place-on (c .before .before .before .before .loop .inv) (c .before .before .before .loop-test .taken) (sym (c .before .before .begins .ensures) ∙ c .before .if1 .left)
+loop-again c =
+    place-on ((loop-before-t c) .loop .inv) (c .before .before .before .loop-test .taken)
+    (sym (c .before .before .begins .ensures) ∙ c .before .if1 .left)
 
 returns-2 : tie.Need-returns-2 Inv-loop μ-loop
 returns-2 c = place-end (c .before .loop .inv) (c .loop-test .left)
@@ -50,11 +45,11 @@ search-spec =
     Inv-loop
     μ-loop
     loop-holds
-    begins-requires
+    (λ c κs. search needs)
     returns
-    sub-t
-    part-t-start
-    part-t-end
+    (λ c. search needs)
+    (λ c. search needs)
+    (λ c. search needs)
     add-i
     loop-less
     loop-again

@@ -3,7 +3,7 @@ use mathlib.Core.Path.{sym, ap}
 use Prim.Native.Nat.{_-_}
 use native.Mathlib.Omega.{arith}
 use lib.ListN.{length}
-use Rattle.library.proofs.Stores.{Storing, store-first, store-kept, store-room, store-more, store-all}
+use Rattle.library.proofs.BytesWritten.{Storing, store-first, store-kept, store-room, store-more, store-all}
 use borrow.Author.Needs.{needs}
 use Rattle.library.proofs.store.Statement.{statement}
 use Rattle.library.proofs.store.Tie as tie
@@ -17,41 +17,40 @@ abbrev μ-loop : tie.MeasureT-loop
 loop-holds : tie.Need-loop-holds Inv-loop μ-loop
 loop-holds c = store-first _ _ (c .before .before .pre)
 
-mul-bytes : tie.Need-mul-bytes Inv-loop μ-loop
-mul-bytes c = search needs
-
-shared-slice-read-bytes : tie.Need-shared-slice-read-bytes Inv-loop μ-loop
-shared-slice-read-bytes c = search needs
-
-bytes-requires : tie.Need-bytes-requires Inv-loop μ-loop
-bytes-requires c κs = search needs
-
 slice-aggregate-copy : tie.Need-slice-aggregate-copy Inv-loop μ-loop
 slice-aggregate-copy c = sym (ap length (c .before .bytes .ensures))
 
+abbrev loop-before-b : tie.After-b Inv-loop μ-loop → tie.At-loop Inv-loop μ-loop
+loop-before-b c = c .before .before .before .before
+
+abbrev in-loop-before-copy-arg : tie.After-copy-arg Inv-loop μ-loop → tie.In-loop Inv-loop μ-loop
+in-loop-before-copy-arg c = c .before .before .before .before
+
+abbrev bytes-before-slice-known2 : tie.After-slice-known2 Inv-loop μ-loop → tie.After-bytes Inv-loop μ-loop
+bytes-before-slice-known2 c = c .before .before .before .before .before
+
+abbrev loop-before-slice-known2 : tie.After-slice-known2 Inv-loop μ-loop → tie.At-loop Inv-loop μ-loop
+loop-before-slice-known2 c = c .before .before .before .before .before .before .before .before
+
 mul-copy : tie.Need-mul-copy Inv-loop μ-loop
-mul-copy c = let v = c .before .before .before .before .loop .inv in omega (arith, store-kept v)
+mul-copy c = let v = (loop-before-b c) .loop .inv in omega (arith, store-kept v)
 
 sub-copy : tie.Need-sub-copy Inv-loop μ-loop
-sub-copy c = let v = c .before .before .before .before .loop .inv in omega (arith, store-kept v)
+sub-copy c = let v = (loop-before-b c) .loop .inv in omega (arith, store-kept v)
 
 part-copy-start : tie.Need-part-copy-start Inv-loop μ-loop
-part-copy-start c = let v = c .before .before .before .before .loop .inv in omega (arith, store-kept v)
-
-part-copy-end : tie.Need-part-copy-end Inv-loop μ-loop
-part-copy-end c = search needs
+part-copy-start c = let v = (loop-before-b c) .loop .inv in omega (arith, store-kept v)
 
 copy-requires : tie.Need-copy-requires Inv-loop μ-loop
-copy-requires c κs = store-room (c .before .before .before .before .before .loop .inv) (c .before .before .before .before .loop-test .taken) (c .before .before .bytes .ensures)
-
-add-i : tie.Need-add-i Inv-loop μ-loop
-add-i c = search needs
-
-loop-less : tie.Need-loop-less Inv-loop μ-loop
-loop-less c = search needs
+copy-requires c κs =
+    store-room ((loop-before-b (c .before)) .loop .inv) ((in-loop-before-copy-arg c) .loop-test .taken)
+    (c .before .before .bytes .ensures)
 
 loop-again : tie.Need-loop-again Inv-loop μ-loop
-loop-again c = store-more (c .before .before .before .before .before .before .before .before .loop .inv) (c .before .before .before .before .before .before .before .loop-test .taken) (c .before .before .before .before .before .bytes .ensures) (c .before .before .copy .ensures)
+loop-again c =
+    store-more ((loop-before-slice-known2 c) .loop .inv)
+    ((in-loop-before-copy-arg (c .before .before .before)) .loop-test .taken)
+    ((bytes-before-slice-known2 c) .bytes .ensures) (c .before .before .copy .ensures)
 
 same-length : tie.Need-same-length Inv-loop μ-loop
 same-length c = store-kept (c .before .loop .inv)
@@ -66,17 +65,17 @@ store-spec =
     Inv-loop
     μ-loop
     loop-holds
-    mul-bytes
-    shared-slice-read-bytes
-    bytes-requires
+    (λ c. search needs)
+    (λ c. search needs)
+    (λ c κs. search needs)
     slice-aggregate-copy
     mul-copy
     sub-copy
     part-copy-start
-    part-copy-end
+    (λ c. search needs)
     copy-requires
-    add-i
-    loop-less
+    (λ c. search needs)
+    (λ c. search needs)
     loop-again
     same-length
     returns)

@@ -1,19 +1,27 @@
--- `library::width` meets its contract: 16 for version 1, and 0 for every other.
+-- `library::width` meets its contract: the words of the one version that is known, and 0 for every other.
 use mathlib.Core.Path.{sym, ap}
 use mathlib.Core.Bool.{Bool, cond}
 use native.Mathlib.Omega.{arith}
 use borrow.Author.Tests.{eq-eqb, ne-eqb}
-use Rattle.library.specs.Format.{wordsOf}
+use Rattle.library.specs.Format.{wordsOf, writtenVersion}
 use Rattle.library.proofs.width.Statement.{statement}
 use Rattle.library.proofs.width.Tie as tie
 
 returns : tie.Need-returns
 unfolding wordsOf
-returns c = (sym (ap (λ (t : Bool). cond t 16 0) (eq-eqb _ 1 (c .match .keys1))), omega arith)
+returns c = (
+  sym (ap (λ (t : Bool). cond t (wordsOf writtenVersion) 0) (eq-eqb _ writtenVersion (c .match .keys1))),
+  omega
+      arith,
+)
 
 returns-2 : tie.Need-returns-2
 unfolding wordsOf
-returns-2 c = (sym (ap (λ (t : Bool). cond t 16 0) (ne-eqb _ 1 (c .match .rest .1))), omega arith)
+returns-2 c = (
+  sym (ap (λ (t : Bool). cond t (wordsOf writtenVersion) 0) (ne-eqb _ writtenVersion (c .match .rest .1))),
+  omega
+      arith,
+)
 
 pub width-spec : {M : Type 1} → statement M
 width-spec = tie.close (tie.spec returns returns-2)

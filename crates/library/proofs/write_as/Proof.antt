@@ -5,24 +5,49 @@ use Prim.Native.Nat.{ℕ}
 use native.Mathlib.Omega.{arith}
 use lib.ListN.{length-drop}
 use Rattle.bytes_le.proofs.Laws.{rest}
-use Rattle.library.specs.Answers.{over, toldLook}
-use Rattle.library.proofs.Offers.{Offered, offers, write-bad, write-short, write-good}
+use Rattle.library.proofs.Offers.{Offered, offers, write-short, write-bytes, write-refused}
 use borrow.Author.Needs.{needs}
 use Rattle.library.proofs.write_as.Statement.{statement}
 use Rattle.library.proofs.write_as.Tie as tie
+use Rattle.library.specs.inner.Inspecting.{found}
+use Rattle.bytes_le.specs.Buffer.{over}
 
--- what the arm of good names and words knows
-seen : (c : tie.After-cards) → let a = c .before .before .before .before .before .before .args in Offered (a .version) (a .names .now) (a .words .now) (c .cards .given .0 .0) (c .cards .given .0 .1 .0)
-seen c = offers _ _ _ (sym (c .before .before .offer .ensures) ∙ ap toldLook (c .cards .given .1))
+abbrev start-before-cards : tie.After-cards → tie.Start
+start-before-cards c = c .before .before .before .before .before .before
 
-offer-requires : tie.Need-offer-requires
-offer-requires c κs = search needs
+abbrev copy2-before-slice-known4 : tie.After-slice-known4 → tie.After-copy2
+copy2-before-slice-known4 c = c .before .before .before .before .before .before
 
-enum-known-f : tie.Need-enum-known-f
-enum-known-f c = search needs
+abbrev else1-before-copy-arg2 : tie.After-copy-arg2 → tie.Else1
+else1-before-copy-arg2 c = c .before .before .before .before .before .before .before
 
-enum-known-cards : tie.Need-enum-known-cards
-enum-known-cards c = search needs
+abbrev copy-before-store-arg : tie.After-store-arg → tie.After-copy
+copy-before-store-arg c = c .before .before .before .before .before .before .before
+
+abbrev cards-before-copy-arg2 : tie.After-copy-arg2 → tie.After-cards
+cards-before-copy-arg2 c = c .before .before .before .before .before .before .before .before .before
+
+abbrev else1-before-store-arg : tie.After-store-arg → tie.Else1
+else1-before-store-arg c = c .before .before .before .before .before .before .before .before .before .before .before
+
+abbrev cards-before-store-arg : tie.After-store-arg → tie.After-cards
+cards-before-store-arg c =
+    c .before .before .before .before .before .before .before .before .before .before .before .before .before
+
+abbrev header-before-slice-known4 : tie.After-slice-known4 → tie.After-header
+header-before-slice-known4 c =
+    c .before .before .before .before .before .before .before .before .before .before .before .before .before
+
+abbrev start-before-slice-known4 : tie.After-slice-known4 → tie.Start
+start-before-slice-known4 c =
+    c .before .before .before .before .before .before .before .before .before .before .before .before .before .before
+    .before .before .before .before .before .before .before .before
+
+-- what is known where names and words are sound
+seen : (c : tie.After-cards)
+    → let a = (start-before-cards c) .args in
+    Offered (a .version) (a .names .now) (a .words .now) (c .cards .given .0 .0) (c .cards .given .0 .1 .0)
+seen c = offers _ _ _ (sym (c .before .before .offer .ensures) ∙ ap found (c .cards .given .1))
 
 mul-e : tie.Need-mul-e
 mul-e c = omega (arith, seen (c .before))
@@ -48,54 +73,46 @@ cast-n c = omega (arith, seen (c .before .before))
 header-requires : tie.Need-header-requires
 header-requires c κs = omega (arith, seen (c .before .before))
 
-slice-aggregate-copy : tie.Need-slice-aggregate-copy
-slice-aggregate-copy c = search needs
-
-copy-requires : tie.Need-copy-requires
-copy-requires c κs = search needs
-
-sub-copy : tie.Need-sub-copy
-sub-copy c = search needs
-
-part-copy-start : tie.Need-part-copy-start
-part-copy-start c = search needs
-
-part-copy-end : tie.Need-part-copy-end
-part-copy-end c = search needs
-
 copy-requires-2 : tie.Need-copy-requires-2
-copy-requires-2 c κs = rw (rest, length-drop) (omega (arith, seen (c .before .before .before .before .before .before .before .before .before), c .before .before .before .copy .kept .1 .0, c .before .before .before .before .before .before .before .if1 .left))
-
-sub-store : tie.Need-sub-store
-sub-store c = search needs
-
-part-store-start : tie.Need-part-store-start
-part-store-start c = search needs
-
-part-store-end : tie.Need-part-store-end
-part-store-end c = search needs
+copy-requires-2 c κs =
+    rw (rest, length-drop)
+    (omega (
+      arith,
+      seen (cards-before-copy-arg2 c),
+      c .before .before .before .copy .kept .1 .0,
+      (else1-before-copy-arg2 c) .if1 .left,
+    ))
 
 store-requires : tie.Need-store-requires
-store-requires c κs = rw (rest, length-drop) (omega (arith, seen (c .before .before .before .before .before .before .before .before .before .before .before .before .before), c .before .before .before .before .before .before .before .copy .kept .1 .0, c .before .before .before .before .before .before .before .before .before .before .before .if1 .left))
+store-requires c κs =
+    rw (rest, length-drop)
+    (omega (
+      arith,
+      seen (cards-before-store-arg c),
+      (copy-before-store-arg c) .copy .kept .1 .0,
+      (else1-before-store-arg c) .if1 .left,
+    ))
 
 returns-2 : tie.Need-returns-2
-returns-2 c = write-bad _ _ _ _ (sym (c .before .before .before .offer .ensures) ∙ ap toldLook (c .before .f .given .1))
-
-same-length : tie.Need-same-length
-same-length c = search needs
+returns-2 c =
+    write-refused _ _ _ _ (sym (c .before .before .before .offer .ensures) ∙ ap found (c .before .f .given .1))
 
 returns-3 : tie.Need-returns-3
 returns-3 c =
-    write-good _ _ _ _ (seen (c .before .before .before .before .before .before .before .before .before .before .before .before .before .before .before .before)) (c .before .before .before .before .before .before .before .before .before .before .before .before .before .before .if1 .left) _
-    (c .before .before .before .before .before .before .before .before .before .before .copy .ensures ∙ ap (λ (h : List ℕ). over h (c .before .before .before .before .before .before .before .before .before .before .before .before .before .before .before .before .before .before .before .before .before .before .args .library .now)) (c .before .before .before .before .before .before .before .before .before .before .before .before .before .header .ensures)) _ (c .before .before .before .before .before .before .copy2 .ensures) _ (c .before .before .store .ensures)
+    write-bytes _ _ _ _ (seen (cards-before-store-arg (c .before .before .before)))
+    ((else1-before-store-arg (c .before .before .before)) .if1 .left) _
+    ((copy-before-store-arg (c .before .before .before)) .copy .ensures ∙ ap
+    (λ (h : List ℕ). over h ((start-before-slice-known4 c) .args .library .now))
+    ((header-before-slice-known4 c) .header .ensures)) _ ((copy2-before-slice-known4 c) .copy2 .ensures) _
+    (c .before .before .store .ensures)
 
 pub write-as-spec : {M : Type 1} → statement M
 write-as-spec =
     tie.close
     (tie.spec
-    offer-requires
-    enum-known-f
-    enum-known-cards
+    (λ c κs. search needs)
+    (λ c. search needs)
+    (λ c. search needs)
     mul-e
     add-e
     mul-whole
@@ -104,16 +121,16 @@ write-as-spec =
     returns
     cast-n
     header-requires
-    slice-aggregate-copy
-    copy-requires
-    sub-copy
-    part-copy-start
-    part-copy-end
+    (λ c. search needs)
+    (λ c κs. search needs)
+    (λ c. search needs)
+    (λ c. search needs)
+    (λ c. search needs)
     copy-requires-2
-    sub-store
-    part-store-start
-    part-store-end
+    (λ c. search needs)
+    (λ c. search needs)
+    (λ c. search needs)
     store-requires
     returns-2
-    same-length
+    (λ c. search needs)
     returns-3)

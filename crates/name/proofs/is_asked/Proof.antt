@@ -15,7 +15,9 @@ leading-requires : tie.Need-leading-requires
 leading-requires c κs = search needs
 
 returns-3 : tie.Need-returns-3
-returns-3 c = asked-run (c .before .before .before .before .args .x .now) (omega arith) (c .before .if2 .left) (c .leading .ensures)
+returns-3 c =
+    asked-run (c .before .before .before .before .args .x .now) (omega arith) (c .before .if2 .left)
+    (c .leading .ensures)
 
 pub is-asked-spec : {M : Type 1} → statement M
 is-asked-spec = tie.close (tie.spec returns returns-2 leading-requires returns-3)

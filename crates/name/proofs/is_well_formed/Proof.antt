@@ -12,7 +12,9 @@ leading-requires : tie.Need-leading-requires
 leading-requires c κs = search needs
 
 returns-2 : tie.Need-returns-2
-returns-2 c = no-mark (c .before .before .before .before .args .s .now) (c .before .before .if1 .left) (c .before .leading .ensures) (c .if2 .taken)
+returns-2 c =
+    no-mark (c .before .before .before .before .args .s .now) (c .before .before .if1 .left)
+    (c .before .leading .ensures) (c .if2 .taken)
 
 sub-blank : tie.Need-sub-blank
 sub-blank c = omega (arith, run-within (c .before .before .before .before .args .s .now))
@@ -27,7 +29,10 @@ blank-requires : tie.Need-blank-requires
 blank-requires c κs = search needs
 
 returns-3 : tie.Need-returns-3
-returns-3 c = then-zeros (c .before .before .before .before .before .before .args .s .now) (c .before .before .before .before .if1 .left) (c .before .before .before .leading .ensures) (c .before .before .if2 .left) _ (c .blank .ensures)
+returns-3 c =
+    then-zeros (c .before .before .before .before .before .before .args .s .now)
+    (c .before .before .before .before .if1 .left) (c .before .before .before .leading .ensures)
+    (c .before .before .if2 .left) _ (c .blank .ensures)
 
 pub is-well-formed-spec : {M : Type 1} → statement M
 is-well-formed-spec =

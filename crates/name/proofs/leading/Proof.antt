@@ -30,10 +30,14 @@ loop-less : tie.Need-loop-less Inv-loop μ-loop
 loop-less c = search needs
 
 loop-again : tie.Need-loop-again Inv-loop μ-loop
-loop-again c = run-on (c .before .before .before .before .loop .inv) (c .before .before .before .loop-test .taken) (sym (c .before .marks .ensures) ∙ c .if1 .taken)
+loop-again c =
+    run-on (c .before .before .before .before .loop .inv) (c .before .before .before .loop-test .taken)
+    (sym (c .before .marks .ensures) ∙ c .if1 .taken)
 
 returns : tie.Need-returns Inv-loop μ-loop
-returns c = run-ends (c .before .before .before .before .loop .inv) (c .before .before .before .loop-test .taken) (sym (c .before .marks .ensures) ∙ c .if1 .left)
+returns c =
+    run-ends (c .before .before .before .before .loop .inv) (c .before .before .before .loop-test .taken)
+    (sym (c .before .marks .ensures) ∙ c .if1 .left)
 
 returns-2 : tie.Need-returns-2 Inv-loop μ-loop
 returns-2 c = run-all (c .before .loop .inv) (c .loop-test .left)

@@ -4,9 +4,11 @@ use Prim.Native.Nat.{_-_}
 use native.Mathlib.Nat.{sub-zero}
 use lib.ListN.{length}
 use borrow.Author.Needs.{needs}
-use Rattle.sheet.proofs.Passing.{Bare, bare-on, bare-stop, bare-end}
+use Rattle.name.specs.Name.{padded}
+use Rattle.sheet.proofs.ByteLoops.{Bare, bare-on, bare-stop, bare-end}
 use Rattle.sheet.proofs.bare_name.Tie as tie
 use Rattle.sheet.proofs.bare_name.Statement.{statement}
+use Rattle.sheet.proofs.Ranges.{within}
 
 abbrev Inv-loop : tie.InvT-loop
 Inv-loop padded i₀ i = Bare padded i
@@ -17,26 +19,14 @@ abbrev μ-loop : tie.MeasureT-loop
 loop-holds : tie.Need-loop-holds Inv-loop μ-loop
 loop-holds c = record { within = search needs; so-far = refl }
 
-shared-slice-read-if1 : tie.Need-shared-slice-read-if1 Inv-loop μ-loop
-shared-slice-read-if1 c = search needs
-
-sub-result : tie.Need-sub-result Inv-loop μ-loop
-sub-result c = search needs
-
-part-result-start : tie.Need-part-result-start Inv-loop μ-loop
-part-result-start c = search needs
-
-part-result-end : tie.Need-part-result-end Inv-loop μ-loop
-part-result-end c = search needs
+abbrev loop-before-result : tie.After-result Inv-loop μ-loop → tie.At-loop Inv-loop μ-loop
+loop-before-result c = c .before .before .before .before
 
 returns : tie.Need-returns Inv-loop μ-loop
-returns c = rw sub-zero (bare-stop (c .before .before .before .before .loop .inv) (c .before .before .before .loop-test .taken) (c .before .if1 .taken))
-
-add-i : tie.Need-add-i Inv-loop μ-loop
-add-i c = search needs
-
-loop-less : tie.Need-loop-less Inv-loop μ-loop
-loop-less c = search needs
+returns c =
+    rw sub-zero
+    (bare-stop ((loop-before-result c) .loop .inv) (c .before .before .before .loop-test .taken)
+    (c .before .if1 .taken))
 
 loop-again : tie.Need-loop-again Inv-loop μ-loop
 loop-again c = bare-on (c .before .before .before .loop .inv) (c .before .before .loop-test .taken) (c .if1 .left)
@@ -51,12 +41,12 @@ bare-name-spec =
     Inv-loop
     μ-loop
     loop-holds
-    shared-slice-read-if1
-    sub-result
-    part-result-start
-    part-result-end
+    (λ c. search needs)
+    (λ c. search needs)
+    (λ c. search needs)
+    (λ c. search needs)
     returns
-    add-i
-    loop-less
+    (λ c. search needs)
+    (λ c. search needs)
     loop-again
     returns-2)

@@ -5,32 +5,23 @@ use Rattle.sheet.proofs.Texts.{then, gathered}
 use Rattle.sheet.proofs.label_line.Tie as tie
 use Rattle.sheet.proofs.label_line.Statement.{statement}
 
-empty-requires : tie.Need-empty-requires
-empty-requires c κs = search needs
-
-append-requires : tie.Need-append-requires
-append-requires c κs = search needs
-
-push-requires : tie.Need-push-requires
-push-requires c κs = search needs
-
-decimal-requires : tie.Need-decimal-requires
-decimal-requires c κs = search needs
-
-push-requires-2 : tie.Need-push-requires-2
-push-requires-2 c κs = search needs
+abbrev empty-before-push2 : tie.After-push2 → tie.After-empty
+empty-before-push2 c = c .before .before .before .before
 
 returns : tie.Need-returns
 unfolding labelLine
-returns c = gathered (c .before .before .before .before .empty .ensures) (then (c .before .before .before .append .ensures) (then (c .before .before .push .ensures) (then (c .before .decimal .ensures) (c .push2 .ensures))))
+returns c =
+    gathered ((empty-before-push2 c) .empty .ensures)
+    (then (c .before .before .before .append .ensures)
+    (then (c .before .before .push .ensures) (then (c .before .decimal .ensures) (c .push2 .ensures))))
 
 pub label-line-spec : {M : Type 1} → statement M
 label-line-spec =
     tie.close
     (tie.spec
-    empty-requires
-    append-requires
-    push-requires
-    decimal-requires
-    push-requires-2
+    (λ c κs. search needs)
+    (λ c κs. search needs)
+    (λ c κs. search needs)
+    (λ c κs. search needs)
+    (λ c κs. search needs)
     returns)

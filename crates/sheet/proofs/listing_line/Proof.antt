@@ -6,66 +6,51 @@ use Rattle.sheet.proofs.Texts.{then, gathered}
 use Rattle.sheet.proofs.listing_line.Tie as tie
 use Rattle.sheet.proofs.listing_line.Statement.{statement}
 
-judged-requires : tie.Need-judged-requires
-judged-requires c κs = search needs
+abbrev push-before-push3 : tie.After-push3 → tie.After-push
+push-before-push3 c = c .before .before .before .before
 
-clip-requires : tie.Need-clip-requires
-clip-requires c κs = search needs
+abbrev append-before-push3 : tie.After-push3 → tie.After-append
+append-before-push3 c = c .before .before .before .before .before
 
-listed-mask-requires : tie.Need-listed-mask-requires
-listed-mask-requires c κs = search needs
+abbrev empty-before-push3 : tie.After-push3 → tie.After-empty
+empty-before-push3 c = c .before .before .before .before .before .before
 
-empty-requires : tie.Need-empty-requires
-empty-requires c κs = search needs
+abbrev listed-mask-before-push3 : tie.After-push3 → tie.After-listed-mask
+listed-mask-before-push3 c = c .before .before .before .before .before .before .before
 
-append-requires : tie.Need-append-requires
-append-requires c κs = search needs
+abbrev clip-before-push3 : tie.After-push3 → tie.After-clip
+clip-before-push3 c = c .before .before .before .before .before .before .before .before
 
-push-requires : tie.Need-push-requires
-push-requires c κs = search needs
-
-cast-hex : tie.Need-cast-hex
-cast-hex c = search needs
-
-hex-requires : tie.Need-hex-requires
-hex-requires c κs = search needs
-
-push-requires-2 : tie.Need-push-requires-2
-push-requires-2 c κs = search needs
-
-cast-decimal : tie.Need-cast-decimal
-cast-decimal c = search needs
-
-decimal-requires : tie.Need-decimal-requires
-decimal-requires c κs = search needs
-
-push-requires-3 : tie.Need-push-requires-3
-push-requires-3 c κs = search needs
+abbrev judged-before-push3 : tie.After-push3 → tie.After-judged
+judged-before-push3 c = c .before .before .before .before .before .before .before .before .before
 
 returns : tie.Need-returns
 unfolding listingLine
 returns c =
-    let number = c .before .before .before .before .before .before .before .before .before .judged .ensures in
-    gathered (c .before .before .before .before .before .before .empty .ensures)
-    (then (c .before .before .before .before .before .append .ensures)
-    (then (c .before .before .before .before .push .ensures)
-    (then (mask-listed _ number (c .before .before .before .before .before .before .before .before .clip .ensures) (c .before .before .before .before .before .before .before .listed-mask .ensures) (c .before .before .before .hex .ensures))
-    (then (c .before .before .push2 .ensures) (then (number-listed _ number (c .before .decimal .ensures)) (c .push3 .ensures))))))
+    let number = (judged-before-push3 c) .judged .ensures in
+    gathered ((empty-before-push3 c) .empty .ensures)
+    (then ((append-before-push3 c) .append .ensures)
+    (then ((push-before-push3 c) .push .ensures)
+    (then
+    (mask-listed _ number ((clip-before-push3 c) .clip .ensures) ((listed-mask-before-push3 c) .listed-mask .ensures)
+    (c .before .before .before .hex .ensures))
+    (then (c .before .before .push2 .ensures)
+    (then (number-listed _ number (c .before .decimal .ensures)) (c .push3 .ensures))))))
 
 pub listing-line-spec : {M : Type 1} → statement M
 listing-line-spec =
     tie.close
     (tie.spec
-    judged-requires
-    clip-requires
-    listed-mask-requires
-    empty-requires
-    append-requires
-    push-requires
-    cast-hex
-    hex-requires
-    push-requires-2
-    cast-decimal
-    decimal-requires
-    push-requires-3
+    (λ c κs. search needs)
+    (λ c κs. search needs)
+    (λ c κs. search needs)
+    (λ c κs. search needs)
+    (λ c κs. search needs)
+    (λ c κs. search needs)
+    (λ c. search needs)
+    (λ c κs. search needs)
+    (λ c κs. search needs)
+    (λ c. search needs)
+    (λ c κs. search needs)
+    (λ c κs. search needs)
     returns)

@@ -4,14 +4,8 @@ use Rattle.sheet.proofs.Texts.{gathered}
 use Rattle.sheet.proofs.mask_digits.Tie as tie
 use Rattle.sheet.proofs.mask_digits.Statement.{statement}
 
-empty-requires : tie.Need-empty-requires
-empty-requires c κs = search needs
-
-hex-requires : tie.Need-hex-requires
-hex-requires c κs = search needs
-
 returns : tie.Need-returns
 returns c = gathered (c .before .empty .ensures) (c .hex .ensures)
 
 pub mask-digits-spec : {M : Type 1} → statement M
-mask-digits-spec = tie.close (tie.spec empty-requires hex-requires returns)
+mask-digits-spec = tie.close (tie.spec (λ c κs. search needs) (λ c κs. search needs) returns)

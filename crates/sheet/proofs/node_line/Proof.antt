@@ -6,38 +6,30 @@ use Rattle.sheet.proofs.Texts.{then, gathered}
 use Rattle.sheet.proofs.node_line.Tie as tie
 use Rattle.sheet.proofs.node_line.Statement.{statement}
 
-empty-requires : tie.Need-empty-requires
-empty-requires c κs = search needs
+abbrev empty-before-push : tie.After-push → tie.After-empty
+empty-before-push c = c .before .before .before .before
 
-slice-aggregate-append : tie.Need-slice-aggregate-append
-slice-aggregate-append c = search needs
-
-append-requires : tie.Need-append-requires
-append-requires c κs = search needs
-
-reading-requires : tie.Need-reading-requires
-reading-requires c κs = search needs
-
-push-requires : tie.Need-push-requires
-push-requires c κs = search needs
+abbrev start-before-push : tie.After-push → tie.Start
+start-before-push c = c .before .before .before .before .before
 
 returns : tie.Need-returns
 unfolding nodeLine
 returns c =
-    let s = c .before .before .before .before .before in
-    gathered (c .before .before .before .before .empty .ensures)
+    let s = (start-before-push c) in
+    gathered ((empty-before-push c) .empty .ensures)
     (then (c .before .before .append .ensures)
     (then
-    (as-read (s .args .microvolts) (s .fits .microvolts) (s .args .node) (s .args .ticks) (s .fits .ticks) (c .before .reading .ensures))
+    (as-read (s .args .microvolts) (s .fits .microvolts) (s .args .node) (s .args .ticks) (s .fits .ticks)
+    (c .before .reading .ensures))
     (c .push .ensures)))
 
 pub node-line-spec : {M : Type 1} → statement M
 node-line-spec =
     tie.close
     (tie.spec
-    empty-requires
-    slice-aggregate-append
-    append-requires
-    reading-requires
-    push-requires
+    (λ c κs. search needs)
+    (λ c. search needs)
+    (λ c κs. search needs)
+    (λ c κs. search needs)
+    (λ c κs. search needs)
     returns)

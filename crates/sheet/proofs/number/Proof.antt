@@ -7,24 +7,6 @@ use Rattle.sheet.proofs.number.Statement.{statement}
 returns : tie.Need-returns
 returns c = no-numeral _ (c .if1 .taken)
 
-shared-slice-read-if2 : tie.Need-shared-slice-read-if2
-shared-slice-read-if2 c = search needs
-
-sub-read : tie.Need-sub-read
-sub-read c = search needs
-
-part-read-start : tie.Need-part-read-start
-part-read-start c = search needs
-
-part-read-end : tie.Need-part-read-end
-part-read-end c = search needs
-
-read-requires : tie.Need-read-requires
-read-requires c κs = search needs
-
-read-requires-2 : tie.Need-read-requires-2
-read-requires-2 c κs = search needs
-
 returns-2 : tie.Need-returns-2
 returns-2 c = with-minus _ (c .before .before .if2 .taken) (c .read .ensures)
 
@@ -36,11 +18,11 @@ number-spec =
     tie.close
     (tie.spec
     returns
-    shared-slice-read-if2
-    sub-read
-    part-read-start
-    part-read-end
-    read-requires
-    read-requires-2
+    (λ c. search needs)
+    (λ c. search needs)
+    (λ c. search needs)
+    (λ c. search needs)
+    (λ c κs. search needs)
+    (λ c κs. search needs)
     returns-2
     returns-3)

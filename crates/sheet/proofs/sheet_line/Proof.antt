@@ -7,28 +7,20 @@ use Rattle.sheet.proofs.Texts.{then, gathered}
 use Rattle.sheet.proofs.sheet_line.Tie as tie
 use Rattle.sheet.proofs.sheet_line.Statement.{statement}
 
-empty-requires : tie.Need-empty-requires
-empty-requires c κs = search needs
+abbrev empty-before-push2 : tie.After-push2 → tie.After-empty
+empty-before-push2 c = c .before .before .before .before
 
-reading-requires : tie.Need-reading-requires
-reading-requires c κs = search needs
-
-push-requires : tie.Need-push-requires
-push-requires c κs = search needs
-
-amperes-requires : tie.Need-amperes-requires
-amperes-requires c κs = search needs
-
-push-requires-2 : tie.Need-push-requires-2
-push-requires-2 c κs = search needs
+abbrev start-before-push2 : tie.After-push2 → tie.Start
+start-before-push2 c = c .before .before .before .before .before
 
 returns : tie.Need-returns
 unfolding sheetLine
 returns c =
-    let s = c .before .before .before .before .before in
-    gathered (c .before .before .before .before .empty .ensures)
+    let s = (start-before-push2 c) in
+    gathered ((empty-before-push2 c) .empty .ensures)
     (then
-    (as-read (s .args .microvolts) (s .fits .microvolts) (s .args .node) (s .args .ticks) (s .fits .ticks) (c .before .before .before .reading .ensures))
+    (as-read (s .args .microvolts) (s .fits .microvolts) (s .args .node) (s .args .ticks) (s .fits .ticks)
+    (c .before .before .before .reading .ensures))
     (then (c .before .before .push .ensures)
     (then (as-given (s .args .ticks) (s .fits .ticks) ampereDigits (c .before .amperes .ensures)) (c .push2 .ensures))))
 
@@ -36,9 +28,9 @@ pub sheet-line-spec : {M : Type 1} → statement M
 sheet-line-spec =
     tie.close
     (tie.spec
-    empty-requires
-    reading-requires
-    push-requires
-    amperes-requires
-    push-requires-2
+    (λ c κs. search needs)
+    (λ c κs. search needs)
+    (λ c κs. search needs)
+    (λ c κs. search needs)
+    (λ c κs. search needs)
     returns)

@@ -10,35 +10,21 @@ Inv-loop x t₀ k₀ t k = Turn x t k
 abbrev μ-loop : tie.MeasureT-loop
 μ-loop x t₀ k₀ t k = k
 
-loop-holds : tie.Need-loop-holds Inv-loop μ-loop
-loop-holds c = begun (c .args .x)
-
-sub-k : tie.Need-sub-k Inv-loop μ-loop
-sub-k c = omega arith
-
-shl-u : tie.Need-shl-u Inv-loop μ-loop
-shl-u c = omega arith
-
 add-u : tie.Need-add-u Inv-loop μ-loop
 add-u c = omega (arith, small _ _ (c .before .loop .k) (c .before .loop .inv) (c .loop-test .taken))
 
 mul-if1 : tie.Need-mul-if1 Inv-loop μ-loop
 mul-if1 c = omega (arith, squared _ _ (c .before .loop .k) (c .before .loop .inv) (c .loop-test .taken))
 
-loop-less : tie.Need-loop-less Inv-loop μ-loop
-loop-less c = omega arith
-
 loop-again : tie.Need-loop-again Inv-loop μ-loop
-loop-again c = taken _ _ (c .before .before .loop .k) (c .before .before .loop .inv) (c .before .loop-test .taken) (c .if1 .taken)
-
-loop-less-2 : tie.Need-loop-less-2 Inv-loop μ-loop
-loop-less-2 c = omega arith
+loop-again c =
+    let l = c .before .before .loop in
+    taken _ _ (l .k) (l .inv) (c .before .loop-test .taken) (c .if1 .taken)
 
 loop-again-2 : tie.Need-loop-again-2 Inv-loop μ-loop
-loop-again-2 c = passed _ _ (c .before .before .loop .k) (c .before .before .loop .inv) (c .before .loop-test .taken) (c .if1 .left)
-
-returns : tie.Need-returns Inv-loop μ-loop
-returns c = ended _ _ _ (c .before .loop .inv) (omega arith)
+loop-again-2 c =
+    let l = c .before .before .loop in
+    passed _ _ (l .k) (l .inv) (c .before .loop-test .taken) (c .if1 .left)
 
 pub bitwise-spec : {M : Type 1} → statement M
 bitwise-spec =
@@ -46,13 +32,13 @@ bitwise-spec =
     (tie.spec
     Inv-loop
     μ-loop
-    loop-holds
-    sub-k
-    shl-u
+    (λ c. begun (c .args .x))
+    (λ c. omega arith)
+    (λ c. omega arith)
     add-u
     mul-if1
-    loop-less
+    (λ c. omega arith)
     loop-again
-    loop-less-2
+    (λ c. omega arith)
     loop-again-2
-    returns)
+    (λ c. ended _ _ _ (c .before .loop .inv) (omega arith)))

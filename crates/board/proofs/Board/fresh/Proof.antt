@@ -5,15 +5,9 @@ use Rattle.board.proofs.Reaches.{fresh-reached}
 use Rattle.board.proofs.Board.fresh.Statement.{statement}
 use Rattle.board.proofs.Board.fresh.Tie as tie
 
-no-card-requires : tie.Need-no-card-requires
-no-card-requires c κs = search needs
-
-no-transistor-requires : tie.Need-no-transistor-requires
-no-transistor-requires c κs = search needs
-
 returns : tie.Need-returns
 unfolding freshBoard
 returns c = fresh-reached (rw ((c .before .no-card .ensures), c .no-transistor .ensures))
 
 pub fresh-spec : {M : Type 1} → statement M
-fresh-spec = tie.close (tie.spec no-card-requires no-transistor-requires returns)
+fresh-spec = tie.close (tie.spec (λ c κs. search needs) (λ c κs. search needs) returns)

@@ -12,45 +12,44 @@ use Rattle.board.proofs.Answers.{look-malformed, look-not-held, looks-u
 use Rattle.board.proofs.Board.look_up.Statement.{statement}
 use Rattle.board.proofs.Board.look_up.Tie as tie
 
+-- earlier places, from later ones
+abbrev start : tie.After-refused → tie.Start
+start c = c .before .before .before .before
+
+abbrev else1 : tie.After-highest → tie.Else1
+else1 c = c .before .before .before .before
+
 is-name : (c : tie.Else1) → asked (c .before .before .before .args .name .now) ≡ true
 is-name c = sym (c .before .is-asked .ensures) ∙ not-false _ (c .if1 .left)
 
-highest-is : (c : tie.After-highest) → c .highest .result ≡ highestAt (padded (c .before .before .before .before .before .before .before .args .name .now)) (c .before .before .before .before .before .before .before .args .self .cards)
-highest-is c = c .highest .ensures ∙ ap (λ (l : List ℕ). highestAt l (c .before .before .before .before .before .before .before .args .self .cards)) (c .before .before .before .pad .ensures)
-
-is-asked-requires : tie.Need-is-asked-requires
-is-asked-requires c κs = search needs
-
-refused-requires : tie.Need-refused-requires
-refused-requires c κs = search needs
+highest-is : (c : tie.After-highest) →
+    c .highest .result ≡ highestAt (padded (else1 c .before .before .before .args .name .now))
+    (else1 c .before .before .before .args .self .cards)
+highest-is c =
+    c .highest .ensures
+    ∙ ap (λ (l : List ℕ). highestAt l (else1 c .before .before .before .args .self .cards))
+    (c .before .before .before .pad .ensures)
 
 returns : tie.Need-returns
-returns c = after-look (c .before .before .before .before .pre) _ (c .refused .ensures ∙ look-malformed _ _ (sym ((c .before .before .is-asked .ensures)) ∙ not-true _ (c .before .if1 .taken)))
-
-pad-requires : tie.Need-pad-requires
-pad-requires c κs = search needs
-
-highest-requires : tie.Need-highest-requires
-highest-requires c κs = search needs
-
-refused-requires-2 : tie.Need-refused-requires-2
-refused-requires-2 c κs = search needs
+returns c =
+    after-look (start c .pre) _
+    (c .refused .ensures
+    ∙ look-malformed _ _ (sym (c .before .before .is-asked .ensures) ∙ not-true _ (c .before .if1 .taken)))
 
 returns-2 : tie.Need-returns-2
-returns-2 c = after-look (c .before .before .before .before .before .before .before .before .before .pre) _ (c .refused2 .ensures ∙ look-not-held _ _ (is-name (c .before .before .before .before .before .before)) (sym (highest-is (c .before .before)) ∙ (c .before .if2 .taken)))
+returns-2 c =
+    after-look (else1 (c .before .before) .before .before .before .pre) _
+    (c .refused2 .ensures
+    ∙ look-not-held _ _ (is-name (else1 (c .before .before)))
+    (sym (highest-is (c .before .before)) ∙ (c .before .if2 .taken)))
 
 returns-3 : tie.Need-returns-3
-returns-3 c = after-look (c .before .before .before .before .before .before .before .before .pre) _ (looks-up _ _ _ (is-name (c .before .before .before .before .before)) (highest-is (c .before)) (c .if2 .left))
+returns-3 c =
+    after-look (else1 (c .before) .before .before .before .pre) _
+    (looks-up _ _ _ (is-name (else1 (c .before))) (highest-is (c .before)) (c .if2 .left))
 
 pub look-up-spec : {M : Type 1} → statement M
 look-up-spec =
     tie.close
-    (tie.spec
-    is-asked-requires
-    refused-requires
-    returns
-    pad-requires
-    highest-requires
-    refused-requires-2
-    returns-2
-    returns-3)
+    (tie.spec (λ c κs. search needs) (λ c κs. search needs) returns (λ c κs. search needs) (λ c κs. search needs)
+    (λ c κs. search needs) returns-2 returns-3)

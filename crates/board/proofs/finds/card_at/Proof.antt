@@ -4,23 +4,21 @@ use native.Mathlib.Omega.{arith}
 use lib.ListN.{length}
 use borrow.Author.Needs.{needs}
 use borrow.Author.Tests.{eq-eqb, ne-eqb}
+use Rattle.board.specs.Counts.{cardsMost}
 use Rattle.board.specs.Model.{isCard}
-use Rattle.board.proofs.Walks.{first-most, place-is}
+use Rattle.board.proofs.Scans.{first-most, place-is}
 use Rattle.board.proofs.finds.card_at.Statement.{statement}
 use Rattle.board.proofs.finds.card_at.Tie as tie
 
 returns : tie.Need-returns
 returns c = simp (eq-eqb _ _ (c .if1 .taken))
 
-find-card-requires : tie.Need-find-card-requires
-find-card-requires c κs = search needs
-
 returns-2 : tie.Need-returns-2
 returns-2 c =
     let s = c .before .before in
-    let long : length (s .args .cards) ≡ 16 = search needs in
+    let long : length (s .args .cards) ≡ cardsMost = search needs in
     let most = first-most (isCard (s .args .n)) (s .args .cards) in
-    simp (ne-eqb _ _ (c .before .if1 .left)) (c .find-card .ensures ∙ place-is 16 _ (omega arith))
+    simp (ne-eqb _ _ (c .before .if1 .left)) (c .find-card .ensures ∙ place-is cardsMost _ (omega arith))
 
 pub card-at-spec : {M : Type 1} → statement M
-card-at-spec = tie.close (tie.spec returns find-card-requires returns-2)
+card-at-spec = tie.close (tie.spec returns (λ c κs. search needs) returns-2)

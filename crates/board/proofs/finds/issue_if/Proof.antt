@@ -3,9 +3,6 @@ use borrow.Author.Needs.{needs}
 use Rattle.board.proofs.finds.issue_if.Statement.{statement}
 use Rattle.board.proofs.finds.issue_if.Tie as tie
 
-is-same-requires : tie.Need-is-same-requires
-is-same-requires c κs = search needs
-
 returns : tie.Need-returns
 returns c = simp (← (c .before .is-same .ensures), c .if1 .taken)
 
@@ -13,4 +10,4 @@ returns-2 : tie.Need-returns-2
 returns-2 c = simp (← (c .before .is-same .ensures), c .if1 .left)
 
 pub issue-if-spec : {M : Type 1} → statement M
-issue-if-spec = tie.close (tie.spec is-same-requires returns returns-2)
+issue-if-spec = tie.close (tie.spec (λ c κs. search needs) returns returns-2)

@@ -4,23 +4,21 @@ use native.Mathlib.Omega.{arith}
 use lib.ListN.{length}
 use borrow.Author.Needs.{needs}
 use borrow.Author.Tests.{eq-eqb, ne-eqb}
+use Rattle.board.specs.Counts.{transistorsMost}
 use Rattle.board.specs.Model.{isTransistor}
-use Rattle.board.proofs.Walks.{first-most, place-is}
+use Rattle.board.proofs.Scans.{first-most, place-is}
 use Rattle.board.proofs.finds.transistor_at.Statement.{statement}
 use Rattle.board.proofs.finds.transistor_at.Tie as tie
 
 returns : tie.Need-returns
 returns c = simp (eq-eqb _ _ (c .if1 .taken))
 
-find-transistor-requires : tie.Need-find-transistor-requires
-find-transistor-requires c κs = search needs
-
 returns-2 : tie.Need-returns-2
 returns-2 c =
     let s = c .before .before in
-    let long : length (s .args .ts) ≡ 64 = search needs in
+    let long : length (s .args .ts) ≡ transistorsMost = search needs in
     let most = first-most (isTransistor (s .args .n)) (s .args .ts) in
-    simp (ne-eqb _ _ (c .before .if1 .left)) (c .find-transistor .ensures ∙ place-is 64 _ (omega arith))
+    simp (ne-eqb _ _ (c .before .if1 .left)) (c .find-transistor .ensures ∙ place-is transistorsMost _ (omega arith))
 
 pub transistor-at-spec : {M : Type 1} → statement M
-transistor-at-spec = tie.close (tie.spec returns find-transistor-requires returns-2)
+transistor-at-spec = tie.close (tie.spec returns (λ c κs. search needs) returns-2)

@@ -1,86 +1,54 @@
--- `nodes_of` takes the seven numbers one by one.
-use mathlib.Core.Path.{_≡_, ap}
-use mathlib.Core.List.{map}
+-- `nodes_of` has taken the first k numbers.
+use mathlib.Core.Path.{_≡_, ap, _∙_}
+use Prim.Native.Nat.{ℕ, _≤_, _-_}
+use native.Mathlib.Omega.{arith}
 use lib.ListN.{length, getD}
 use lib.IntN.{pos}
 use borrow.Author.Needs.{needs}
-use Rattle.board.specs.Parts.{nodeOf}
-use Rattle.board.proofs.Amounts.{held}
-use Rattle.board.proofs.Roles.{seven}
+use Rattle.branch.specs.Rows.{roles}
+use Rattle.branch.specs.laws.Filled.{Filled, filled-none, filled-more}
+use Rattle.board.specs.inner.Parts.{nodeOf}
+use Rattle.board.proofs.Integers.{held}
+use Rattle.board.proofs.Scans.{filled-map}
 use Rattle.board.proofs.given.nodes_of.Statement.{statement}
 use Rattle.board.proofs.given.nodes_of.Tie as tie
 
-array-copy-out-node-of : tie.Need-array-copy-out-node-of
-array-copy-out-node-of c = search needs
+abbrev Inv-loop : tie.InvT-loop
+Inv-loop nodes on₀ k₀ on k = (k ≤ roles) × Filled 0 roles (λ (i : ℕ). nodeOf (getD nodes i (pos 0))) k on
 
-node-of-requires : tie.Need-node-of-requires
-node-of-requires c κs = search needs
+abbrev μ-loop : tie.MeasureT-loop
+μ-loop nodes on₀ k₀ on k = roles - k
 
-array-copy-out-node-of-2 : tie.Need-array-copy-out-node-of-2
-array-copy-out-node-of-2 c = search needs
+long : (c : tie.Start Inv-loop μ-loop) → length (c .args .t1) ≡ roles
+long c = search needs
 
-node-of-requires-2 : tie.Need-node-of-requires-2
-node-of-requires-2 c κs = search needs
+loop-holds : tie.Need-loop-holds Inv-loop μ-loop
+loop-holds c = (search needs, filled-none (search needs))
 
-array-copy-out-node-of-3 : tie.Need-array-copy-out-node-of-3
-array-copy-out-node-of-3 c = search needs
+loop-again : tie.Need-loop-again Inv-loop μ-loop
+loop-again c =
+    let l = c .before .before .before in
+    let e : held (getD (l .before .args .t1) (l .loop .k) (pos 0)) ≡ getD (l .before .args .t1) (l .loop .k) (pos 0) =
+    search needs in
+    (omega arith, filled-more _ (omega arith) (c .node-of .ensures ∙ ap nodeOf e) (l .loop .inv .1))
 
-node-of-requires-3 : tie.Need-node-of-requires-3
-node-of-requires-3 c κs = search needs
-
-array-copy-out-node-of-4 : tie.Need-array-copy-out-node-of-4
-array-copy-out-node-of-4 c = search needs
-
-node-of-requires-4 : tie.Need-node-of-requires-4
-node-of-requires-4 c κs = search needs
-
-array-copy-out-node-of-5 : tie.Need-array-copy-out-node-of-5
-array-copy-out-node-of-5 c = search needs
-
-node-of-requires-5 : tie.Need-node-of-requires-5
-node-of-requires-5 c κs = search needs
-
-array-copy-out-node-of-6 : tie.Need-array-copy-out-node-of-6
-array-copy-out-node-of-6 c = search needs
-
-node-of-requires-6 : tie.Need-node-of-requires-6
-node-of-requires-6 c κs = search needs
-
-array-copy-out-node-of-7 : tie.Need-array-copy-out-node-of-7
-array-copy-out-node-of-7 c = search needs
-
-node-of-requires-7 : tie.Need-node-of-requires-7
-node-of-requires-7 c κs = search needs
-
-returns : tie.Need-returns
+returns : tie.Need-returns Inv-loop μ-loop
 returns c =
-    let s = (c .before .before .before .before .before .before .before .before .before .before .before .before .before .before .args .t1) in
-    let h : length s ≡ 7 = search needs in
-    let e0 : held (getD s 0 (pos 0)) ≡ getD s 0 (pos 0) = search needs in
-    let e1 : held (getD s 1 (pos 0)) ≡ getD s 1 (pos 0) = search needs in
-    let e2 : held (getD s 2 (pos 0)) ≡ getD s 2 (pos 0) = search needs in
-    let e3 : held (getD s 3 (pos 0)) ≡ getD s 3 (pos 0) = search needs in
-    let e4 : held (getD s 4 (pos 0)) ≡ getD s 4 (pos 0) = search needs in
-    let e5 : held (getD s 5 (pos 0)) ≡ getD s 5 (pos 0) = search needs in
-    let e6 : held (getD s 6 (pos 0)) ≡ getD s 6 (pos 0) = search needs in
-    cc (ap (map nodeOf) (seven (pos 0) s h))
+    let s = c .before .before in
+    filled-map nodeOf (pos 0) (s .args .t1) (long s) (omega arith) (c .before .loop .inv .1)
 
 pub nodes-of-spec : {M : Type 1} → statement M
 nodes-of-spec =
     tie.close
     (tie.spec
-    array-copy-out-node-of
-    node-of-requires
-    array-copy-out-node-of-2
-    node-of-requires-2
-    array-copy-out-node-of-3
-    node-of-requires-3
-    array-copy-out-node-of-4
-    node-of-requires-4
-    array-copy-out-node-of-5
-    node-of-requires-5
-    array-copy-out-node-of-6
-    node-of-requires-6
-    array-copy-out-node-of-7
-    node-of-requires-7
+    Inv-loop
+    μ-loop
+    loop-holds
+    (λ c. omega arith)
+    (λ c. omega arith)
+    (λ c κs. search needs)
+    (λ c. omega arith)
+    (λ c. omega arith)
+    (λ c. omega arith)
+    loop-again
     returns)

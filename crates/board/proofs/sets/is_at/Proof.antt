@@ -7,11 +7,8 @@ use Rattle.board.proofs.sets.is_at.Tie as tie
 returns : tie.Need-returns
 returns c = simp (eq-eqb _ _ (c .if1 .taken))
 
-has-requires : tie.Need-has-requires
-has-requires c κs = search needs
-
 returns-2 : tie.Need-returns-2
-returns-2 c = simp (ne-eqb _ _ ((c .before .before .if1 .left))) (c .has .ensures)
+returns-2 c = simp (ne-eqb _ _ (c .before .before .if1 .left)) (c .has .ensures)
 
 pub is-at-spec : {M : Type 1} → statement M
-is-at-spec = tie.close (tie.spec returns has-requires returns-2)
+is-at-spec = tie.close (tie.spec returns (λ c κs. search needs) returns-2)

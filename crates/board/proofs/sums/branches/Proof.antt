@@ -5,63 +5,48 @@ use native.Mathlib.Omega.{arith}
 use lib.ListN.{getD}
 use lib.IntN.{pos}
 use borrow.Author.Needs.{needs}
-use Rattle.board.specs.Parts.{More, endsGive}
-use Rattle.board.proofs.Amounts.{held, held-is, ends-none, ends-more, fair-next}
+use Rattle.branch.specs.Rows.{roles, branches}
+use Rattle.board.specs.inner.Parts.{More, endsGive}
+use Rattle.board.proofs.Integers.{held, held-is}
+use Rattle.board.proofs.Amounts.{ends-none, ends-more, fair-next}
 use Rattle.board.proofs.sums.branches.Statement.{statement}
 use Rattle.board.proofs.sums.branches.Tie as tie
 
 abbrev Inv-loop : tie.InvT-loop
-Inv-loop a₀ from to ticks k₀ a k = (k ≤ 7) × More 7 a₀ a (endsGive from to ticks k)
+Inv-loop a₀ from to ticks k₀ a k = (k ≤ branches) × More roles a₀ a (endsGive from to ticks k)
 
 abbrev μ-loop : tie.MeasureT-loop
-μ-loop a₀ from to ticks k₀ a k = 7 - k
+μ-loop a₀ from to ticks k₀ a k = branches - k
 
-x-is : (c : tie.After-x Inv-loop μ-loop) → held (getD (c .before .before .before .before .before .args .ticks .now) (c .before .before .before .before .loop .k) (pos 0)) ≡ getD (c .before .before .before .before .before .args .ticks .now) (c .before .before .before .before .loop .k) (pos 0)
-x-is c = let b = c .before .before .before .before .before .pre .3 .within (c .before .before .before .before .loop .k) in held-is _ (omega arith)
+-- earlier places, from later ones
+abbrev at-loop : tie.After-x Inv-loop μ-loop → tie.At-loop Inv-loop μ-loop
+at-loop c = c .before .before .before .before
+
+x-is : (c : tie.After-x Inv-loop μ-loop) →
+    held (getD (at-loop c .before .args .ticks .now) (at-loop c .loop .k) (pos 0)) ≡ getD
+    (at-loop c .before .args .ticks .now) (at-loop c .loop .k) (pos 0)
+x-is c = let b = at-loop c .before .pre .3 .within (at-loop c .loop .k) in held-is _ (omega arith)
 
 loop-holds : tie.Need-loop-holds Inv-loop μ-loop
-loop-holds c = (search needs, ends-none _ _ _ _ ((c .pre .2 .long)))
-
-element-copy-out-f : tie.Need-element-copy-out-f Inv-loop μ-loop
-element-copy-out-f c = omega arith
-
-element-copy-out-t : tie.Need-element-copy-out-t Inv-loop μ-loop
-element-copy-out-t c = omega arith
-
-mul-x : tie.Need-mul-x Inv-loop μ-loop
-mul-x c = omega arith
-
-element-copy-out-x : tie.Need-element-copy-out-x Inv-loop μ-loop
-element-copy-out-x c = omega arith
+loop-holds c = (search needs, ends-none _ _ _ _ (c .pre .2 .long))
 
 branch-requires : tie.Need-branch-requires Inv-loop μ-loop
-branch-requires c κs = fair-next _ _ _ _ _ (c .before .before .before .before .before .before .pre .0) (c .before .before .before .before .before .before .pre .1) (c .before .before .before .before .before .before .pre .2) (c .before .before .before .before .before .before .pre .3) (omega arith) (x-is (c .before)) ((c .before .before .before .before .before .loop .inv .1))
-
-add-k : tie.Need-add-k Inv-loop μ-loop
-add-k c = omega arith
-
-loop-less : tie.Need-loop-less Inv-loop μ-loop
-loop-less c = omega arith
+branch-requires c κs =
+    let s = at-loop (c .before) .before in
+    fair-next _ _ _ _ _ (s .pre .0) (s .pre .1) (s .pre .2) (s .pre .3) (omega arith) (x-is (c .before))
+    ((at-loop (c .before) .loop .inv .1))
 
 loop-again : tie.Need-loop-again Inv-loop μ-loop
-loop-again c = (omega arith, ends-more _ _ _ _ _ ((c .before .before .before .before .before .before .loop .inv .1)) (x-is (c .before .before)) (c .branch .ensures))
+loop-again c = (
+  omega arith,
+  ends-more _ _ _ _ _ ((at-loop (c .before .before) .loop .inv .1)) (x-is (c .before .before)) (c .branch .ensures),
+)
 
 returns : tie.Need-returns Inv-loop μ-loop
-returns c = let e : (c .before .loop .k) ≡ 7 = omega arith in rw e at ((c .before .loop .inv .1))
+returns c = let e : (c .before .loop .k) ≡ branches = omega arith in rw e at (c .before .loop .inv .1)
 
 pub branches-spec : {M : Type 1} → statement M
 branches-spec =
     tie.close
-    (tie.spec
-    Inv-loop
-    μ-loop
-    loop-holds
-    element-copy-out-f
-    element-copy-out-t
-    mul-x
-    element-copy-out-x
-    branch-requires
-    add-k
-    loop-less
-    loop-again
-    returns)
+    (tie.spec Inv-loop μ-loop loop-holds (λ c. omega arith) (λ c. omega arith) (λ c. omega arith) (λ c. omega arith)
+    branch-requires (λ c. omega arith) (λ c. omega arith) loop-again returns)

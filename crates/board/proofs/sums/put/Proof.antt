@@ -1,26 +1,41 @@
 -- `put` works the roles' amounts from nothing, and hands them out.
 use mathlib.Core.Path.{sym, subst}
+use mathlib.Core.Bool.{false}
 use borrow.Author.Needs.{needs}
-use Rattle.board.specs.Parts.{Wired}
+use Rattle.branch.specs.Rows.{rowsFor, roles}
+use Rattle.board.specs.inner.Parts.{Wired}
 use Rattle.board.proofs.Roles.{wired-froms, wired-tos, room-nothing, amounts-within, amounts-out}
 use Rattle.board.proofs.sums.put.Statement.{statement}
 use Rattle.board.proofs.sums.put.Tie as tie
 
-froms-requires : tie.Need-froms-requires
-froms-requires c κs = search needs
+-- earlier places, from later ones
+abbrev after-from-roles : tie.After-to → tie.After-from-roles
+after-from-roles c = c .before .before .before .before
 
-tos-requires : tie.Need-tos-requires
-tos-requires c κs = search needs
+abbrev after-to : tie.After-hand-out → tie.After-to
+after-to c = c .before .before .before .before
 
 branches-requires : tie.Need-branches-requires
-branches-requires c κs = (subst (Wired 7) (sym (c .before .before .before .before .froms .ensures)) wired-froms, subst (Wired 7) (sym (c .before .before .before .tos .ensures)) wired-tos, room-nothing, (c .before .before .before .before .before .pre .2))
+branches-requires c κs = (
+  subst (Wired roles) (sym (after-from-roles c .from-roles .ensures)) (wired-froms (rowsFor false)),
+  subst (Wired roles) (sym (c .before .before .before .to-roles .ensures)) (wired-tos (rowsFor false)),
+  room-nothing,
+  (after-from-roles c .before .pre .2),
+)
 
 hand-out-requires : tie.Need-hand-out-requires
-hand-out-requires c κs = ((c .before .before .before .before .before .before .before .before .pre .0), (c .before .before .before .before .before .before .before .before .pre .1), amounts-within _ _ _ _ (c .before .before .branches .ensures) (c .before .before .before .before .before .before .before .before .pre .2))
+hand-out-requires c κs =
+    let s = after-from-roles (c .before .before .before) .before in
+    ((s .pre .0), (s .pre .1), amounts-within _ _ _ _ (c .before .before .branches .ensures) (s .pre .2))
 
 returns : tie.Need-returns
-returns c = amounts-out _ _ _ _ (rw ((c .before .before .before .before .before .before .before .before .froms .ensures), (c .before .before .before .before .before .before .before .tos .ensures)) at (c .before .before .before .branches .ensures)) _ (c .hand-out .ensures)
+returns c =
+    amounts-out _ _ _ _
+    (rw ((after-from-roles (after-to c) .from-roles .ensures), (after-to c .before .before .before .to-roles .ensures))
+    at (c .before .before .before .branches .ensures))
+    _ (c .hand-out .ensures)
 
 pub put-spec : {M : Type 1} → statement M
 put-spec =
-    tie.close (tie.spec froms-requires tos-requires branches-requires hand-out-requires returns)
+    tie.close
+    (tie.spec (λ c κs. search needs) (λ c κs. search needs) branches-requires hand-out-requires returns)

@@ -1,26 +1,32 @@
--- `put_in` gives the seven currents, and tells whether they are within their limits.
+-- `put_in` gives the currents, and tells whether they are within their limits.
 use mathlib.Core.Path.{sym, subst, _∙_}
-use Prim.Native.Nat.{_^_}
 use borrow.Author.Needs.{needs}
 use Rattle.branch.specs.declared.Outcome.{Outcome}
-use Rattle.board.specs.Parts.{Within}
+use Rattle.branch.specs.Outcome.{tickLimit}
+use Rattle.board.specs.inner.Parts.{Within}
 use Rattle.board.proofs.Currents.{ticks-within, over-told, gives-flow}
 use Rattle.board.proofs.worker.put_in.Statement.{statement}
 use Rattle.board.proofs.worker.put_in.Tie as tie
 
-work-requires : tie.Need-work-requires
-work-requires c κs = search needs
+-- earlier places, from later ones
+abbrev start : tie.After-ticks2 → tie.Start
+start c = c .before .before .before .before
+
+abbrev after-work : tie.After-put → tie.After-work
+after-work c = c .before .before .before .before
 
 put-requires : tie.Need-put-requires
-put-requires c κs = (record { wired = (c .before .before .before .before .pre .0 .wired) }, (c .before .before .before .before .pre .1), subst (λ (o : Outcome). Within (2 ^ 53) (o .ticks)) (sym (c .before .before .before .work .ensures)) (ticks-within _ _))
-
-is-over-requires : tie.Need-is-over-requires
-is-over-requires c κs = search needs
+put-requires c κs = (
+  record { wired = (start c .pre .0 .wired) },
+  (start c .pre .1),
+  subst (λ (o : Outcome). Within tickLimit (o .ticks)) (sym (c .before .before .before .work .ensures))
+      (ticks-within _ _),
+)
 
 returns : tie.Need-returns
 returns c =
-    let o = (c .before .before .before .before .before .work .ensures) in
+    let o = (after-work (c .before) .work .ensures) in
     (c .is-over .ensures ∙ over-told _ _ _ o, gives-flow _ _ _ (rw o at (c .before .put .ensures)))
 
 pub put-in-spec : {M : Type 1} → statement M
-put-in-spec = tie.close (tie.spec work-requires put-requires is-over-requires returns)
+put-in-spec = tie.close (tie.spec (λ c κs. search needs) put-requires (λ c κs. search needs) returns)

@@ -1,21 +1,30 @@
--- `take_out` gives the seven currents the other way.
+-- `take_out` gives the currents the other way.
 use mathlib.Core.Path.{sym, subst}
-use Prim.Native.Nat.{_^_}
 use borrow.Author.Needs.{needs}
 use Rattle.branch.specs.declared.Outcome.{Outcome}
-use Rattle.board.specs.Parts.{Within}
+use Rattle.branch.specs.Outcome.{tickLimit}
+use Rattle.board.specs.inner.Parts.{Within}
 use Rattle.board.proofs.Currents.{ticks-within, takes-flow}
 use Rattle.board.proofs.worker.take_out.Statement.{statement}
 use Rattle.board.proofs.worker.take_out.Tie as tie
 
-work-requires : tie.Need-work-requires
-work-requires c κs = search needs
+-- earlier places, from later ones
+abbrev after-work : tie.After-take → tie.After-work
+after-work c = c .before .before .before .before
+
+abbrev start : tie.After-ticks2 → tie.Start
+start c = c .before .before .before .before
 
 take-requires : tie.Need-take-requires
-take-requires c κs = (record { wired = (c .before .before .before .before .pre .0 .wired) }, (c .before .before .before .before .pre .1), subst (λ (o : Outcome). Within (2 ^ 53) (o .ticks)) (sym (c .before .before .before .work .ensures)) (ticks-within _ _))
+take-requires c κs = (
+  record { wired = (start c .pre .0 .wired) },
+  (start c .pre .1),
+  subst (λ (o : Outcome). Within tickLimit (o .ticks)) (sym (c .before .before .before .work .ensures))
+      (ticks-within _ _),
+)
 
 returns : tie.Need-returns
-returns c = takes-flow _ _ _ (rw (c .before .before .before .before .work .ensures) at (c .take .ensures))
+returns c = takes-flow _ _ _ (rw (after-work c .work .ensures) at (c .take .ensures))
 
 pub take-out-spec : {M : Type 1} → statement M
-take-out-spec = tie.close (tie.spec work-requires take-requires returns)
+take-out-spec = tie.close (tie.spec (λ c κs. search needs) take-requires returns)

@@ -1,53 +1,80 @@
--- `rows::first_over` meets its contract: the rows from the last to the first.
-use mathlib.Core.Path.{ap, _∙_}
-use Rattle.branch.specs.declared.Over.{Over}
-use Rattle.branch.specs.Worked.{rowOver}
+-- `rows::first_over` has found none among the first k rows.
+use Prim.Native.Nat.{_≤_, _-_}
+use native.Mathlib.Omega.{arith}
+use lib.ListN.{getD}
+use Rattle.branch.specs.Rows.{branches}
+use Rattle.branch.proofs.Tests.{none-above, first-above, second-above}
+use Rattle.branch.proofs.Loops.{Looked, looked-none, over-ticks, over-injection, looked-more, looked-all}
 use borrow.Author.Needs.{needs}
 use Rattle.branch.proofs.rows.first_over.Statement.{statement}
 use Rattle.branch.proofs.rows.first_over.Tie as tie
 
-row-over-requires : tie.Need-row-over-requires
-row-over-requires c κs = search needs
+abbrev Inv-loop : tie.InvT-loop
+Inv-loop x k₀ k = (k ≤ branches) × Looked x k
 
-row-over-requires-2 : tie.Need-row-over-requires-2
-row-over-requires-2 c κs = search needs
+abbrev μ-loop : tie.MeasureT-loop
+μ-loop x k₀ k = branches - k
 
-row-over-requires-3 : tie.Need-row-over-requires-3
-row-over-requires-3 c κs = search needs
+-- the row being looked at, from the tests that it has passed
+abbrev row1 : tie.Else1 Inv-loop μ-loop → tie.In-loop Inv-loop μ-loop
+row1 c = c .before .before
 
-row-over-requires-4 : tie.Need-row-over-requires-4
-row-over-requires-4 c κs = search needs
+abbrev row2 : tie.Else2 Inv-loop μ-loop → tie.In-loop Inv-loop μ-loop
+row2 c = row1 (c .before .before)
 
-row-over-requires-5 : tie.Need-row-over-requires-5
-row-over-requires-5 c κs = search needs
+abbrev row3 : tie.Else3 Inv-loop μ-loop → tie.In-loop Inv-loop μ-loop
+row3 c = row2 (c .before .before)
 
-row-over-requires-6 : tie.Need-row-over-requires-6
-row-over-requires-6 c κs = search needs
+loop-holds : tie.Need-loop-holds Inv-loop μ-loop
+loop-holds c = (search needs, looked-none)
 
-row-over-requires-7 : tie.Need-row-over-requires-7
-row-over-requires-7 c κs = search needs
-
-returns : tie.Need-returns
+returns : tie.Need-returns Inv-loop μ-loop
 returns c =
-    let t = c .before .before .before .before .before .before .before .args .t in
-    let r = c .before .before .before .before .before .before .before .args .r in
-    c .row-over7 .ensures
-    ∙ ap (λ (o : Over). rowOver 1 (t .forward) (t .reverse) 0 o) (c .before .row-over6 .ensures
-    ∙ ap (λ (o : Over). rowOver 2 (t .bulk) (r .bulk) 0 o) (c .before .before .row-over5 .ensures
-    ∙ ap (λ (o : Over). rowOver 3 (t .side) (r .side) 0 o) (c .before .before .before .row-over4 .ensures
-    ∙ ap (λ (o : Over). rowOver 4 (t .nonideal) (r .nonideal) 0 o) (c .before .before .before .before .row-over3 .ensures
-    ∙ ap (λ (o : Over). rowOver 5 (t .ex) (r .ex) (t .exratio) o) (c .before .before .before .before .before .row-over2 .ensures
-    ∙ ap (λ (o : Over). rowOver 6 (t .sub) (t .back) (t .subratio) o) (c .before .before .before .before .before .before .row-over .ensures))))))
+    let s = c .before .before in
+    let l = s .before in
+    over-ticks (l .loop .inv .1) (s .loop-test .taken)
+    (first-above _ _ (getD (l .before .args .t1 .minus) (l .loop .k) 0) (c .if1 .taken))
+
+returns-2 : tie.Need-returns-2 Inv-loop μ-loop
+returns-2 c =
+    let e1 = c .before .before in
+    let s = row1 e1 in
+    over-ticks (s .before .loop .inv .1) (s .loop-test .taken) (second-above _ _ _ (e1 .if1 .left) (c .if2 .taken))
+
+returns-3 : tie.Need-returns-3 Inv-loop μ-loop
+returns-3 c =
+    let e2 = c .before .before in
+    let e1 = e2 .before .before in
+    let s = row2 e2 in
+    let l = s .before in
+    over-injection (l .loop .inv .1) (s .loop-test .taken) (none-above _ _ _ (e1 .if1 .left) (e2 .if2 .left))
+    (first-above _ _ (getD (l .before .args .t1 .right) (l .loop .k) 0) (c .if3 .taken))
+
+returns-4 : tie.Need-returns-4 Inv-loop μ-loop
+returns-4 c =
+    let e3 = c .before .before in
+    let e2 = e3 .before .before in
+    let e1 = e2 .before .before in
+    let s = row3 e3 in
+    over-injection (s .before .loop .inv .1) (s .loop-test .taken) (none-above _ _ _ (e1 .if1 .left) (e2 .if2 .left))
+    (second-above _ _ _ (e3 .if3 .left) (c .if4 .taken))
+
+loop-again : tie.Need-loop-again Inv-loop μ-loop
+loop-again c =
+    let e3 = c .before .before in
+    let e2 = e3 .before .before in
+    let e1 = e2 .before .before in
+    let s = row3 e3 in
+    let next = looked-more (s .before .loop .inv .1) (s .loop-test .taken)
+    (none-above _ _ _ (e1 .if1 .left) (e2 .if2 .left)) (none-above _ _ _ (e3 .if3 .left) (c .if4 .left)) in
+    (omega arith, next)
+
+returns-5 : tie.Need-returns-5 Inv-loop μ-loop
+returns-5 c = looked-all (c .loop-test .left) (c .before .loop .inv .1)
 
 pub first-over-spec : {M : Type 1} → statement M
 first-over-spec =
     tie.close
-    (tie.spec
-    row-over-requires
-    row-over-requires-2
-    row-over-requires-3
-    row-over-requires-4
-    row-over-requires-5
-    row-over-requires-6
-    row-over-requires-7
-    returns)
+    (tie.spec Inv-loop μ-loop loop-holds (λ c. omega arith) (λ c. omega arith) (λ c. omega arith) (λ c. omega arith)
+    returns (λ c. omega arith) (λ c. omega arith) returns-2 (λ c. omega arith) (λ c. omega arith) returns-3
+    (λ c. omega arith) (λ c. omega arith) returns-4 (λ c. omega arith) (λ c. omega arith) loop-again returns-5)

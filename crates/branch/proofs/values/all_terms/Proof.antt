@@ -1,104 +1,169 @@
--- `values::all_terms` meets its contract: each term with the exponential that it names, worked once.
-use mathlib.Core.Path.{_∙_}
-use lib.Dec.{lit<}
-use Rattle.branch.proofs.Readied.{plain-worked, second-worked, plain-octave, second-octave, for-octave, held-ticks, held-parts, terms-are}
+-- `values::all_terms` meets its contract: each term with the exponential that it names, worked once; row by row.
+use lib.Dec.{lit<, lit≤}
 use borrow.Author.Needs.{needs}
+use Rattle.branch.specs.inner.Terms.{none, more}
+use Rattle.branch.proofs.Scaling.{upto-zero}
+use Rattle.branch.proofs.Readied.{Splits, splits, plain-octave, second-octave}
+use Rattle.branch.proofs.Readied.{own-bulk, own-side, own-nonideal, own-ex, own-sf}
+use Rattle.branch.proofs.Readied.{plain-junction, second-junction, ticks-at, parts-at}
 use Rattle.branch.proofs.values.all_terms.Statement.{statement}
 use Rattle.branch.proofs.values.all_terms.Tie as tie
 
-gain-requires : tie.Need-gain-requires
-gain-requires c κs = let q = c .before .pre in ((lit< tt, lit< tt), (q .table-is, (q .raised, plain-worked (q .ready))))
+-- ---- places: each exponential, and the start, from where the last exponential is worked
 
-gain-requires-2 : tie.Need-gain-requires-2
-gain-requires-2 c κs = let q = c .before .before .pre in ((lit< tt, lit< tt), (q .table-is, (q .raised, plain-worked (q .ready))))
+abbrev at1 : tie.After-exponential6 → tie.After-exponential
+at1 c = c .before .before .before .before .before
 
-gain-requires-3 : tie.Need-gain-requires-3
-gain-requires-3 c κs = let q = c .before .before .before .pre in ((lit< tt, lit< tt), (q .table-is, (q .raised, plain-worked (q .ready))))
+abbrev at2 : tie.After-exponential6 → tie.After-exponential2
+at2 c = c .before .before .before .before
 
-gain-requires-4 : tie.Need-gain-requires-4
-gain-requires-4 c κs = let q = c .before .before .before .before .pre in ((lit< tt, lit< tt), (q .table-is, (q .raised, second-worked (q .ready))))
+abbrev at3 : tie.After-exponential6 → tie.After-exponential3
+at3 c = c .before .before .before
 
-gain-requires-5 : tie.Need-gain-requires-5
-gain-requires-5 c κs = let q = c .before .before .before .before .before .pre in ((lit< tt, lit< tt), (q .table-is, (q .raised, plain-worked (q .ready))))
+abbrev at4 : tie.After-exponential6 → tie.After-exponential4
+at4 c = c .before .before
 
-gain-requires-6 : tie.Need-gain-requires-6
-gain-requires-6 c κs = let q = c .before .before .before .before .before .before .pre in ((lit< tt, lit< tt), (q .table-is, (q .raised, plain-worked (q .ready))))
+abbrev at5 : tie.After-exponential6 → tie.After-exponential5
+at5 c = c .before
 
-ticks-requires : tie.Need-ticks-requires
-ticks-requires c κs = search needs
+abbrev start : tie.After-exponential6 → tie.Start
+start c = at1 c .before .before
 
-ticks-requires-2 : tie.Need-ticks-requires-2
-ticks-requires-2 c κs = search needs
+values : (c : tie.After-exponential6) → Splits (start c .args .r .card)
+values c = splits (start c .pre .ready .worked)
 
-ticks-requires-3 : tie.Need-ticks-requires-3
-ticks-requires-3 c κs = search needs
+-- and that, from where the four of the emitter junctions are, three more, and all
+abbrev emitter : tie.After-scaled4 → tie.After-exponential6
+emitter c = c .before .before .before .before
 
-ticks-requires-4 : tie.Need-ticks-requires-4
-ticks-requires-4 c κs = search needs
+abbrev three : tie.After-faint3 → tie.After-scaled4
+three c = c .before .before .before
 
-ticks-requires-5 : tie.Need-ticks-requires-5
-ticks-requires-5 c κs = search needs
+abbrev all : tie.After-faint6 → tie.After-faint3
+all c = c .before .before .before
 
-ticks-requires-6 : tie.Need-ticks-requires-6
-ticks-requires-6 c κs = search needs
+exponential-requires : tie.Need-exponential-requires
+exponential-requires c κs = plain-junction (c .before .pre) (lit< tt) (lit< tt)
 
-parts-requires : tie.Need-parts-requires
-parts-requires c κs = search needs
+exponential-requires-2 : tie.Need-exponential-requires-2
+exponential-requires-2 c κs = plain-junction (c .before .before .pre) (lit< tt) (lit< tt)
 
-ticks-requires-7 : tie.Need-ticks-requires-7
-ticks-requires-7 c κs = search needs
+exponential-requires-3 : tie.Need-exponential-requires-3
+exponential-requires-3 c κs = plain-junction (c .before .before .before .pre) (lit< tt) (lit< tt)
 
-parts-requires-2 : tie.Need-parts-requires-2
-parts-requires-2 c κs = search needs
+exponential-requires-4 : tie.Need-exponential-requires-4
+exponential-requires-4 c κs =
+    let s = c .before .before .before in second-junction (s .before .pre) (lit< tt) (lit< tt)
 
-back-of-requires : tie.Need-back-of-requires
-back-of-requires c κs = c .before .before .before .before .before .before .before .before .before .before .before .before .before .before .before .before .pre
+exponential-requires-5 : tie.Need-exponential-requires-5
+exponential-requires-5 c κs =
+    let s = c .before .before .before in plain-junction (s .before .before .pre) (lit< tt) (lit< tt)
 
-ticks-requires-8 : tie.Need-ticks-requires-8
-ticks-requires-8 c κs = search needs
+exponential-requires-6 : tie.Need-exponential-requires-6
+exponential-requires-6 c κs =
+    let s = c .before .before .before in plain-junction (s .before .before .before .pre) (lit< tt) (lit< tt)
+
+scaled-requires : tie.Need-scaled-requires
+scaled-requires c κs =
+    let s = values c in record { split = search needs; sized = search needs; near = lit≤ tt }
+
+scaled-requires-2 : tie.Need-scaled-requires-2
+scaled-requires-2 c κs =
+    let s = values (c .before) in record { split = search needs; sized = search needs; near = lit≤ tt }
+
+scaled-requires-3 : tie.Need-scaled-requires-3
+scaled-requires-3 c κs =
+    let s = values (c .before .before) in record { split = search needs; sized = search needs; near = lit≤ tt }
+
+scaled-requires-4 : tie.Need-scaled-requires-4
+scaled-requires-4 c κs =
+    let s = values (c .before .before .before) in record { split = search needs; sized = search needs; near = lit≤ tt }
+
+faint-requires : tie.Need-faint-requires
+faint-requires c κs =
+    let s = values (emitter c) in record { split = search needs; sized = search needs; near = lit≤ tt }
+
+faint-requires-2 : tie.Need-faint-requires-2
+faint-requires-2 c κs =
+    let s = values (emitter (c .before)) in record { split = search needs; sized = search needs; near = lit≤ tt }
+
+faint-requires-3 : tie.Need-faint-requires-3
+faint-requires-3 c κs =
+    let s = values (emitter (c .before .before)) in record { split = search needs; sized = search needs; near = lit≤ tt }
+
+faint-requires-4 : tie.Need-faint-requires-4
+faint-requires-4 c κs =
+    let s = values (emitter (three c)) in record { split = search needs; sized = search needs; near = lit≤ tt }
+
+faint-requires-5 : tie.Need-faint-requires-5
+faint-requires-5 c κs =
+    let s = values (emitter (three (c .before))) in record { split = search needs; sized = search needs; near = lit≤ tt }
+
+faint-requires-6 : tie.Need-faint-requires-6
+faint-requires-6 c κs =
+    let at = emitter (three (c .before .before)) in
+    let s = values at in
+    let g = at2 at .exponential2 .ensures .sized in
+    record { split = search needs; sized = search needs; near = lit≤ tt }
+
+term-x-requires : tie.Need-term-x-requires
+term-x-requires c κs = start (emitter (three (all c))) .pre
 
 returns : tie.Need-returns
 returns c =
-    let s = c .before .before .before .before .before .before .before .before .before .before .before .before .before .before .before .before .before .before in
-    let h = s .pre .ready in
-    let j1 = for-octave _ _ (plain-octave h) (c .before .before .before .before .before .before .before .before .before .before .before .before .before .before .before .before .gain .ensures) in
-    let j2 = for-octave _ _ (plain-octave h) (c .before .before .before .before .before .before .before .before .before .before .before .before .before .before .before .gain2 .ensures) in
-    let j3 = for-octave _ _ (plain-octave h) (c .before .before .before .before .before .before .before .before .before .before .before .before .before .before .gain3 .ensures) in
-    let j4 = for-octave _ _ (second-octave h) (c .before .before .before .before .before .before .before .before .before .before .before .before .before .gain4 .ensures) in
-    let j5 = for-octave _ _ (plain-octave h) (c .before .before .before .before .before .before .before .before .before .before .before .before .gain5 .ensures) in
-    let j6 = for-octave _ _ (plain-octave h) (c .before .before .before .before .before .before .before .before .before .before .before .gain6 .ensures) in
-    terms-are
-    (c .before .before .before .before .before .before .before .before .before .before .ticks .ensures ∙ held-ticks (s .args .r .card .sn) j1)
-    (c .before .before .before .before .before .before .before .before .before .ticks2 .ensures ∙ held-ticks (s .args .r .card .sn) j2)
-    (c .before .before .before .before .before .before .before .before .ticks3 .ensures ∙ held-ticks (s .args .r .card .bulk) j1)
-    (c .before .before .before .before .before .before .before .ticks4 .ensures ∙ held-ticks (s .args .r .card .side) j3)
-    (c .before .before .before .before .before .before .ticks5 .ensures ∙ held-ticks (s .args .r .card .nonideal) j4)
-    (c .before .before .before .before .before .ticks6 .ensures ∙ held-ticks (s .args .r .card .ex) j5)
-    (c .before .before .before .before .parts .ensures ∙ held-parts (s .args .r .card .rex) j5)
-    (c .before .before .before .ticks7 .ensures ∙ held-ticks (s .args .r .card .sub) j5)
-    (c .before .before .parts2 .ensures ∙ held-parts (s .args .r .card .rsub) j5)
-    (c .before .back-of .ensures)
-    (c .ticks8 .ensures ∙ held-ticks (s .args .r .card .sf) j6)
+    let w = c .before in
+    let u = all w in
+    let e = three u in
+    let at = emitter e in
+    let h = start at .pre .ready in
+    let s = values at in
+    let j1 = at1 at .exponential .ensures in
+    let j2 = at2 at .exponential2 .ensures in
+    let j3 = at3 at .exponential3 .ensures in
+    let j4 = at4 at .exponential4 .ensures in
+    let j5 = at5 at .exponential5 .ensures in
+    let j6 = at .exponential6 .ensures in
+    let forward = ticks-at (s .sn) j1 (plain-octave h) (e .before .before .before .scaled .ensures) in
+    let bulk = ticks-at (s .bulk) j1 (plain-octave h) (e .before .before .scaled2 .ensures) in
+    let side = ticks-at (s .side) j3 (plain-octave h) (e .before .scaled3 .ensures) in
+    let nonideal = ticks-at (s .nonideal) j4 (second-octave h) (e .scaled4 .ensures) in
+    let ex = ticks-at (s .ex) j5 (plain-octave h) (u .before .before .faint .ensures) in
+    let sub = ticks-at (s .sub) j5 (plain-octave h) (u .before .faint2 .ensures) in
+    let exratio = parts-at (s .rex) j5 (plain-octave h) (u .faint3 .ensures) in
+    let subratio = parts-at (s .rsub) j5 (plain-octave h) (w .before .before .faint4 .ensures) in
+    let sf = ticks-at (s .sf) j6 (plain-octave h) (w .before .faint5 .ensures) in
+    let reverse = ticks-at (s .sn) j2 (plain-octave h) (w .faint6 .ensures) in
+    record {
+      rows =
+          more (record { plus = forward; minus = reverse; left = upto-zero; right = upto-zero })
+          (more (record { plus = bulk; minus = own-bulk h; left = upto-zero; right = upto-zero })
+          (more (record { plus = side; minus = own-side h; left = upto-zero; right = upto-zero })
+          (more (record { plus = nonideal; minus = own-nonideal h; left = upto-zero; right = upto-zero })
+          (more (record { plus = ex; minus = own-ex h; left = upto-zero; right = exratio })
+          (more (record { plus = sub; minus = c .term-x .ensures; left = upto-zero; right = subratio })
+          (more (record { plus = sf; minus = own-sf h; left = upto-zero; right = upto-zero })
+          none))))));
+    }
 
 pub all-terms-spec : {M : Type 1} → statement M
 all-terms-spec =
     tie.close
     (tie.spec
-    gain-requires
-    gain-requires-2
-    gain-requires-3
-    gain-requires-4
-    gain-requires-5
-    gain-requires-6
-    ticks-requires
-    ticks-requires-2
-    ticks-requires-3
-    ticks-requires-4
-    ticks-requires-5
-    ticks-requires-6
-    parts-requires
-    ticks-requires-7
-    parts-requires-2
-    back-of-requires
-    ticks-requires-8
+    exponential-requires
+    exponential-requires-2
+    exponential-requires-3
+    exponential-requires-4
+    exponential-requires-5
+    exponential-requires-6
+    scaled-requires
+    scaled-requires-2
+    scaled-requires-3
+    scaled-requires-4
+    faint-requires
+    faint-requires-2
+    faint-requires-3
+    faint-requires-4
+    faint-requires-5
+    faint-requires-6
+    term-x-requires
     returns)

@@ -3,47 +3,17 @@ use borrow.Author.Needs.{needs}
 use Rattle.card.proofs.judging.card.Statement.{statement}
 use Rattle.card.proofs.judging.card.Tie as tie
 
-cut-requires : tie.Need-cut-requires
-cut-requires c κs = search needs
-
-cut-requires-2 : tie.Need-cut-requires-2
-cut-requires-2 c κs = search needs
-
-cut-requires-3 : tie.Need-cut-requires-3
-cut-requires-3 c κs = search needs
-
-cut-requires-4 : tie.Need-cut-requires-4
-cut-requires-4 c κs = search needs
-
-cut-requires-5 : tie.Need-cut-requires-5
-cut-requires-5 c κs = search needs
-
-cut-requires-6 : tie.Need-cut-requires-6
-cut-requires-6 c κs = search needs
-
-cut-requires-7 : tie.Need-cut-requires-7
-cut-requires-7 c κs = search needs
-
-cut-requires-8 : tie.Need-cut-requires-8
-cut-requires-8 c κs = search needs
-
-cut-requires-9 : tie.Need-cut-requires-9
-cut-requires-9 c κs = search needs
-
-returns : tie.Need-returns
-returns c = cc
-
 pub card-spec : {M : Type 1} → statement M
 card-spec =
     tie.close
     (tie.spec
-    cut-requires
-    cut-requires-2
-    cut-requires-3
-    cut-requires-4
-    cut-requires-5
-    cut-requires-6
-    cut-requires-7
-    cut-requires-8
-    cut-requires-9
-    returns)
+    (λ c κs. search needs)
+    (λ c κs. search needs)
+    (λ c κs. search needs)
+    (λ c κs. search needs)
+    (λ c κs. search needs)
+    (λ c κs. search needs)
+    (λ c κs. search needs)
+    (λ c κs. search needs)
+    (λ c κs. search needs)
+    (λ c. cc))

@@ -1,4 +1,4 @@
--- `card::octaves::second_of` meets its contract: a number above zero is below 1,000,000,001, or its whole part is too large, or it is infinite.
+-- `card::octaves::second_of` meets its contract: what is not below the limit is infinite, or its whole part too large.
 use mathlib.Core.Path.{ap, _∙_}
 use native.Mathlib.Omega.{arith}
 use Rattle.card.specs.declared.octaves.Octave.the-variants.{Nanovolts}

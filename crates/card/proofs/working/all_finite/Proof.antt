@@ -1,81 +1,65 @@
--- `card::working::all_finite` meets its contract.
+-- `card::working::all_finite` meets its contract: what is said of all the values is said of those that are left.
+use mathlib.Core.Path.{_≡_, refl, sym, ap, _∙_}
+use mathlib.Core.Bool.{Bool, true, false, _&&_}
+use mathlib.Core.List.{List}
+use Prim.Native.Nat.{ℕ, _+_, _-_, _≤_, _<_}
+use native.Mathlib.Numerals.{add-one}
+use native.Mathlib.Omega.{arith}
+use lib.ListN.{length, drop, getD, drop-of-length-le}
+use lib.Seq.{drop-cons}
+use lib.Ieee.{Float, nan}
+use lib.Ieee.Scale.{finite}
 use borrow.Author.Needs.{needs}
+use Rattle.card.specs.Work.{valueCount, all}
 use Rattle.card.proofs.working.all_finite.Statement.{statement}
 use Rattle.card.proofs.working.all_finite.Tie as tie
 
-is-finite-requires : tie.Need-is-finite-requires
-is-finite-requires c κs = search needs
+record Left (x : List Float) (i : ℕ) : Type 0 where
+  pub few : i ≤ length x
+  pub same : all finite x ≡ all finite (drop i x)
 
-is-finite-requires-2 : tie.Need-is-finite-requires-2
-is-finite-requires-2 c κs = search needs
+one-more : (x : List Float) (i : ℕ) → i < length x
+    → all finite (drop i x) ≡ finite (getD x i nan) && all finite (drop (i + 1) x)
+one-more x i h = rw (add-one, drop-cons x i nan)
 
-both-requires : tie.Need-both-requires
-both-requires c κs = search needs
+abbrev Inv-loop : tie.InvT-loop
+Inv-loop x i₀ i = Left x i
 
-is-finite-requires-3 : tie.Need-is-finite-requires-3
-is-finite-requires-3 c κs = search needs
+abbrev μ-loop : tie.MeasureT-loop
+μ-loop x i₀ i = length x - i
 
-is-finite-requires-4 : tie.Need-is-finite-requires-4
-is-finite-requires-4 c κs = search needs
+module _ {x : List Float} {i : ℕ} (p : Left x i) (h : i < length x) {b : Bool} (e : b ≡ finite (getD x i nan)) where
+  stop : b ≡ false → false ≡ all finite x
+  stop f = sym (p .same ∙ one-more x i h ∙ ap (λ (t : Bool). t && all finite (drop (i + 1) x)) (sym e ∙ f))
 
-both-requires-2 : tie.Need-both-requires-2
-both-requires-2 c κs = search needs
+  go : b ≡ true → Left x (i + 1)
+  go t =
+      let rest = ap (λ (u : Bool). u && all finite (drop (i + 1) x)) (sym e ∙ t) in
+      record { few = omega arith; same = p .same ∙ one-more x i h ∙ rest }
 
-is-finite-requires-5 : tie.Need-is-finite-requires-5
-is-finite-requires-5 c κs = search needs
+end : {x : List Float} {i : ℕ} → Left x i → length x ≤ i → true ≡ all finite x
+end {x} {i} p h = sym (p .same ∙ ap (all finite) (drop-of-length-le x h))
 
-is-finite-requires-6 : tie.Need-is-finite-requires-6
-is-finite-requires-6 c κs = search needs
+long : (c : tie.Start Inv-loop μ-loop) → length (c .args .t1) ≡ valueCount
+long c = search needs
 
-both-requires-3 : tie.Need-both-requires-3
-both-requires-3 c κs = search needs
-
-is-finite-requires-7 : tie.Need-is-finite-requires-7
-is-finite-requires-7 c κs = search needs
-
-is-finite-requires-8 : tie.Need-is-finite-requires-8
-is-finite-requires-8 c κs = search needs
-
-both-requires-4 : tie.Need-both-requires-4
-both-requires-4 c κs = search needs
-
-both-requires-5 : tie.Need-both-requires-5
-both-requires-5 c κs = search needs
-
-both-requires-6 : tie.Need-both-requires-6
-both-requires-6 c κs = search needs
-
-both-requires-7 : tie.Need-both-requires-7
-both-requires-7 c κs = search needs
-
-is-finite-requires-9 : tie.Need-is-finite-requires-9
-is-finite-requires-9 c κs = search needs
-
-both-requires-8 : tie.Need-both-requires-8
-both-requires-8 c κs = search needs
-
-returns : tie.Need-returns
-returns c = cc
+within : (c : tie.In-loop Inv-loop μ-loop) → c .before .loop .i < length (c .before .before .args .t1)
+within c = let l = long (c .before .before) in omega arith
 
 pub all-finite-spec : {M : Type 1} → statement M
 all-finite-spec =
     tie.close
     (tie.spec
-    is-finite-requires
-    is-finite-requires-2
-    both-requires
-    is-finite-requires-3
-    is-finite-requires-4
-    both-requires-2
-    is-finite-requires-5
-    is-finite-requires-6
-    both-requires-3
-    is-finite-requires-7
-    is-finite-requires-8
-    both-requires-4
-    both-requires-5
-    both-requires-6
-    both-requires-7
-    is-finite-requires-9
-    both-requires-8
-    returns)
+    Inv-loop
+    μ-loop
+    (λ c. record { few = search needs; same = refl })
+    (λ c. search needs)
+    (λ c. search needs)
+    (λ c κs. search needs)
+    (λ c. search needs)
+    (λ c. let h = within (c .before .before) in omega arith)
+    (λ c. go (c .before .before .before .loop .inv) (within (c .before .before)) (c .before .is-finite .ensures)
+    (c .if1 .taken))
+    (λ c. stop (c .before .before .before .loop .inv) (within (c .before .before)) (c .before .is-finite .ensures)
+    (c .if1 .left))
+    (λ c. end (c .before .loop .inv) (let l = long (c .before .before) in omega arith)))

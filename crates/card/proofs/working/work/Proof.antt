@@ -3,11 +3,5 @@ use borrow.Author.Needs.{needs}
 use Rattle.card.proofs.working.work.Statement.{statement}
 use Rattle.card.proofs.working.work.Tie as tie
 
-substrate-requires : tie.Need-substrate-requires
-substrate-requires c κs = search needs
-
-returns : tie.Need-returns
-returns c = rw (c .before .before .before .before .before .before .before .before .before .before .substrate .ensures)
-
 pub work-spec : {M : Type 1} → statement M
-work-spec = tie.close (tie.spec substrate-requires returns)
+work-spec = tie.close (tie.spec (λ c κs. search needs) (λ c. cc))

@@ -64,7 +64,8 @@ plain-returns-2 : (t : ℕ) → plain-lts.Need-returns-2 (
   plain-below t,
   plain.Post,
 ) (plain-at t) plain.Post
-plain-returns-2 t c = plain-last _ _ (omega arith) (c .before .before .if2 .taken) (c .before .glyph .ensures) (c .push .ensures)
+plain-returns-2 t c =
+    plain-last _ _ (omega arith) (c .before .before .if2 .taken) (c .before .glyph .ensures) (c .push .ensures)
 
 plain-sub-plain : (t : ℕ) → plain-lts.Need-sub-plain (
   glyph-reads.Asked,
@@ -114,7 +115,9 @@ plain-returns-3 : (t : ℕ) → plain-lts.Need-returns-3 (
   plain-below t,
   plain.Post,
 ) (plain-at t) plain.Post
-plain-returns-3 t c = plain-on _ _ (omega arith) (c .before .before .before .if2 .left) (c .before .before .plain .ensures) (c .before .glyph2 .ensures) (c .push2 .ensures)
+plain-returns-3 t c =
+    plain-on _ _ (omega arith) (c .before .before .before .if2 .left) (c .before .before .plain .ensures)
+    (c .before .glyph2 .ensures) (c .push2 .ensures)
 
 pub +plain-spec : {M : Type 1} → statement M
 +plain-spec = close μ-plain λ t. plain-lts.spec (

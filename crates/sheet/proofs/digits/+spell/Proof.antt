@@ -105,7 +105,8 @@ spell-returns-2 : (t : ℕ) → spell-lts.Need-returns-2 (
   push-reads.Asked,
   push-reads.Learnt,
 ) (spell-at t) spell.Post
-spell-returns-2 t c = spell-on _ _ (omega arith) _ (c .before .before .spell .ensures) (c .before .glyph .ensures) (c .push .ensures)
+spell-returns-2 t c =
+    spell-on _ _ (omega arith) _ (c .before .before .spell .ensures) (c .before .glyph .ensures) (c .push .ensures)
 
 pub +spell-spec : {M : Type 1} → statement M
 +spell-spec = close μ-spell λ t. spell-lts.spec (

@@ -1,30 +1,39 @@
 -- `digits::open` meets its contract: a signed number in its two halves, and its size in each.
-use mathlib.Core.Path.{ap}
+use mathlib.Core.Path.{_≡_, sym, ap, subst}
 use native.Mathlib.Numerals.{add-one}
 use native.Mathlib.Omega.{arith}
+use lib.IntN.{pos, negsuc}
+use mir.Syntax.{w64}
+use mir.Val.{SFits}
+use mir.ValLaws.{toZ-ofZ}
 use borrow.Author.Needs.{needs}
-use Rattle.whole.proofs.Halves.{is-up, is-down, room-down}
+use Rattle.whole.specs.Signed.{opened}
 use Rattle.sheet.specs.Digits.{openedOf}
 use Rattle.sheet.proofs.digits.open.Tie as tie
 use Rattle.sheet.proofs.digits.open.Statement.{statement}
 
-open-requires : tie.Need-open-requires
-open-requires c κs = search needs
+abbrev start-before-known-told2 : tie.After-known-told2 → tie.Start
+start-before-known-told2 c = c .before .before .before .before
 
-enum-known-n : tie.Need-enum-known-n
-enum-known-n c = search needs
+abbrev start-before-known-told : tie.After-known-told → tie.Start
+start-before-known-told c = c .before .before .before .before
 
-enum-known-n-2 : tie.Need-enum-known-n-2
-enum-known-n-2 c = search needs
+-- the number that whole's `open` gave is v
+is-up : (c : tie.After-known-told) → pos (c .before .n .given .0 .0) ≡ start-before-known-told c .args .v
+is-up c =
+    let s = start-before-known-told c in
+    opened (toZ-ofZ w64 (s .args .v) (s .fits .v)) (c .before .before .before .«open» .ensures) (c .before .n .given .1)
+
+is-down : (c : tie.After-known-told2) → negsuc (c .before .n2 .given .0 .0) ≡ start-before-known-told2 c .args .v
+is-down c =
+    let s = start-before-known-told2 c in
+    opened (toZ-ofZ w64 (s .args .v) (s .fits .v)) (c .before .before .before .«open» .ensures) (c .before .n2 .given .1)
 
 add-t6 : tie.Need-add-t6
-add-t6 c = let s = c .before .before .before .before in let h = room-down (s .args .v) (s .fits .v) _ (c .before .before .before .«open» .ensures) _ 1 (c .before .n2 .given .1) in omega arith
-
-returns : tie.Need-returns
-returns c = let s = c .before .before .before .before in ap openedOf (is-up (s .args .v) (s .fits .v) _ (c .before .before .before .«open» .ensures) _ (c .before .n .given .1))
-
-returns-2 : tie.Need-returns-2
-returns-2 c = let s = c .before .before .before .before in rw add-one (ap openedOf (is-down (s .args .v) (s .fits .v) _ (c .before .before .before .«open» .ensures) _ (c .before .n2 .given .1)))
+add-t6 c = let h = subst (SFits w64) (sym (is-down c)) (start-before-known-told2 c .fits .v) .sfits in omega arith
 
 pub open-spec : {M : Type 1} → statement M
-open-spec = tie.close (tie.spec open-requires enum-known-n enum-known-n-2 add-t6 returns returns-2)
+open-spec =
+    tie.close
+    (tie.spec (λ c κs. search needs) (λ c. search needs) (λ c. search needs) add-t6 (λ c. ap openedOf (is-up c))
+    (λ c. rw add-one (ap openedOf (is-down c))))

@@ -6,8 +6,5 @@ use Rattle.sheet.proofs.digits.shows_minus.Statement.{statement}
 returns : tie.Need-returns
 returns c = rw (c .if1 .taken)
 
-returns-2 : tie.Need-returns-2
-returns-2 c = search needs
-
 pub shows-minus-spec : {M : Type 1} → statement M
-shows-minus-spec = tie.close (tie.spec returns returns-2)
+shows-minus-spec = tie.close (tie.spec returns (λ c. search needs))

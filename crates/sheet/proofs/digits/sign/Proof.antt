@@ -5,9 +5,6 @@ use Rattle.sheet.proofs.Texts.{none}
 use Rattle.sheet.proofs.digits.sign.Tie as tie
 use Rattle.sheet.proofs.digits.sign.Statement.{statement}
 
-push-requires : tie.Need-push-requires
-push-requires c κs = search needs
-
 returns : tie.Need-returns
 returns c = rw (c .before .if1 .taken) (c .push .ensures)
 
@@ -15,4 +12,4 @@ returns-2 : tie.Need-returns-2
 returns-2 c = rw (c .if1 .left) (none refl)
 
 pub sign-spec : {M : Type 1} → statement M
-sign-spec = tie.close (tie.spec push-requires returns returns-2)
+sign-spec = tie.close (tie.spec (λ c κs. search needs) returns returns-2)

@@ -7,17 +7,11 @@ use Rattle.sheet.proofs.Numerals.{signed-done}
 use Rattle.sheet.proofs.digits.signed.Tie as tie
 use Rattle.sheet.proofs.digits.signed.Statement.{statement}
 
-open-requires : tie.Need-open-requires
-open-requires c κs = search needs
-
-sign-requires : tie.Need-sign-requires
-sign-requires c κs = search needs
-
-decimal-requires : tie.Need-decimal-requires
-decimal-requires c κs = search needs
-
 returns : tie.Need-returns
-returns c = let s = c .before .before .before in signed-done (s .args .v) (c .before .before .«open» .ensures ∙ ap openedOf (back (s .args .v) (s .fits .v))) (c .before .sign .ensures) (c .decimal .ensures)
+returns c =
+    let s = c .before .before .before in
+    signed-done (s .args .v) (c .before .before .«open» .ensures ∙ ap openedOf (back (s .args .v) (s .fits .v)))
+    (c .before .sign .ensures) (c .decimal .ensures)
 
 pub signed-spec : {M : Type 1} → statement M
-signed-spec = tie.close (tie.spec open-requires sign-requires decimal-requires returns)
+signed-spec = tie.close (tie.spec (λ c κs. search needs) (λ c κs. search needs) (λ c κs. search needs) returns)

@@ -2,9 +2,10 @@
 use Prim.Native.Nat.{_-_}
 use lib.ListN.{length, drop}
 use borrow.Author.Needs.{needs}
-use Rattle.sheet.proofs.Passing.{Left, all-left, append-on, append-end}
+use Rattle.sheet.proofs.ByteLoops.{Left, all-left, append-on, append-end}
 use Rattle.sheet.proofs.gather.append.Tie as tie
 use Rattle.sheet.proofs.gather.append.Statement.{statement}
+use Rattle.sheet.proofs.Texts.{gathered}
 
 abbrev Inv-loop : tie.InvT-loop
 Inv-loop s gathered₀ i₀ gathered i = Left gathered₀ s gathered (drop i s)
@@ -15,20 +16,9 @@ abbrev μ-loop : tie.MeasureT-loop
 loop-holds : tie.Need-loop-holds Inv-loop μ-loop
 loop-holds c = all-left
 
-shared-slice-read-push : tie.Need-shared-slice-read-push Inv-loop μ-loop
-shared-slice-read-push c = search needs
-
-push-requires : tie.Need-push-requires Inv-loop μ-loop
-push-requires c κs = search needs
-
-add-i : tie.Need-add-i Inv-loop μ-loop
-add-i c = search needs
-
-loop-less : tie.Need-loop-less Inv-loop μ-loop
-loop-less c = search needs
-
 loop-again : tie.Need-loop-again Inv-loop μ-loop
-loop-again c = append-on _ _ (c .before .before .before .loop .inv) (c .before .before .loop-test .taken) (c .push .ensures)
+loop-again c =
+    append-on _ _ (c .before .before .before .loop .inv) (c .before .before .loop-test .taken) (c .push .ensures)
 
 returns : tie.Need-returns Inv-loop μ-loop
 returns c = append-end _ _ (c .before .loop .inv) (c .loop-test .left)
@@ -40,9 +30,9 @@ append-spec =
     Inv-loop
     μ-loop
     loop-holds
-    shared-slice-read-push
-    push-requires
-    add-i
-    loop-less
+    (λ c. search needs)
+    (λ c κs. search needs)
+    (λ c. search needs)
+    (λ c. search needs)
     loop-again
     returns)

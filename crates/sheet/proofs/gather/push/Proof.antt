@@ -6,12 +6,6 @@ use Rattle.sheet.proofs.Texts.{one}
 use Rattle.sheet.proofs.gather.push.Tie as tie
 use Rattle.sheet.proofs.gather.push.Statement.{statement}
 
-array-write-bytes : tie.Need-array-write-bytes
-array-write-bytes c = search needs
-
-add-t9 : tie.Need-add-t9
-add-t9 c = search needs
-
 returns : tie.Need-returns
 unfolding pushed
 returns c = one (simp (lt-ltb _ _ (c .before .if1 .taken)))
@@ -21,4 +15,4 @@ unfolding pushed
 returns-2 c = one (simp (le-ltb _ _ (c .if1 .left)))
 
 pub push-spec : {M : Type 1} → statement M
-push-spec = tie.close (tie.spec array-write-bytes add-t9 returns returns-2)
+push-spec = tie.close (tie.spec (λ c. search needs) (λ c. search needs) returns returns-2)

@@ -1,28 +1,25 @@
 -- `lines::judged` meets its contract: 0 for a card, and else its refusal's number.
 use mathlib.Core.Path.{sym, ap, _∙_}
 use borrow.Author.Needs.{needs}
-use Rattle.card.specs.Told.{judgedNumber}
+use Rattle.refusal.specs.Order.{numberTold}
+use Rattle.card.specs.Judge.{judgeOf}
+use Rattle.card.specs.laws.Unique.{judged-card, judged-refused}
 use Rattle.sheet.proofs.lines.judged.Tie as tie
 use Rattle.sheet.proofs.lines.judged.Statement.{statement}
 
-judge-requires : tie.Need-judge-requires
-judge-requires c κs = search needs
-
-enum-told : tie.Need-enum-told
-enum-told c = search needs
-
-enum-known-f : tie.Need-enum-known-f
-enum-known-f c = search needs
-
-number-requires : tie.Need-number-requires
-number-requires c κs = search needs
-
 returns : tie.Need-returns
-returns c = sym (ap judgedNumber (sym (c .before .before .judge .ensures) ∙ c .enum-told .given .1))
+returns c =
+    let o = c .before .before in
+    sym (ap numberTold (judged-card (judgeOf (o .before .before .args .bytes .now)) (o .judge .ensures) (c .enum-told .given .1)))
 
 returns-2 : tie.Need-returns-2
-returns-2 c = cc
+returns-2 c =
+    let k = c .before .before in
+    let o = k .before .before in
+    c .number .ensures
+    ∙ sym (ap numberTold (judged-refused (judgeOf (o .before .before .args .bytes .now)) (o .judge .ensures) (k .f .given .1)))
 
 pub judged-spec : {M : Type 1} → statement M
 judged-spec =
-    tie.close (tie.spec judge-requires enum-told enum-known-f number-requires returns returns-2)
+    tie.close
+    (tie.spec (λ c κs. search needs) (λ c. search needs) (λ c. search needs) (λ c κs. search needs) returns returns-2)

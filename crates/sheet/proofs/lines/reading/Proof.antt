@@ -7,32 +7,29 @@ use Rattle.sheet.proofs.Texts.{then}
 use Rattle.sheet.proofs.lines.reading.Tie as tie
 use Rattle.sheet.proofs.lines.reading.Statement.{statement}
 
-decimal-requires : tie.Need-decimal-requires
-decimal-requires c κs = search needs
+abbrev decimal-before-signed2 : tie.After-signed2 → tie.After-decimal
+decimal-before-signed2 c = c .before .before .before .before
 
-push-requires : tie.Need-push-requires
-push-requires c κs = search needs
-
-signed-requires : tie.Need-signed-requires
-signed-requires c κs = search needs
-
-push-requires-2 : tie.Need-push-requires-2
-push-requires-2 c κs = search needs
-
-signed-requires-2 : tie.Need-signed-requires-2
-signed-requires-2 c κs = search needs
+abbrev start-before-signed2 : tie.After-signed2 → tie.Start
+start-before-signed2 c = c .before .before .before .before .before
 
 returns : tie.Need-returns
 unfolding readingOf
-returns c = let s = c .before .before .before .before .before in then (c .before .before .before .before .decimal .ensures) (then (c .before .before .before .push .ensures) (then (as-given (s .args .microvolts) (s .fits .microvolts) signedDigits (c .before .before .signed .ensures)) (then (c .before .push2 .ensures) (as-given (s .args .ticks) (s .fits .ticks) signedDigits (c .signed2 .ensures)))))
+returns c =
+    let s = (start-before-signed2 c) in
+    then ((decimal-before-signed2 c) .decimal .ensures)
+    (then (c .before .before .before .push .ensures)
+    (then (as-given (s .args .microvolts) (s .fits .microvolts) signedDigits (c .before .before .signed .ensures))
+    (then (c .before .push2 .ensures)
+    (as-given (s .args .ticks) (s .fits .ticks) signedDigits (c .signed2 .ensures)))))
 
 pub reading-spec : {M : Type 1} → statement M
 reading-spec =
     tie.close
     (tie.spec
-    decimal-requires
-    push-requires
-    signed-requires
-    push-requires-2
-    signed-requires-2
+    (λ c κs. search needs)
+    (λ c κs. search needs)
+    (λ c κs. search needs)
+    (λ c κs. search needs)
+    (λ c κs. search needs)
     returns)

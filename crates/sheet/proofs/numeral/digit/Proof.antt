@@ -5,9 +5,6 @@ use Rattle.sheet.proofs.Ranges.{within, under, above}
 use Rattle.sheet.proofs.numeral.digit.Tie as tie
 use Rattle.sheet.proofs.numeral.digit.Statement.{statement}
 
-cast-result : tie.Need-cast-result
-cast-result c = search needs
-
 returns : tie.Need-returns
 returns c = (simp (within 48 (c .before .before .args .b) 57 (omega arith) (omega arith)), omega arith)
 
@@ -18,4 +15,4 @@ returns-3 : tie.Need-returns-3
 returns-3 c = (simp (above 48 (c .before .before .args .b) 57 (omega arith)), omega arith)
 
 pub digit-spec : {M : Type 1} → statement M
-digit-spec = tie.close (tie.spec cast-result returns returns-2 returns-3)
+digit-spec = tie.close (tie.spec (λ c. search needs) returns returns-2 returns-3)

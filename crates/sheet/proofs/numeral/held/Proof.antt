@@ -7,23 +7,19 @@ use Rattle.sheet.proofs.Numerals.{near-below, near-zero, near-inside, n
 use Rattle.sheet.proofs.numeral.held.Tie as tie
 use Rattle.sheet.proofs.numeral.held.Statement.{statement}
 
-sub-t7 : tie.Need-sub-t7
-sub-t7 c = search needs
-
-close-requires : tie.Need-close-requires
-close-requires c κs = search needs
-
-close-requires-2 : tie.Need-close-requires-2
-close-requires-2 c κs = search needs
-
 returns : tie.Need-returns
 returns c = rw (c .before .if1 .taken) (near-zero _ (c .if2 .taken))
 
 returns-2 : tie.Need-returns-2
-returns-2 c = rw (c .before .before .if1 .taken) (toZ-ofZ w64 (c .close .result) (search needs) ∙ c .close .ensures ∙ near-below _ (c .before .before .before .pre) (c .before .if2 .left))
+returns-2 c =
+    rw (c .before .before .if1 .taken)
+    (toZ-ofZ w64 (c .close .result) (search needs) ∙ c .close .ensures ∙ near-below _ (c .before .before .before .pre)
+    (c .before .if2 .left))
 
 returns-3 : tie.Need-returns-3
-returns-3 c = rw (c .before .before .if1 .left) (toZ-ofZ w64 (c .close2 .result) (search needs) ∙ c .close2 .ensures ∙ near-inside _ (c .before .if3 .taken))
+returns-3 c =
+    rw (c .before .before .if1 .left)
+    (toZ-ofZ w64 (c .close2 .result) (search needs) ∙ c .close2 .ensures ∙ near-inside _ (c .before .if3 .taken))
 
 returns-4 : tie.Need-returns-4
 returns-4 c = rw (c .before .if1 .left) (near-end _ (c .if3 .left))
@@ -31,4 +27,4 @@ returns-4 c = rw (c .before .if1 .left) (near-end _ (c .if3 .left))
 pub held-spec : {M : Type 1} → statement M
 held-spec =
     tie.close
-    (tie.spec sub-t7 close-requires close-requires-2 returns returns-2 returns-3 returns-4)
+    (tie.spec (λ c. search needs) (λ c κs. search needs) (λ c κs. search needs) returns returns-2 returns-3 returns-4)

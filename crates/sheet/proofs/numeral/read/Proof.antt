@@ -11,17 +11,10 @@ use Rattle.sheet.proofs.numeral.read.Statement.{statement}
 returns : tie.Need-returns
 returns c = empty-numeral _ _ (omega arith)
 
-all-digits-requires : tie.Need-all-digits-requires
-all-digits-requires c κs = search needs
-
-value-requires : tie.Need-value-requires
-value-requires c κs = search needs
-
-held-requires : tie.Need-held-requires
-held-requires c κs = search needs
-
 returns-2 : tie.Need-returns-2
-returns-2 c = good-numeral _ _ (sym (c .before .before .if2 .taken) ∙ c .before .before .before .all-digits .ensures) (omega arith) (c .before .value .ensures) (toZ-ofZ w64 (c .held .result) (search needs) ∙ c .held .ensures)
+returns-2 c =
+    good-numeral _ _ (sym (c .before .before .if2 .taken) ∙ c .before .before .before .all-digits .ensures)
+    (omega arith) (c .before .value .ensures) (toZ-ofZ w64 (c .held .result) (search needs) ∙ c .held .ensures)
 
 returns-3 : tie.Need-returns-3
 returns-3 c = bad-numeral _ _ (sym (c .if2 .left) ∙ c .before .all-digits .ensures) (omega arith)
@@ -29,4 +22,4 @@ returns-3 c = bad-numeral _ _ (sym (c .if2 .left) ∙ c .before .all-digits .ens
 pub read-spec : {M : Type 1} → statement M
 read-spec =
     tie.close
-    (tie.spec returns all-digits-requires value-requires held-requires returns-2 returns-3)
+    (tie.spec returns (λ c κs. search needs) (λ c κs. search needs) (λ c κs. search needs) returns-2 returns-3)

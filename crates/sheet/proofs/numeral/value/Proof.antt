@@ -3,9 +3,10 @@ use mathlib.Core.Path.{refl}
 use Prim.Native.Nat.{_-_}
 use lib.ListN.{length}
 use borrow.Author.Needs.{needs}
-use Rattle.sheet.proofs.Passing.{Value, value-on, value-end}
+use Rattle.sheet.proofs.ByteLoops.{Value, value-on, value-end}
 use Rattle.sheet.proofs.numeral.value.Tie as tie
 use Rattle.sheet.proofs.numeral.value.Statement.{statement}
+use Rattle.sheet.proofs.Ranges.{within}
 
 abbrev Inv-loop : tie.InvT-loop
 Inv-loop s x₀ i₀ x i = Value s i x
@@ -16,23 +17,13 @@ abbrev μ-loop : tie.MeasureT-loop
 loop-holds : tie.Need-loop-holds Inv-loop μ-loop
 loop-holds c = record { within = search needs; so-far = refl; held = search needs }
 
-shared-slice-read-digit : tie.Need-shared-slice-read-digit Inv-loop μ-loop
-shared-slice-read-digit c = search needs
-
-digit-requires : tie.Need-digit-requires Inv-loop μ-loop
-digit-requires c κs = search needs
-
-longer-requires : tie.Need-longer-requires Inv-loop μ-loop
-longer-requires c κs = search needs
-
-add-i : tie.Need-add-i Inv-loop μ-loop
-add-i c = search needs
-
-loop-less : tie.Need-loop-less Inv-loop μ-loop
-loop-less c = search needs
+abbrev loop-before-longer : tie.After-longer Inv-loop μ-loop → tie.At-loop Inv-loop μ-loop
+loop-before-longer c = c .before .before .before .before
 
 loop-again : tie.Need-loop-again Inv-loop μ-loop
-loop-again c = value-on (c .before .before .before .before .loop .inv) (c .before .before .before .loop-test .taken) _ _ (c .before .digit .ensures .0) (c .longer .ensures)
+loop-again c =
+    value-on ((loop-before-longer c) .loop .inv) (c .before .before .before .loop-test .taken) _ _
+    (c .before .digit .ensures .0) (c .longer .ensures)
 
 returns : tie.Need-returns Inv-loop μ-loop
 returns c = value-end (c .before .loop .inv) (c .loop-test .left)
@@ -44,10 +35,10 @@ value-spec =
     Inv-loop
     μ-loop
     loop-holds
-    shared-slice-read-digit
-    digit-requires
-    longer-requires
-    add-i
-    loop-less
+    (λ c. search needs)
+    (λ c κs. search needs)
+    (λ c κs. search needs)
+    (λ c. search needs)
+    (λ c. search needs)
     loop-again
     returns)

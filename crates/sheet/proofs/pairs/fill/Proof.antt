@@ -4,7 +4,7 @@ use Prim.Native.Nat.{ℕ, _+_, _*_}
 use native.Mathlib.Omega.{arith}
 use lib.ListN.{length, length-drop}
 use borrow.Author.Needs.{needs}
-use Rattle.sheet.proofs.Twos.{Spelling, after-two, spell-first, spell-small, spell-on, spell-end}
+use Rattle.sheet.proofs.HexPairs.{Spelling, after-two, spell-first, spell-small, spell-on, spell-end}
 use Rattle.sheet.proofs.pairs.fill.Tie as tie
 use Rattle.sheet.proofs.pairs.fill.Statement.{statement}
 
@@ -17,44 +17,29 @@ abbrev μ-loop : tie.MeasureT-loop
 loop-holds : tie.Need-loop-holds Inv-loop μ-loop
 loop-holds c = spell-first _ (c .before .before .pre)
 
-shared-slice-read-nibble : tie.Need-shared-slice-read-nibble Inv-loop μ-loop
-shared-slice-read-nibble c = search needs
+abbrev in-loop-before-nibble2 : tie.After-nibble2 Inv-loop μ-loop → tie.In-loop Inv-loop μ-loop
+in-loop-before-nibble2 c = c .before .before .before .before
 
-nibble-requires : tie.Need-nibble-requires Inv-loop μ-loop
-nibble-requires c κs = search needs
-
-mul-out : tie.Need-mul-out Inv-loop μ-loop
-mul-out c = search needs
-
-shared-slice-read-nibble-2 : tie.Need-shared-slice-read-nibble-2 Inv-loop μ-loop
-shared-slice-read-nibble-2 c = search needs
-
-nibble-requires-2 : tie.Need-nibble-requires-2 Inv-loop μ-loop
-nibble-requires-2 c κs = search needs
-
-add-out : tie.Need-add-out Inv-loop μ-loop
-add-out c = search needs
+abbrev loop-before-nibble2 : tie.After-nibble2 Inv-loop μ-loop → tie.At-loop Inv-loop μ-loop
+loop-before-nibble2 c = c .before .before .before .before .before
 
 slice-write-out : tie.Need-slice-write-out Inv-loop μ-loop
-slice-write-out c = spell-small (c .before .before .before .before .before .loop .inv) (c .before .before .before .before .loop-test .taken)
+slice-write-out c = spell-small ((loop-before-nibble2 c) .loop .inv) ((in-loop-before-nibble2 c) .loop-test .taken)
 
 add-i : tie.Need-add-i Inv-loop μ-loop
-add-i c = omega (arith, spell-small (c .before .before .before .before .before .loop .inv) (c .before .before .before .before .loop-test .taken))
-
-sub-t : tie.Need-sub-t Inv-loop μ-loop
-sub-t c = search needs
-
-part-t-start : tie.Need-part-t-start Inv-loop μ-loop
-part-t-start c = search needs
-
-part-t-end : tie.Need-part-t-end Inv-loop μ-loop
-part-t-end c = search needs
+add-i c = omega (arith, spell-small ((loop-before-nibble2 c) .loop .inv) ((in-loop-before-nibble2 c) .loop-test .taken))
 
 loop-less : tie.Need-loop-less Inv-loop μ-loop
-loop-less c = rw (after-two (c .before .before .before .before .before .before .loop .t .now)) (omega (arith, length-drop 2 (c .before .before .before .before .before .before .loop .t .now)))
+loop-less c =
+    rw (after-two ((loop-before-nibble2 (c .before)) .loop .t .now))
+    (omega (arith, length-drop 2 ((loop-before-nibble2 (c .before)) .loop .t .now)))
 
 loop-again : tie.Need-loop-again Inv-loop μ-loop
-loop-again c = rw (after-two (c .before .before .before .before .before .before .loop .t .now)) (spell-on (c .before .before .before .before .before .before .loop .inv) (c .before .before .before .before .before .loop-test .taken) _ (ap₂ (λ (a b : ℕ). 16 * a + b) (c .before .before .before .nibble .ensures .0) (c .before .nibble2 .ensures .0)))
+loop-again c =
+    rw (after-two ((loop-before-nibble2 (c .before)) .loop .t .now))
+    (spell-on ((loop-before-nibble2 (c .before)) .loop .inv) ((in-loop-before-nibble2 (c .before)) .loop-test .taken)
+    _
+    (ap₂ (λ (a b : ℕ). 16 * a + b) (c .before .before .before .nibble .ensures .0) (c .before .nibble2 .ensures .0)))
 
 same-length : tie.Need-same-length Inv-loop μ-loop
 same-length c = c .before .loop .inv .filled .kept
@@ -69,17 +54,17 @@ fill-spec =
     Inv-loop
     μ-loop
     loop-holds
-    shared-slice-read-nibble
-    nibble-requires
-    mul-out
-    shared-slice-read-nibble-2
-    nibble-requires-2
-    add-out
+    (λ c. search needs)
+    (λ c κs. search needs)
+    (λ c. search needs)
+    (λ c. search needs)
+    (λ c κs. search needs)
+    (λ c. search needs)
     slice-write-out
     add-i
-    sub-t
-    part-t-start
-    part-t-end
+    (λ c. search needs)
+    (λ c. search needs)
+    (λ c. search needs)
     loop-less
     loop-again
     same-length

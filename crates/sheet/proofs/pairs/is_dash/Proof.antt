@@ -7,11 +7,8 @@ use Rattle.sheet.proofs.pairs.is_dash.Statement.{statement}
 returns : tie.Need-returns
 returns c = simp (ne-eqb _ _ (c .if1 .taken))
 
-shared-slice-read-result : tie.Need-shared-slice-read-result
-shared-slice-read-result c = search needs
-
 returns-2 : tie.Need-returns-2
 returns-2 c = simp (eq-eqb _ _ (c .before .if1 .left))
 
 pub is-dash-spec : {M : Type 1} → statement M
-is-dash-spec = tie.close (tie.spec returns shared-slice-read-result returns-2)
+is-dash-spec = tie.close (tie.spec returns (λ c. search needs) returns-2)

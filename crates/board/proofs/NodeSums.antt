@@ -1,0 +1,134 @@
+-- Sums over the places and tables of them: their laws, what a place gives to a node at most, and the totals worked
+-- anew, node by node.
+use mathlib.Core.Path.{_≡_, refl, sym, ap, _∙_, subst}
+use mathlib.Core.Bool.{Bool, true, false, cond}
+use mathlib.Core.Logic.{_⊎_, inl, inr}
+use mathlib.Core.List.{List, [], _∷_}
+use Prim.Native.Nat.{ℕ, zero, suc, _*_, _≤_, _<_, zero-le}
+use native.Mathlib.Nat.{suc-mul}
+use native.Mathlib.Omega.{arith}
+use lib.Dec.{eqb}
+use lib.ListN.{length, getD, replicate, List·getD-eq-default}
+use lib.Seq.{ext-getD}
+use lib.IntN.{ℤ, pos, natAbs, _-ℤ_}
+use Rattle.whole.specs.laws.Biased.{below-or-not}
+use Rattle.card.specs.declared.WorkedCard.{WorkedCard}
+use Rattle.branch.specs.Rows.{Row, rowsFor, roleIndex}
+use Rattle.branch.specs.Outcome.{tickLimit, outcomeOf}
+use Rattle.branch.proofs.Laws.{ticks-small}
+use Rattle.board.specs.declared.Card.{Card}
+use Rattle.board.specs.declared.Transistor.{Transistor}
+use Rattle.board.specs.Counts.{nodesMost, transistorsMost}
+use Rattle.board.specs.Desk.{rolesAt, atNode, rowsGive, flow, sumOver}
+use Rattle.board.specs.Model.{workedAt, placeGives, tabulate, totalsOf}
+use Rattle.board.specs.inner.Parts.{Room}
+use Rattle.board.specs.inner.Sizes.{flowMost, totalMost}
+use Rattle.board.proofs.Integers.{abs-add, abs-ends}
+
+-- ---- sums and tables
+
+pub sum-same : {A : Type 0} (f g : A → ℤ) (d : A) (l : List A) →
+    ((i : ℕ) → i < length l → f (getD l i d) ≡ g (getD l i d)) → sumOver f l ≡ sumOver g l
+unfolding sumOver
+sum-same f g d [] h = refl
+sum-same f g d (a ∷ rest) h = rw (h 0 (omega arith), sum-same f g d rest (λ i k. h (suc i) (omega arith)))
+
+pub tabulate-same : {A : Type 0} (f g : ℕ → A) (n : ℕ) → ((i : ℕ) → i < n → f i ≡ g i) → tabulate f n ≡ tabulate g n
+unfolding tabulate
+tabulate-same f g zero h = refl
+tabulate-same f g (suc n) h =
+    rw
+    (h 0 (omega arith), tabulate-same (λ (i : ℕ). f (suc i)) (λ (i : ℕ). g (suc i)) n (λ i k. h (suc i) (omega arith)))
+
+pub tabulate-at : {A : Type 0} (f : ℕ → A) (n i : ℕ) (d : A) → i < n → getD (tabulate f n) i d ≡ f i
+unfolding tabulate
+tabulate-at f zero i d h = absurd (omega arith)
+tabulate-at f (suc n) zero d h = refl
+tabulate-at f (suc n) (suc i) d h = tabulate-at (λ (j : ℕ). f (suc j)) n i d (omega arith)
+
+pub tabulate-long : {A : Type 0} (f : ℕ → A) (n : ℕ) → length (tabulate f n) ≡ n
+unfolding tabulate
+tabulate-long f zero = refl
+tabulate-long f (suc n) = ap suc (tabulate-long (λ (j : ℕ). f (suc j)) n)
+
+pub tabulate-none : {A : Type 0} (f : ℕ → A) (a : A) (n : ℕ) → ((i : ℕ) → i < n → f i ≡ a) →
+    replicate n a ≡ tabulate f n
+unfolding tabulate
+tabulate-none f a zero h = refl
+tabulate-none f a (suc n) h =
+    rw (h 0 (omega arith), ← (tabulate-none (λ (i : ℕ). f (suc i)) a n (λ i k. h (suc i) (omega arith))))
+
+-- ---- sizes: a row counts at most once at a node
+
+small-rows : (rows : List Row) (nodes : List ℕ) (ticks : List ℤ) (n most : ℕ) →
+    ((k : ℕ) → natAbs (getD ticks k (pos 0)) ≤ most) → natAbs (rowsGive rows nodes ticks n) ≤ length rows * most
+unfolding rowsGive
+small-rows [] nodes ticks n most h = zero-le
+small-rows (r ∷ rs) nodes [] n most h = zero-le
+small-rows (r ∷ rs) nodes (x ∷ xs) n most h =
+    let a = getD nodes (roleIndex (r .from)) 0 in
+    let b = getD nodes (roleIndex (r .to)) 0 in
+    let p = abs-add (atNode a n x -ℤ atNode b n x) (rowsGive rs nodes xs n) in
+    let q = abs-ends (eqb a n) (eqb b n) x in
+    let t = small-rows rs nodes xs n most (λ k. h (suc k)) in
+    let u = h 0 in
+    rw (suc-mul (length rs) most) (omega arith)
+
+pub small-flow : (c : WorkedCard) (nodes : List ℕ) (volts : List ℤ) (n : ℕ) → natAbs (flow c nodes volts n) ≤ flowMost
+unfolding flow
+small-flow c nodes volts n =
+    small-rows (rowsFor (c .exsub)) nodes (outcomeOf c (rolesAt volts nodes) .ticks) n tickLimit
+    (ticks-small c (rolesAt volts nodes))
+
+pub small-place : (cards : List Card) (volts : List ℤ) (n : ℕ) (t : Transistor) →
+    natAbs (placeGives cards volts n t) ≤ flowMost
+unfolding placeGives
+small-place cards volts n t = go (eqb (t .issue) 0)
+  where
+    go : (u : Bool) → natAbs (cond u (pos 0) (flow (workedAt cards (t .«card_place»)) (t .nodes) volts n)) ≤ flowMost
+    go true = zero-le
+    go false = small-flow (workedAt cards (t .«card_place»)) (t .nodes) volts n
+
+pub small-sum : {A : Type 0} (f : A → ℤ) (most : ℕ) → ((a : A) → natAbs (f a) ≤ most) → (l : List A) →
+    natAbs (sumOver f l) ≤ length l * most
+unfolding sumOver
+small-sum f most h [] = zero-le
+small-sum f most h (a ∷ rest) =
+    let p = abs-add (f a) (sumOver f rest) in
+    let q = h a in
+    let t = small-sum f most h rest in rw (suc-mul (length rest) most) (omega arith)
+
+-- ---- the totals
+
+-- totals worked anew, node by node
+pub totals-at : (cards : List Card) (ts : List Transistor) (volts : List ℤ) (n : ℕ) → n < nodesMost →
+    getD (totalsOf cards ts volts) n (pos 0) ≡ sumOver (placeGives cards volts n) ts
+unfolding totalsOf
+totals-at cards ts volts n h = tabulate-at (λ (m : ℕ). sumOver (placeGives cards volts m) ts) nodesMost n (pos 0) h
+
+pub totals-count : (cards : List Card) (ts : List Transistor) (volts : List ℤ) →
+    length (totalsOf cards ts volts) ≡ nodesMost
+unfolding totalsOf
+totals-count cards ts volts = tabulate-long _ nodesMost
+
+-- a list with these sums is the totals
+pub are-totals : (cards : List Card) (ts : List Transistor) (volts : List ℤ) (l : List ℤ) → length l ≡ nodesMost →
+    ((n : ℕ) → n < nodesMost → getD l n (pos 0) ≡ sumOver (placeGives cards volts n) ts) → l ≡ totalsOf cards ts volts
+are-totals cards ts volts l h at =
+    ext-getD (pos 0) l (totalsOf cards ts volts) (h ∙ sym (totals-count cards ts volts))
+    (λ n q. let b = subst (λ (x : ℕ). n < x) h q in at n b ∙ sym (totals-at cards ts volts n b))
+
+-- no total is above what each place can give
+pub totals-room : (cards : List Card) (ts : List Transistor) (volts : List ℤ) → length ts ≡ transistorsMost →
+    Room nodesMost totalMost (totalsOf cards ts volts)
+totals-room cards ts volts h =
+    record { long = totals-count cards ts volts; within = λ n. go n (below-or-not n nodesMost) }
+  where
+    go : (n : ℕ) → (n < nodesMost) ⊎ (nodesMost ≤ n) → natAbs (getD (totalsOf cards ts volts) n (pos 0)) ≤ totalMost
+    go n (inl b) =
+        let s = small-sum (placeGives cards volts n) flowMost (small-place cards volts n) ts in
+        rw (totals-at cards ts volts n b)
+        (subst (λ (k : ℕ). natAbs (sumOver (placeGives cards volts n) ts) ≤ k * flowMost) h s)
+    go n (inr b) =
+        rw (List·getD-eq-default (totalsOf cards ts volts) (pos 0) {n = n} (rw (totals-count cards ts volts) b))
+        zero-le

@@ -1,0 +1,131 @@
+-- Placing's way through its tests, and how the test of the currents comes after it.
+use mathlib.Core.Path.{_≡_, refl, ap}
+use mathlib.Core.Bool.{Bool, true, false, cond, _&&_, _||_}
+use mathlib.Core.List.{List, [], _∷_, map}
+use Prim.Native.Nat.{ℕ, zero, suc, _≤_, _<_}
+use lib.Dec.{leb}
+use lib.ListN.{getD}
+use lib.IntN.{ℤ, pos, natAbs}
+use borrow.Author.Tests.{le-leb, lt-leb, lt-ltb, le-ltb}
+use Rattle.refusal.specs.declared.Refusal.{Refusal}
+use Rattle.refusal.specs.declared.Refusal.the-variants.{NoRoom, Unknown, OutOfRange, SplitCollector, Overload}
+use Rattle.refusal.specs.declared.Refusal.the-variants.{NumbersUsedUp}
+use Rattle.refusal.specs.Order.{Verdict, no, yes, refuseIf}
+use Rattle.refusal.specs.Clash.{clash}
+use Rattle.card.specs.declared.WorkedCard.{WorkedCard}
+use Rattle.branch.specs.Rows.{C1, C4, roleIndex}
+use Rattle.board.specs.declared.Card.{Card}
+use Rattle.board.specs.declared.Transistor.{Transistor}
+use Rattle.board.specs.declared.rules.Way.{Way}
+use Rattle.board.specs.declared.rules.Way.the-variants.{Go, Stop}
+use Rattle.board.specs.Counts.{nodesMost, transistorsMost, issuesMost}
+use Rattle.board.specs.Verdict.{Found, none, some, offNode, someNodeOff, apart, placeVerdict}
+use Rattle.board.specs.Desk.{anyOf, usedUp}
+use Rattle.board.specs.Model.{cardPlace, workedAt, freeTransistor}
+use Rattle.board.specs.inner.Parts.{nodeOf}
+use Rattle.board.specs.inner.Placing.{apartOn, placing, wayOf}
+use Rattle.board.proofs.Verdicts.{on-node}
+
+-- ---- the way, test by test
+
+module _ (cards : List Card) (ts : List Transistor) (next n : ℕ) (on : List ℕ) where
+  abbrev pub way : Way
+  way =
+      wayOf (freeTransistor ts)
+      (placing (cardPlace n cards) (workedAt cards) on (leb transistorsMost (freeTransistor ts)) (usedUp next))
+
+  pub stop-unknown : cardPlace n cards ≡ none → Stop Unknown ≡ way
+  unfolding placing
+  stop-unknown e = rw e
+
+  module _ (i : ℕ) (e : cardPlace n cards ≡ some i) where
+    pub stop-off : anyOf (leb nodesMost) on ≡ true → Stop OutOfRange ≡ way
+    unfolding placing
+    stop-off o = rw (e, o)
+
+    module _ (o : anyOf (leb nodesMost) on ≡ false) where
+      pub stop-split : workedAt cards i .«rcbli_zero» && apartOn on ≡ true → Stop SplitCollector ≡ way
+      unfolding placing
+      stop-split s = rw (e, o, s)
+
+      module _ (s : workedAt cards i .«rcbli_zero» && apartOn on ≡ false) where
+        pub stop-full : transistorsMost ≤ freeTransistor ts → Stop NoRoom ≡ way
+        unfolding placing
+        stop-full h = rw (e, o, s, le-leb _ _ h)
+
+        pub stop-used-up : freeTransistor ts < transistorsMost → issuesMost < next → Stop NumbersUsedUp ≡ way
+        unfolding placing
+        stop-used-up h k = rw (e, o, s, lt-leb _ _ h, lt-ltb _ _ k)
+
+        pub goes : (free : ℕ) → free ≡ freeTransistor ts → free < transistorsMost → next ≤ issuesMost → Go i free ≡ way
+        unfolding placing
+        goes free p h k = rw (e, o, s, ← p, lt-leb _ _ h, le-ltb _ _ k) (rw p)
+
+-- ---- what a way tells
+
+pub stopped : (free : ℕ) (v : Verdict ℕ) {f : Refusal} → wayOf free v ≡ Stop f → v ≡ no f
+stopped free (no g) e = cc
+stopped free (yes i) e = clash cc
+
+pub went : (free : ℕ) (v : Verdict ℕ) {i k : ℕ} → wayOf free v ≡ Go i k → (v ≡ yes i) × (k ≡ free)
+went free (no g) e = clash cc
+went free (yes j) e = (cc, cc)
+
+-- ---- the last test comes after it
+
+abbrev pub lastly : {A : Type 0} → Verdict A → (A → Bool) → Verdict A
+lastly (no f) over = no f
+lastly (yes a) over = refuseIf (over a) Overload (yes a)
+
+-- nodes as the board holds them tell what the caller's numbers tell
+off-same : (nodes : List ℤ) → anyOf (leb nodesMost) (map nodeOf nodes) ≡ someNodeOff nodes
+unfolding anyOf
+off-same [] = refl
+off-same (z ∷ nodes) = go (offNode z) refl (off-same nodes)
+  where
+    go : (t : Bool) → offNode z ≡ t → anyOf (leb nodesMost) (map nodeOf nodes) ≡ someNodeOff nodes →
+        leb nodesMost (cond t nodesMost (natAbs z)) || anyOf (leb nodesMost) (map nodeOf nodes) ≡ t || someNodeOff nodes
+    go true e next = refl
+    go false e next = rw (lt-leb _ _ (on-node z e), next)
+
+pub on-same : (nodes : List ℤ) → someNodeOff nodes ≡ false → map nodeOf nodes ≡ map natAbs nodes
+on-same [] e = refl
+on-same (z ∷ nodes) e = go (offNode z) refl e (λ h. on-same nodes h)
+  where
+    go : (t : Bool) → offNode z ≡ t → t || someNodeOff nodes ≡ false →
+        (someNodeOff nodes ≡ false → map nodeOf nodes ≡ map natAbs nodes) →
+        cond t nodesMost (natAbs z) ∷ map nodeOf nodes ≡ natAbs z ∷ map natAbs nodes
+    go true p q next = clash cc
+    go false p q next = ap (λ (l : List ℕ). natAbs z ∷ l) (next q)
+
+size-at : (nodes : List ℤ) (k : ℕ) → getD (map natAbs nodes) k 0 ≡ natAbs (getD nodes k (pos 0))
+size-at [] k = refl
+size-at (z ∷ nodes) zero = refl
+size-at (z ∷ nodes) (suc k) = size-at nodes k
+
+pub then-lastly :
+    {A : Type 0} (found : Found A) (worked : A → WorkedCard) (over : A → Bool) (nodes : List ℤ) (noRoom used : Bool) →
+    placeVerdict found worked over nodes noRoom used ≡ lastly (placing found worked (map nodeOf nodes) noRoom used) over
+unfolding placeVerdict placing
+then-lastly none worked over nodes noRoom used = refl
+then-lastly (some a) worked over nodes noRoom used = rw (off-same nodes) (go (someNodeOff nodes) refl)
+  where
+    chain : (s r u : Bool) →
+        refuseIf s SplitCollector (refuseIf r NoRoom (refuseIf u NumbersUsedUp (refuseIf (over a) Overload (yes a))))
+        ≡ lastly (refuseIf s SplitCollector (refuseIf r NoRoom (refuseIf u NumbersUsedUp (yes a)))) over
+    chain true r u = refl
+    chain false true u = refl
+    chain false false true = refl
+    chain false false false = refl
+
+    go : (t : Bool) → someNodeOff nodes ≡ t →
+        refuseIf t OutOfRange
+        (refuseIf (worked a .«rcbli_zero» && apart nodes) SplitCollector
+        (refuseIf noRoom NoRoom (refuseIf used NumbersUsedUp (refuseIf (over a) Overload (yes a))))) ≡ lastly
+        (refuseIf t OutOfRange
+        (refuseIf (worked a .«rcbli_zero» && apartOn (map nodeOf nodes)) SplitCollector
+        (refuseIf noRoom NoRoom (refuseIf used NumbersUsedUp (yes a))))) over
+    go true e = refl
+    go false e =
+        rw (on-same nodes e, size-at nodes (roleIndex C4), size-at nodes (roleIndex C1))
+        (chain (worked a .«rcbli_zero» && apart nodes) noRoom used)

@@ -1,0 +1,60 @@
+-- `branch::answering::answer` meets its contract: each arm is the reply for its kind of outcome.
+use mathlib.Core.Path.{_≡_, sym, ap, subst, _∙_}
+use mathlib.Core.Bool.{true}
+use mathlib.Core.List.{map}
+use borrow.Author.Needs.{needs}
+use Rattle.volts.specs.Volts.{givenBack}
+use Rattle.card.specs.declared.WorkedCard.{WorkedCard}
+use Rattle.branch.specs.declared.Ready.{Ready}
+use Rattle.branch.specs.Outcome.{isOver, outcomeOf}
+use Rattle.branch.specs.inner.Ready.{IsReady}
+use Rattle.branch.proofs.Laws.{ready-card, ready-made}
+use Rattle.branch.proofs.Replying.{reply-given, reply-over}
+use Rattle.branch.proofs.answering.answer.Statement.{statement}
+use Rattle.branch.proofs.answering.answer.Tie as tie
+
+-- the entry, behind the card made ready
+abbrev start : tie.After-prepare → tie.Start
+start c = c .before .before .before
+
+work-out-requires : tie.Need-work-out-requires
+work-out-requires c κs =
+    let ready = c .before in
+    let s = start ready in
+    record {
+      table-is = search needs;
+      ready = subst IsReady (sym (ready .prepare .ensures)) (ready-made (s .args .c) (s .pre .0));
+      long = search needs;
+      near = s .pre .1;
+    }
+
+worked : (c : tie.After-work-out) →
+    c .work-out .result
+    ≡ outcomeOf (start (c .before .before) .args .c) (map givenBack (start (c .before .before) .args .t2))
+worked c =
+    let ready = c .before .before in
+    let s = start ready in
+    let same = ap (λ (r : Ready). r .card) (ready .prepare .ensures) ∙ ready-card (s .args .c) in
+    c .work-out .ensures ∙ ap (λ (x : WorkedCard). outcomeOf x (map givenBack (s .args .t2))) same
+
+over : (c : tie.After-turned-away) → isOver (c .before .before .before .work-out .result .over) ≡ true
+over c = ap isOver (c .before .enum-told2 .given .1)
+
+over2 : (c : tie.After-turned-away2) → isOver (c .before .before .before .work-out .result .over) ≡ true
+over2 c = ap isOver (c .before .enum-told3 .given .1)
+
+pub answer-spec : {M : Type 1} → statement M
+answer-spec =
+    tie.close
+    (tie.spec
+    (λ c κs. search needs)
+    (λ c κs. search needs)
+    work-out-requires
+    (λ c. search needs)
+    (λ c. search needs)
+    (λ c κs. search needs)
+    (λ c. search needs)
+    (λ c κs. search needs)
+    (λ c. reply-given (worked (c .before .before .before)) (c .before .enum-told .given .1))
+    (λ c. reply-over (worked (c .before .before .before)) (over c) (c .turned-away .ensures))
+    (λ c. reply-over (worked (c .before .before .before)) (over2 c) (c .turned-away2 .ensures)))

@@ -1,0 +1,4 @@
+-- Words that inner contracts use, and what callers may count on.
+pub mod Ready
+pub mod Terms
+pub mod Replied

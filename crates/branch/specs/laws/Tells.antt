@@ -1,0 +1,67 @@
+-- The number told of currents, that of the first test that fails or 0 where none does; and one reply to one request.
+use mathlib.Core.Path.{_≡_, ap, ap₂, _∙_}
+use mathlib.Core.Bool.{not}
+use mathlib.Core.List.{List}
+use Prim.Native.Nat.{ℕ}
+use lib.Ieee.{Float, eq}
+use lib.IntN.{ℤ}
+use Rattle.refusal.specs.Order.{Verdict, no, yes, andThen, tells, tells-one, numberTold, numberIf, number-first}
+use Rattle.refusal.specs.Order.{then-if}
+use Rattle.refusal.specs.Unique.{unique-by-equation}
+use Rattle.volts.specs.Volts.{someOff}
+use Rattle.card.specs.declared.WorkedCard.{WorkedCard}
+use Rattle.card.specs.Limits.{width}
+use Rattle.card.specs.Record.{hasWords, finiteUp}
+use Rattle.card.specs.Clip.{clippedUp}
+use Rattle.card.specs.Octave.{octaveGood}
+use Rattle.card.specs.Judge.{level, level504, exsub, octave, isSwitch, withinReach, cardOf}
+use Rattle.card.specs.laws.Tells.{judge-order}
+use Rattle.branch.specs.declared.Admission.{Admission}
+use Rattle.branch.specs.declared.Admission.the-variants.{Given, Refused}
+use Rattle.branch.specs.declared.Reply.{Reply}
+use Rattle.branch.specs.Outcome.{isOver, outcomeOf}
+use Rattle.branch.specs.Currents.{atVolts, currentsOf, toldReply, Replies}
+
+-- ---- the number
+
+-- of a worked card at voltages
+abbrev pub voltsNumber : WorkedCard → List ℤ → ℕ
+voltsNumber c volts = numberIf (someOff volts) 13 (numberIf (isOver (outcomeOf c volts .over)) 15 0)
+
+-- on clipped numbers, then from the bytes: loading's tests go first
+abbrev pub numbersNumber : List Float → List ℤ → ℕ
+numbersNumber x volts =
+    numberIf (not (eq (level x) level504)) 7
+    (numberIf (not (isSwitch (exsub x))) 8
+    (numberIf (not (octaveGood (octave x))) 9 (numberIf (not (withinReach x)) 10 (voltsNumber (cardOf x) volts))))
+
+abbrev pub currentsNumber : List ℕ → List ℤ → ℕ
+currentsNumber s volts =
+    numberIf (not (hasWords width s)) 1 (numberIf (not (finiteUp s width)) 6 (numbersNumber (clippedUp s width) volts))
+
+pub currents-tells : (s : List ℕ) (volts : List ℤ) → numberTold (currentsOf s volts) ≡ currentsNumber s volts
+unfolding currentsOf
+currents-tells s volts =
+    ap (λ (v : Verdict WorkedCard). numberTold (andThen v (λ (c : WorkedCard). atVolts c volts))) (judge-order s)
+    ∙ simp (then-if, number-first)
+
+-- ---- one reply
+
+admissionFrom : Verdict (List ℤ) → Admission
+admissionFrom (no f) = Refused f
+admissionFrom (yes ticks) = Given
+
+admission-from : (a : Admission) (ticks : List ℤ) (v : Verdict (List ℤ)) → toldReply a ticks ≡ tells v →
+    a ≡ admissionFrom v
+unfolding admissionFrom
+admission-from Given ticks v e = ap admissionFrom (tells-one (yes ticks) v e)
+admission-from (Refused f) ticks v e = ap admissionFrom (tells-one (no f) v e)
+
+pub unique-currents : (s : List ℕ) (volts : List ℤ) (r r′ : Reply) → Replies s volts r → Replies s volts r′ →
+    r ≡ r′
+unique-currents s volts r r′ p q =
+    ap₂ (λ (a : Admission) (l : List ℤ). record { admission = a; ticks = l })
+    (unique-by-equation
+    (admission-from (r .admission) (r .ticks) (currentsOf s volts) (p .answer))
+    (admission-from (r′ .admission) (r′ .ticks) (currentsOf s volts) (q .answer)))
+    (unique-by-equation (p .ticks) (q .ticks))

@@ -1,0 +1,21 @@
+-- The tests of clipped numbers that the code makes before it works anything: what the first that fails draws.
+use mathlib.Core.Bool.{Bool, true, false}
+use mathlib.Core.List.{List}
+use lib.Ieee.{Float, eq}
+use Rattle.refusal.specs.declared.Refusal.{Refusal}
+use Rattle.refusal.specs.declared.Refusal.the-variants.{WrongLevel, BadExsub, BadOctave}
+use Rattle.card.specs.declared.Answer.{Answer}
+use Rattle.card.specs.declared.Answer.the-variants as answer
+use Rattle.card.specs.Octave.{octaveGood}
+use Rattle.card.specs.Judge.{level, level504, exsub, isSwitch, octave}
+
+-- what comes after a test that passes, or the refusal that it draws
+abbrev pub unlessPassed : Bool → Refusal → Answer → Answer
+unlessPassed true f next = next
+unlessPassed false f next = answer.Refused f
+
+-- 7, 8, 9
+abbrev pub firstWrong : List Float → Answer
+firstWrong x =
+    unlessPassed (eq (level x) level504) WrongLevel
+    (unlessPassed (isSwitch (exsub x)) BadExsub (unlessPassed (octaveGood (octave x)) BadOctave answer.Taken))

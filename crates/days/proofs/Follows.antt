@@ -1,0 +1,435 @@
+-- The board follows the desk: after any calls it stands for the desk that the same calls leave, and answers each call
+-- as the desk does.
+use mathlib.Core.Path.{_≡_, refl, sym, ap, _∙_, subst}
+use mathlib.Core.Bool.{Bool, true, false, cond, not}
+use mathlib.Core.List.{List, [], _∷_, map}
+use Prim.Native.Nat.{ℕ, zero, suc, _-_, _≤_, _<_}
+use native.Mathlib.Numerals.{add-one}
+use native.Mathlib.Omega.{arith}
+use lib.Dec.{eqb, leb, ltb}
+use lib.ListN.{length, getD, set}
+use lib.IntN.{ℤ, pos, natAbs}
+use borrow.Author.Tests.{eqb-true, eqb-false, leb-false, ltb-false}
+use Rattle.refusal.specs.declared.Refusal.{Refusal}
+use Rattle.refusal.specs.declared.Refusal.the-variants.{CardInUse}
+use Rattle.refusal.specs.Order.{Verdict, no, yes, refuseIf}
+use Rattle.name.specs.Name.{padded, same}
+use Rattle.volts.specs.Volts.{givenBack, keptAs, offVolts}
+use Rattle.volts.specs.laws.Keeping.{kept}
+use Rattle.card.specs.declared.WorkedCard.{WorkedCard}
+use Rattle.branch.specs.inner.Ready.{readyOf}
+use Rattle.branch.proofs.Laws.{ready-card}
+use Rattle.branch.specs.Rows.{roles}
+use Rattle.board.specs.declared.Card.{Card}
+use Rattle.board.specs.declared.Transistor.{Transistor}
+use Rattle.board.specs.declared.Board.{Board}
+use Rattle.board.specs.declared.Answered.{Answered}
+use Rattle.board.specs.Counts.{nodesMost, cardsMost, transistorsMost}
+use Rattle.board.specs.Verdict.{Found, none, some, issueOf, placeVerdict, moveVerdict, liftVerdict}
+use Rattle.board.specs.Verdict.{withdrawVerdict, nodeVerdict}
+use Rattle.board.specs.Desk as desk
+use Rattle.board.specs.Desk.{Held, Standing, Desk, Step, Call, load, place, move, lift, withdraw, lookUp, node}
+use Rattle.board.specs.Desk.{overloads, sumOver, anyOf, firstWith, heldAs, standsAs, without, larger, highest}
+use Rattle.board.specs.Desk.{flow, total, someOverloads, step, freshDesk, after}
+use Rattle.board.specs.Model as board
+use Rattle.board.specs.Model.{first, foundAt, isCard, isTransistor, cardPlace, transistorPlace, emptyCard}
+use Rattle.board.specs.Model.{noCard, emptyTransistor, noTransistor, placeGives, placeOverloads}
+use Rattle.board.specs.Model.{freshBoard, voltsOf, freeCard, freeTransistor, standsOn, highestAt, loadedOf}
+use Rattle.board.specs.Model.{placedOf, movedOf, liftedOf, withdrawnOf, lookedOf, showedOf, answered, boardAfter}
+use Rattle.days.specs.Perm.{empty}
+use Rattle.days.specs.Stands.{occupied, heldOf, standingOf, heldIn, standingIn, heldAt, standingAt, mapFound}
+use Rattle.days.specs.Stands.{standsUnder, Stands, Follow}
+use Rattle.days.proofs.Perms.{perm-join, perm-length, perm-sum, perm-any, perm-count, perm-first}
+use Rattle.days.proofs.Perms.{perm-without, perm-highest}
+use Rattle.days.proofs.Places.{sum-occupied, any-occupied, full, join, seen, find, find-none}
+use Rattle.days.proofs.Places.{count-occupied, leave}
+use Rattle.board.proofs.Lists.{getD-map}
+use Rattle.board.proofs.NodeSums.{totals-at}
+use Rattle.board.proofs.Verdicts.{loads, places, moves, lifts, withdraws, shown}
+use Rattle.board.proofs.Invariant.{Invariant, invariant-after, at-card, AtCard, at-transistor, AtTransistor}
+use Rattle.board.proofs.Invariant.{unused-away, worked-same, free-card}
+use Rattle.days.proofs.Orderly.{Orderly, orderly-after}
+
+-- ---- verdicts on what was found by place, and on the same found by itself
+
+abbrev mapVerdict : {A B : Type 0} → (A → B) → Verdict A → Verdict B
+mapVerdict g (no f) = no f
+mapVerdict g (yes a) = yes (g a)
+
+map-refuse : {A B : Type 0} (g : A → B) (t : Bool) (f : Refusal) (v : Verdict A) →
+    mapVerdict g (refuseIf t f v) ≡ refuseIf t f (mapVerdict g v)
+map-refuse g true f v = refl
+map-refuse g false f v = refl
+
+module _ {A B : Type 0} (g : A → B) where
+  map-place : (found : Found A) (worked : B → WorkedCard) (over : B → Bool) (nodes : List ℤ) (noRoom used : Bool) →
+      placeVerdict (mapFound g found) worked over nodes noRoom used ≡ mapVerdict g
+      (placeVerdict found (λ (a : A). worked (g a)) (λ (a : A). over (g a)) nodes noRoom used)
+  unfolding placeVerdict
+  map-place none worked over nodes noRoom used = refl
+  map-place (some a) worked over nodes noRoom used = sym (simp map-refuse)
+
+  map-lift : (found : Found A) → liftVerdict (mapFound g found) ≡ mapVerdict g (liftVerdict found)
+  unfolding liftVerdict
+  map-lift none = refl
+  map-lift (some a) = refl
+
+-- ---- where board and desk agree
+
+map-set : {A B : Type 0} (f : A → B) (l : List A) (i : ℕ) (x : A) → map f (set l i x) ≡ set (map f l) i (f x)
+map-set f [] i x = refl
+map-set f (a ∷ rest) zero x = refl
+map-set {B = B} f (a ∷ rest) (suc i) x = ap (λ (l : List B). f a ∷ l) (map-set f rest i x)
+
+zero-larger : (n : ℕ) → larger 0 n ≡ n
+zero-larger n = go (ltb 0 n) refl
+  where
+    go : (t : Bool) → ltb 0 n ≡ t → cond t n 0 ≡ n
+    go true e = refl
+    go false e = let h = ltb-false 0 n e in omega arith
+
+highest-held : (name : List ℕ) (cards : List Card) → highest name (heldIn cards) ≡ highestAt name cards
+unfolding highest highestAt occupied
+highest-held name [] = refl
+highest-held name (c ∷ cards) = go (eqb (c .issue) 0) refl (highest-held name cards)
+  where
+    nothing : (t : Bool) (n : ℕ) → larger (cond t 0 0) n ≡ n
+    nothing true n = zero-larger n
+    nothing false n = zero-larger n
+
+    go : (t : Bool) → eqb (c .issue) 0 ≡ t → highest name (heldIn cards) ≡ highestAt name cards →
+        highest name (desk.keepIf (not t) (heldOf c) (heldIn cards)) ≡ larger
+        (cond (same (c .name) name) (c .issue) 0) (highestAt name cards)
+    go true e h = rw (eqb-true (c .issue) 0 e) (h ∙ sym (nothing (same (c .name) name) (highestAt name cards)))
+    go false e h = ap (larger (cond (same (c .name) name) (c .issue) 0)) h
+
+module _ (b : Board) (d : Desk) (g : Invariant b) (o : Orderly d) (s : Stands b d) where
+  cards-full : leb cardsMost (freeCard (b .cards)) ≡ leb cardsMost (length (d .cards))
+  cards-full =
+      let e = full (λ (c : Card). c .issue) heldOf (b .cards) in
+      rw (← (perm-length (s .cards))) (rw (g .cards-long) at e)
+
+  transistors-full : leb transistorsMost (freeTransistor (b .transistors)) ≡ leb transistorsMost (length (d .standing))
+  transistors-full =
+      let e = full (λ (t : Transistor). t .issue) (standingOf (b .cards)) (b .transistors) in
+      rw (← (perm-length (s .standing))) (rw (g .transistors-long) at e)
+
+  card-by : (n : ℕ) →
+      heldAs n (d .cards) ≡ mapFound (heldAt b) (cardPlace n (b .cards))
+  card-by n =
+      sym
+      (perm-first (λ (h : Held). eqb (h .issue) n)
+      (subst (λ (k : ℕ). k ≤ 1) (sym (perm-count (λ (h : Held). eqb (h .issue) n) (s .cards))) (o .cards .single n))
+      (s .cards))
+      ∙ go (eqb n 0) refl
+    where
+      go : (t : Bool) → eqb n 0 ≡ t →
+          firstWith (λ (h : Held). eqb (h .issue) n) (heldIn (b .cards)) ≡ mapFound (heldAt b)
+          (cond t none (foundAt cardsMost (first (isCard n) (b .cards))))
+      go true e =
+          rw (eqb-true n 0 e)
+          (find-none (λ (c : Card). c .issue) heldOf (λ (h : Held). h .issue) (λ c. refl) (b .cards))
+      go false e =
+          rw (← (g .cards-long))
+          (find (λ (c : Card). c .issue) heldOf (λ (h : Held). h .issue) (λ c. refl) n (eqb-false n 0 e) noCard
+          (b .cards))
+
+  pub transistor-by : (n : ℕ) → standsAs n (d .standing) ≡ standsUnder n b
+  transistor-by n =
+      sym
+      (perm-first (λ (t : Standing). eqb (t .issue) n)
+      (subst (λ (k : ℕ). k ≤ 1) (sym (perm-count (λ (t : Standing). eqb (t .issue) n) (s .standing)))
+      (o .standing .single n)) (s .standing))
+      ∙ go (eqb n 0) refl
+    where
+      go : (t : Bool) → eqb n 0 ≡ t →
+          firstWith (λ (u : Standing). eqb (u .issue) n) (standingIn (b .cards) (b .transistors)) ≡ mapFound (standingAt b)
+          (cond t none (foundAt transistorsMost (first (isTransistor n) (b .transistors))))
+      go true e =
+          rw (eqb-true n 0 e)
+          (find-none (λ (t : Transistor). t .issue) (standingOf (b .cards)) (λ (u : Standing). u .issue) (λ t. refl)
+          (b .transistors))
+      go false e =
+          rw (← (g .transistors-long))
+          (find (λ (t : Transistor). t .issue) (standingOf (b .cards)) (λ (u : Standing). u .issue) (λ t. refl) n
+          (eqb-false n 0 e) noTransistor (b .transistors))
+
+  any-standing : (volts : List ℤ) → someOverloads d volts ≡ anyOf (placeOverloads (b .cards) volts) (b .transistors)
+  unfolding placeOverloads
+  any-standing volts =
+      sym (perm-any (λ (t : Standing). overloads (t .worked) (t .nodes) volts) (s .standing))
+      ∙ any-occupied (λ (t : Transistor). t .issue) (standingOf (b .cards))
+      (λ (t : Standing). overloads (t .worked) (t .nodes) volts) (b .transistors)
+
+  any-on : (n : ℕ) → anyOf (λ (t : Standing). eqb (t .card) n) (d .standing) ≡ anyOf (standsOn n) (b .transistors)
+  any-on n =
+      sym (perm-any (λ (t : Standing). eqb (t .card) n) (s .standing))
+      ∙ any-occupied (λ (t : Transistor). t .issue) (standingOf (b .cards)) (λ (t : Standing). eqb (t .card) n)
+      (b .transistors)
+
+  pub totals-follow : (n : ℕ) → n < nodesMost → getD (b .totals) n (pos 0) ≡ total d n
+  unfolding total placeGives
+  totals-follow n h =
+      ap (λ (l : List ℤ). getD l n (pos 0)) (g .balanced) ∙ totals-at (b .cards) (b .transistors) (voltsOf b) n h
+      ∙ sym
+      (sum-occupied (λ (t : Transistor). t .issue) (standingOf (b .cards))
+      (λ (t : Standing). flow (t .worked) (t .nodes) (voltsOf b) n) (b .transistors))
+      ∙ perm-sum (λ (t : Standing). flow (t .worked) (t .nodes) (voltsOf b) n) (s .standing)
+      ∙ ap (λ (v : List ℤ). sumOver (λ (t : Standing). flow (t .worked) (t .nodes) v n) (d .standing)) (s .volts)
+
+-- ---- one call more
+
+module _ (b : Board) (d : Desk) (g : Invariant b) (o : Orderly d) (s : Stands b d) where
+  -- other cards at a place on which nobody stands leave the transistors as they are
+  same-standing : (p : ℕ) (c : Card) →
+      ((i : ℕ) → (getD (b .transistors) i noTransistor .issue ≡ 0 → ⊥) → getD (b .transistors) i
+      noTransistor .«card_place» ≡ p → ⊥) →
+      standingIn (set (b .cards) p c) (b .transistors) ≡ standingIn (b .cards) (b .transistors)
+  same-standing p c away =
+      seen (λ (t : Transistor). t .issue) (standingOf (set (b .cards) p c)) (standingOf (b .cards)) noTransistor
+      (b .transistors)
+      (λ i h k. let t = getD (b .transistors) i noTransistor in
+      ap (λ (w : WorkedCard). record { issue = t .issue; card = t .card; worked = w; nodes = t .nodes })
+      (worked-same (b .cards) p c (voltsOf b) (t .«card_place») (away i k)))
+
+  given : b .next ≡ 0 → ⊥
+  given e = let h = o .begun in let k = s .next in omega arith
+
+  follow-load : (name bytes : List ℕ) → Follow (loadedOf b name bytes) (step d (load name bytes))
+  unfolding loadedOf step
+  follow-load name bytes =
+      subst (λ (v : Verdict WorkedCard). Follow (loadedOf b name bytes) (desk.loaded d name v)) agree
+      (go (board.mayLoad b name bytes) refl)
+    where
+      agree : board.mayLoad b name bytes ≡ desk.mayLoad d name bytes
+      agree = rw (cards-full b d g o s, s .next)
+
+      new : (c : WorkedCard) →
+          heldOf (record { issue = b .next; name = padded name; ready = readyOf c })
+          ≡ record { issue = d .next; name = padded name; worked = c }
+      new c = rw (ready-card c, s .next)
+
+      go : (v : Verdict WorkedCard) → board.mayLoad b name bytes ≡ v →
+          Follow (board.loaded b name v) (desk.loaded d name v)
+      go (no f) e = record { reply = refl; board = s }
+      go (yes c) e =
+          let p = free-card b g (loads name e .room) in
+          record {
+            reply = ap desk.issued (s .next);
+            board = record {
+              cards = perm-join (join (λ (x : Card). x .issue) heldOf (b .cards) _ given (p .below)) (new c) (s .cards);
+              standing = rw (same-standing (freeCard (b .cards)) _ (p .away)) (s .standing);
+              volts = s .volts;
+              next = add-one (b .next) ∙ ap suc (s .next);
+            };
+          }
+
+  follow-place : (card : ℤ) (nodes : List ℤ) (sized : length nodes ≡ roles) →
+      Follow (placedOf b card nodes) (step d (place card nodes sized))
+  unfolding placedOf step
+  follow-place card nodes sized =
+      subst (λ (v : Verdict Held). Follow (placedOf b card nodes) (desk.placed d nodes v)) agree
+      (go (board.mayPlace b card nodes) refl)
+    where
+      agree : mapVerdict (heldAt b) (board.mayPlace b card nodes) ≡ desk.mayPlace d card nodes
+      agree = rw (card-by b d g o s (issueOf card), map-place (heldAt b), transistors-full b d g o s, s .next, s .volts)
+
+      new : (i : ℕ) →
+          standingOf (b .cards)
+          (record { issue = b .next; card = heldAt b i .issue; «card_place» = i; nodes = map natAbs nodes })
+          ≡ record { issue = d .next; card = heldAt b i .issue; worked = heldAt b i .worked; nodes = map natAbs nodes }
+      new i = rw (s .next)
+
+      go : (v : Verdict ℕ) → board.mayPlace b card nodes ≡ v →
+          Follow (board.placed b nodes v) (desk.placed d nodes (mapVerdict (heldAt b) v))
+      go (no f) e = record { reply = refl; board = s }
+      go (yes i) e =
+          let p = places (cardPlace (issueOf card) (b .cards)) e in
+          record {
+            reply = ap desk.issued (s .next);
+            board = record {
+              cards = s .cards;
+              standing =
+                  perm-join
+                  (join (λ (t : Transistor). t .issue) (standingOf (b .cards)) (b .transistors) _ given
+                  (rw (g .transistors-long) (leb-false _ _ (p .room))))
+                  (new i) (s .standing);
+              volts = s .volts;
+              next = add-one (b .next) ∙ ap suc (s .next);
+            };
+          }
+
+  moved-volts : (v : ℤ) (k : ℕ) → offVolts v ≡ false → map givenBack (set (b .volts) k (keptAs v)) ≡ set (d .volts) k v
+  moved-volts v k e = map-set givenBack (b .volts) k (keptAs v) ∙ rw (kept v e .is, s .volts)
+
+  -- out of range both refuse before they look at what stands
+  agree-move : (n v : ℤ) (t : Bool) → offVolts v ≡ t → board.mayMove b n v ≡ desk.mayMove d n v
+  unfolding moveVerdict
+  agree-move n v true e = rw e
+  agree-move n v false e = rw (any-standing b d g o s, moved-volts v (natAbs n) e)
+
+  follow-move : (n v : ℤ) → Follow (movedOf b n v) (step d (move n v))
+  unfolding movedOf step
+  follow-move n v =
+      subst (λ (w : Verdict ℕ). Follow (movedOf b n v) (desk.moved d v w)) (agree-move n v (offVolts v) refl)
+      (go (board.mayMove b n v) refl)
+    where
+      go : (w : Verdict ℕ) → board.mayMove b n v ≡ w → Follow (board.moved b v w) (desk.moved d v w)
+      go (no f) e = record { reply = refl; board = s }
+      go (yes k) e =
+          record {
+            reply = refl;
+            board =
+                record {
+                  cards = s .cards;
+                  standing = s .standing;
+                  volts = moved-volts v k (moves e .near);
+                  next = s .next;
+                };
+          }
+
+  -- without the one that was found its place is empty
+  without-transistor : (n i : ℕ) → AtTransistor n (b .transistors) i →
+      without (λ (t : Standing). t .issue) (standingAt b i .issue) (standingIn (b .cards) (b .transistors))
+      ≡ standingIn (b .cards) (set (b .transistors) i emptyTransistor)
+  without-transistor n i a =
+      let c =
+      count-occupied (λ (t : Transistor). t .issue) (standingOf (b .cards)) (λ (t : Standing). t .issue)
+      (λ t. refl) n (a .given) (b .transistors) in
+      let p = perm-count (λ (t : Standing). eqb (t .issue) n) (s .standing) in
+      let q = o .standing .single n in
+      ap (λ (k : ℕ). without (λ (t : Standing). t .issue) k (standingIn (b .cards) (b .transistors))) (a .issue-is)
+      ∙ sym
+      (leave (λ (t : Transistor). t .issue) (standingOf (b .cards)) (λ (t : Standing). t .issue) (λ t. refl) n
+      (a .given) emptyTransistor refl (b .transistors) (omega arith))
+      ∙ ap (λ (k : ℕ). standingIn (b .cards) (set (b .transistors) k emptyTransistor)) (sym (a .is))
+
+  without-card : (n i : ℕ) → AtCard n (b .cards) i →
+      without (λ (h : Held). h .issue) (heldAt b i .issue) (heldIn (b .cards)) ≡ heldIn (set (b .cards) i emptyCard)
+  without-card n i a =
+      let c =
+      count-occupied (λ (t : Card). t .issue) heldOf (λ (t : Held). t .issue) (λ t. refl) n (a .given) (b .cards)
+      in
+      let p = perm-count (λ (t : Held). eqb (t .issue) n) (s .cards) in
+      let q = o .cards .single n in
+      ap (λ (k : ℕ). without (λ (t : Held). t .issue) k (heldIn (b .cards))) (a .issue-is)
+      ∙ sym
+      (leave (λ (t : Card). t .issue) heldOf (λ (t : Held). t .issue) (λ t. refl) n (a .given) emptyCard refl
+      (b .cards) (omega arith))
+      ∙ ap (λ (k : ℕ). heldIn (set (b .cards) k emptyCard)) (sym (a .is))
+
+  follow-lift : (n : ℤ) → Follow (liftedOf b n) (step d (lift n))
+  unfolding liftedOf step
+  follow-lift n =
+      subst (λ (v : Verdict Standing). Follow (liftedOf b n) (desk.lifted d v)) agree (go (board.mayLift b n) refl)
+    where
+      agree : mapVerdict (standingAt b) (board.mayLift b n) ≡ desk.mayLift d n
+      agree = rw (transistor-by b d g o s (issueOf n), map-lift (standingAt b))
+
+      go : (v : Verdict ℕ) → board.mayLift b n ≡ v →
+          Follow (board.lifted b v) (desk.lifted d (mapVerdict (standingAt b) v))
+      go (no f) e = record { reply = refl; board = s }
+      go (yes i) e =
+          let a =
+          at-transistor (issueOf n) (b .transistors) i (g .transistors-long)
+          (lifts (transistorPlace (issueOf n) (b .transistors)) e) in
+          record {
+            reply = refl;
+            board = record {
+              cards = s .cards;
+              standing =
+                  rw (← (without-transistor (issueOf n) i a))
+                  (perm-without (λ (t : Standing). t .issue) (standingAt b i .issue) (s .standing));
+              volts = s .volts;
+              next = s .next;
+            };
+          }
+
+  agree-withdraw : (n : ℤ) (found : Found ℕ) → cardPlace (issueOf n) (b .cards) ≡ found →
+      mapVerdict (heldAt b) (board.mayWithdraw b n) ≡ desk.mayWithdraw d n
+  unfolding withdrawVerdict
+  agree-withdraw n none e = rw (card-by b d g o s (issueOf n), e)
+  agree-withdraw n (some i) e =
+      let a = at-card (issueOf n) (b .cards) i (g .cards-long) e in
+      let used : anyOf (standsOn (issueOf n)) (b .transistors) ≡ anyOf (λ (t : Standing). eqb (t .card) (heldAt b i .issue)) (d .standing) =
+      sym (any-on b d g o s (issueOf n))
+      ∙ ap (λ (k : ℕ). anyOf (λ (t : Standing). eqb (t .card) k) (d .standing)) (sym (a .issue-is)) in
+      rw (card-by b d g o s (issueOf n), e)
+      (map-refuse (heldAt b) (anyOf (standsOn (issueOf n)) (b .transistors)) _ _
+      ∙ ap (λ (t : Bool). refuseIf t CardInUse (yes (heldAt b i))) used)
+
+  follow-withdraw : (n : ℤ) → Follow (withdrawnOf b n) (step d (withdraw n))
+  unfolding withdrawnOf step
+  follow-withdraw n =
+      subst (λ (v : Verdict Held). Follow (withdrawnOf b n) (desk.withdrawn d v))
+      (agree-withdraw n (cardPlace (issueOf n) (b .cards)) refl) (go (board.mayWithdraw b n) refl)
+    where
+      go : (v : Verdict ℕ) → board.mayWithdraw b n ≡ v →
+          Follow (board.withdrawn b v) (desk.withdrawn d (mapVerdict (heldAt b) v))
+      go (no f) e = record { reply = refl; board = s }
+      go (yes i) e =
+          let w = withdraws (cardPlace (issueOf n) (b .cards)) e in
+          let a = at-card (issueOf n) (b .cards) i (g .cards-long) (w .there) in
+          record {
+            reply = refl;
+            board = record {
+              cards =
+                  rw (← (without-card (issueOf n) i a))
+                  (perm-without (λ (t : Held). t .issue) (heldAt b i .issue) (s .cards));
+              standing = rw (same-standing i emptyCard (unused-away b g (issueOf n) i a (w .unused))) (s .standing);
+              volts = s .volts;
+              next = s .next;
+            };
+          }
+
+  follow-look : (name : List ℕ) → Follow (lookedOf b name) (step d (lookUp name))
+  unfolding lookedOf step
+  follow-look name =
+      subst (λ (v : Verdict ℕ). Follow (lookedOf b name) (desk.looked d v)) agree (go (board.mayLookUp b name))
+    where
+      agree : board.mayLookUp b name ≡ desk.mayLookUp d name
+      agree = rw (← (highest-held (padded name) (b .cards)), perm-highest (padded name) (s .cards))
+
+      go : (v : Verdict ℕ) → Follow (board.looked b v) (desk.looked d v)
+      go (no f) = record { reply = refl; board = s }
+      go (yes n) = record { reply = refl; board = s }
+
+  follow-node : (n : ℤ) → Follow (showedOf b n) (step d (node n))
+  unfolding showedOf step
+  follow-node n = go (nodeVerdict n) refl
+    where
+      go : (v : Verdict ℕ) → nodeVerdict n ≡ v → Follow (board.showed b v) (desk.showed d v)
+      go (no f) e = record { reply = refl; board = s }
+      go (yes k) e =
+          let h = shown n e in
+          let v : givenBack (getD (b .volts) k 0) ≡ getD (d .volts) k (pos 0) =
+          sym (getD-map givenBack (b .volts) k 0 (pos 0) (rw (g .volts-long) h)) ∙ ap
+          (λ (l : List ℤ). getD l k (pos 0)) (s .volts) in
+          let t = totals-follow b d g o s k h in record { reply = rw (v, t); board = s }
+
+-- ---- any calls
+
+pub stands-fresh : Stands freshBoard freshDesk
+unfolding freshBoard freshDesk occupied
+stands-fresh = record { cards = empty; standing = empty; volts = refl; next = refl }
+
+pub follow : (b : Board) (d : Desk) → Invariant b → Orderly d → Stands b d → (c : Call) → Follow (answered b c) (step d c)
+unfolding answered
+follow b d g o s (load name bytes) = follow-load b d g o s name bytes
+follow b d g o s (place card nodes sized) = follow-place b d g o s card nodes sized
+follow b d g o s (move n v) = follow-move b d g o s n v
+follow b d g o s (lift n) = follow-lift b d g o s n
+follow b d g o s (withdraw n) = follow-withdraw b d g o s n
+follow b d g o s (lookUp name) = follow-look b d g o s name
+follow b d g o s (node n) = follow-node b d g o s n
+
+pub stands-after : (calls : List Call) → Stands (boardAfter calls) (after calls)
+unfolding boardAfter after
+stands-after [] = stands-fresh
+stands-after (c ∷ cs) =
+    follow (boardAfter cs) (after cs) (invariant-after cs) (orderly-after cs) (stands-after cs) c .board
+
+-- whatever calls were made, the next one is answered, and changes the board, as the desk has it
+pub follows : (calls : List Call) (c : Call) → Follow (answered (boardAfter calls) c) (step (after calls) c)
+follows calls c =
+    follow (boardAfter calls) (after calls) (invariant-after calls) (orderly-after calls) (stands-after calls) c

@@ -1,0 +1,7 @@
+pub mod Perms
+pub mod Places
+pub mod Orderly
+pub mod Follows
+pub mod Totals
+pub mod Numbers
+pub mod Keeps

@@ -1,0 +1,4 @@
+pub mod Perm
+pub mod Stands
+pub mod Fitted
+pub mod Numbers

@@ -1,0 +1,71 @@
+-- When a board of places stands for a desk: the same cards and transistors in some order, the same voltages, the same
+-- next number.
+use mathlib.Core.Path.{_≡_}
+use mathlib.Core.Bool.{not}
+use mathlib.Core.List.{List, [], _∷_}
+use Prim.Native.Nat.{ℕ}
+use lib.Dec.{eqb}
+use lib.ListN.{getD}
+use Rattle.board.specs.declared.Card.{Card}
+use Rattle.board.specs.declared.Transistor.{Transistor}
+use Rattle.board.specs.declared.Board.{Board}
+use Rattle.board.specs.declared.Answer.{Answer}
+use Rattle.board.specs.declared.Answer.the-variants.{Issue, Done, Node, Refused}
+use Rattle.board.specs.declared.Answered.{Answered}
+use Rattle.board.specs.Verdict.{Found, none, some}
+use Rattle.board.specs.Desk.{Held, Standing, Desk, Step, Reply, issued, done, shows, refused, keepIf}
+use Rattle.board.specs.Model.{noCard, noTransistor, workedAt, transistorPlace, voltsOf}
+use Rattle.days.specs.Perm.{Perm}
+
+-- what stands on the places of l, each seen through f; a place whose key is 0 is empty
+unfoldable pub occupied : {A B : Type 0} → (A → ℕ) → (A → B) → List A → List B
+occupied key f [] = []
+occupied key f (a ∷ rest) = keepIf (not (eqb (key a) 0)) (f a) (occupied key f rest)
+
+abbrev pub heldOf : Card → Held
+heldOf c = record { issue = c .issue; name = c .name; worked = c .ready .card }
+
+abbrev pub standingOf : List Card → Transistor → Standing
+standingOf cards t =
+    record { issue = t .issue; card = t .card; worked = workedAt cards (t .«card_place»); nodes = t .nodes }
+
+-- the cards and the transistors of a board
+abbrev pub heldIn : List Card → List Held
+heldIn cards = occupied (λ (c : Card). c .issue) heldOf cards
+
+abbrev pub standingIn : List Card → List Transistor → List Standing
+standingIn cards ts = occupied (λ (t : Transistor). t .issue) (standingOf cards) ts
+
+-- the card and the transistor at a place
+abbrev pub heldAt : Board → ℕ → Held
+heldAt b i = heldOf (getD (b .cards) i noCard)
+
+abbrev pub standingAt : Board → ℕ → Standing
+standingAt b i = standingOf (b .cards) (getD (b .transistors) i noTransistor)
+
+-- what was found, seen through a function
+abbrev pub mapFound : {A B : Type 0} → (A → B) → Found A → Found B
+mapFound g none = none
+mapFound g (some a) = some (g a)
+
+-- who stands on a board under an issue number
+abbrev pub standsUnder : ℕ → Board → Found Standing
+standsUnder k b = mapFound (standingAt b) (transistorPlace k (b .transistors))
+
+pub record Stands (b : Board) (d : Desk) : Type 0 where
+  pub cards : Perm (heldIn (b .cards)) (d .cards)
+  pub standing : Perm (standingIn (b .cards) (b .transistors)) (d .standing)
+  pub volts : voltsOf b ≡ d .volts
+  pub next : b .next ≡ d .next
+
+-- a board's answer in the desk's words
+abbrev pub replyOf : Answer → Reply
+replyOf (Issue n) = issued n
+replyOf Done = done
+replyOf (Node v t) = shows v t
+replyOf (Refused f) = refused f
+
+-- a board's answer is the desk's, and its next board stands for the next desk
+pub record Follow (a : Answered) (t : Step) : Type 0 where
+  pub reply : replyOf (a .answer) ≡ t .reply
+  pub board : Stands (a .board) (t .desk)

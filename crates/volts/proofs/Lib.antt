@@ -1,0 +1,2 @@
+-- Laws over plain numbers, on which the functions' proofs rest.
+pub mod Halves

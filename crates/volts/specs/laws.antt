@@ -1,0 +1,3 @@
+-- What follows from the definitions of kept voltages.
+pub mod Keeping
+pub mod Across

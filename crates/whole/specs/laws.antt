@@ -1,0 +1,2 @@
+-- What follows from the definitions, in the words of no document.
+pub mod Biased
