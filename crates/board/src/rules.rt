@@ -10,13 +10,10 @@ use crate::Board;
 use crate::Card;
 use crate::Transistor;
 use crate::finds;
+use branch::C1;
+use branch::C4;
 use branch::ROLES;
 use refusal::Refusal;
-
-// The places of C1 and C4 among the roles.
-const C1: usize = 3;
-
-const C4: usize = 5;
 
 // The places of the card and of the transistor to be, or the refusal.
 pub(crate) enum Way {
