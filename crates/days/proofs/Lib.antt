@@ -5,3 +5,4 @@ pub mod Follows
 pub mod Totals
 pub mod Numbers
 pub mod Keeps
+pub mod Methods
