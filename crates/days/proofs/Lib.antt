@@ -1,6 +1,7 @@
 pub mod Perms
 pub mod Places
 pub mod Orderly
+pub mod Orders
 pub mod Follows
 pub mod Totals
 pub mod Numbers

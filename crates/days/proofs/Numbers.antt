@@ -17,7 +17,8 @@ use Rattle.branch.specs.Rows.{roles}
 use Rattle.board.specs.declared.Board.{Board}
 use Rattle.board.specs.declared.Answer.the-variants.{Issue}
 use Rattle.board.specs.Counts.{issuesMost}
-use Rattle.board.specs.Verdict.{issueOf, liftVerdict, nodeVerdict}
+use Rattle.board.specs.Arguments.{issueOf}
+use Rattle.board.specs.Verdict.{nodeVerdict}
 use Rattle.board.specs.Desk as desk
 use Rattle.board.specs.Desk.{Held, Standing, Desk, Call, load, place, move, lift, withdraw, lookUp, node}
 use Rattle.board.specs.Desk.{firstWith, without, keepIf, total, step, after}
@@ -30,6 +31,7 @@ use Rattle.days.proofs.Perms.{count, more}
 use Rattle.board.proofs.Verdicts.{loads, places}
 use Rattle.board.proofs.Invariant.{invariant-after, totals-long}
 use Rattle.days.proofs.Orderly.{Orderly, orderly-after}
+use Rattle.days.proofs.Orders.{order-place}
 use Rattle.days.proofs.Follows.{follows}
 use Rattle.days.proofs.Totals.{totals-are-sums}
 
@@ -94,7 +96,8 @@ module _ (b : Board) (l : List ℕ) (begun : 1 ≤ b .next) (f : Falls (b .next)
 pub issues-never-twice : (calls : List Call) → Falls (boardAfter calls .next) (givenBy calls)
 unfolding givenBy boardAfter
 issues-never-twice [] = end
-issues-never-twice (c ∷ cs) = falls-call (boardAfter cs) (givenBy cs) (invariant-after cs .begun) (issues-never-twice cs) c
+issues-never-twice (c ∷ cs) =
+    falls-call (boardAfter cs) (givenBy cs) (invariant-after cs .begun) (issues-never-twice cs) c
 
 -- ---- lifting the one just placed
 
@@ -123,7 +126,7 @@ take-back : (d : Desk) → Orderly d → (t : Standing) (later : ℕ) → t .iss
     (desk.lifted (record { cards = d .cards; standing = t ∷ d .standing; volts = d .volts; next = later })
     (desk.mayLift (record { cards = d .cards; standing = t ∷ d .standing; volts = d .volts; next = later })
     (pos (d .next))) .desk)
-unfolding firstWith liftVerdict without
+unfolding firstWith without
 take-back d o t later e h =
     rw (issue-kept (d .next) h, eq-eqb (t .issue) (d .next) e)
     (record {
@@ -145,9 +148,10 @@ undo d o card nodes sized n e = go (desk.mayPlace d card nodes) refl e
     go (no f) p r = clash cc
     go (yes h) p r =
         let same : d .next ≡ n = cc in
+        let m = places (desk.heldAs (issueOf card) (d .cards)) (order-place d card nodes ∙ p) .number in
         rw (← same)
         (take-back d o _ _ refl
-        (ltb-false issuesMost (d .next) (places (desk.heldAs (issueOf card) (d .cards)) p .number)))
+        (ltb-false issuesMost (d .next) m))
 
 total-same : {d e : Desk} → Undone d e → (i : ℕ) → total e i ≡ total d i
 unfolding total

@@ -39,19 +39,26 @@ pub data PromisedFresh : Board → Type 0 where
 
 -- r is what the method of a call may answer on a board: a is what it is given, the board first
 pub data Promised : Board → Call → Answered → Type 0 where
-  by-load : (κs : Lfts 2) (a : Dens κs load-kinds.ps) {r : Answered} (e : Left κs load-kinds.ps load-kinds.r) →
+  by-load : (κs : Lfts 2) (a : Dens κs load-kinds.ps) {r : Answered}
+      (e : Left κs load-kinds.ps load-kinds.r) →
       load-reads.Learnt κs a r e → Promised (a .0) (load (a .1 .0 .now) (a .1 .1 .0 .now)) r
-  by-place : (κs : Lfts 0) (a : Dens κs place-kinds.ps) {r : Answered} (e : Left κs place-kinds.ps place-kinds.r)
-      (sized : length (a .1 .1 .0) ≡ roles) → place-reads.Learnt κs a r e → Promised (a .0) (place (a .1 .0) (a .1 .1 .0) sized) r
-  by-move : (κs : Lfts 0) (a : Dens κs move-kinds.ps) {r : Answered} (e : Left κs move-kinds.ps move-kinds.r) →
+  by-place : (κs : Lfts 0) (a : Dens κs place-kinds.ps) {r : Answered}
+      (e : Left κs place-kinds.ps place-kinds.r) (sized : length (a .1 .1 .0) ≡ roles) →
+      place-reads.Learnt κs a r e → Promised (a .0) (place (a .1 .0) (a .1 .1 .0) sized) r
+  by-move : (κs : Lfts 0) (a : Dens κs move-kinds.ps) {r : Answered}
+      (e : Left κs move-kinds.ps move-kinds.r) →
       move-reads.Learnt κs a r e → Promised (a .0) (move (a .1 .0) (a .1 .1 .0)) r
-  by-lift : (κs : Lfts 0) (a : Dens κs lift-kinds.ps) {r : Answered} (e : Left κs lift-kinds.ps lift-kinds.r) →
+  by-lift : (κs : Lfts 0) (a : Dens κs lift-kinds.ps) {r : Answered}
+      (e : Left κs lift-kinds.ps lift-kinds.r) →
       lift-reads.Learnt κs a r e → Promised (a .0) (lift (a .1 .0)) r
-  by-withdraw : (κs : Lfts 0) (a : Dens κs withdraw-kinds.ps) {r : Answered} (e : Left κs withdraw-kinds.ps withdraw-kinds.r) →
+  by-withdraw : (κs : Lfts 0) (a : Dens κs withdraw-kinds.ps) {r : Answered}
+      (e : Left κs withdraw-kinds.ps withdraw-kinds.r) →
       withdraw-reads.Learnt κs a r e → Promised (a .0) (withdraw (a .1 .0)) r
-  by-look-up : (κs : Lfts 1) (a : Dens κs look-up-kinds.ps) {r : Answered} (e : Left κs look-up-kinds.ps look-up-kinds.r) →
+  by-look-up : (κs : Lfts 1) (a : Dens κs look-up-kinds.ps) {r : Answered}
+      (e : Left κs look-up-kinds.ps look-up-kinds.r) →
       look-up-reads.Learnt κs a r e → Promised (a .0) (lookUp (a .1 .0 .now)) r
-  by-read-node : (κs : Lfts 0) (a : Dens κs read-node-kinds.ps) {r : Answered} (e : Left κs read-node-kinds.ps read-node-kinds.r) →
+  by-read-node : (κs : Lfts 0) (a : Dens κs read-node-kinds.ps) {r : Answered}
+      (e : Left κs read-node-kinds.ps read-node-kinds.r) →
       read-node-reads.Learnt κs a r e → Promised (a .0) (node (a .1 .0)) r
 
 -- a day of calls, the last one first in the list: each made on the board that the one before it handed back
