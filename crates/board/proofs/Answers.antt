@@ -24,8 +24,8 @@ use Rattle.board.specs.declared.Transistor.{Transistor}
 use Rattle.board.specs.declared.Board.{Board}
 use Rattle.board.specs.declared.Answer.the-variants.{Issue, Done, Node}
 use Rattle.board.specs.Counts.{nodesMost, cardsMost, transistorsMost, issuesMost}
-use Rattle.board.specs.Verdict.{Found, none, some, issueOf, offNode, loadVerdict, withdrawVerdict, lookVerdict}
-use Rattle.board.specs.Verdict.{nodeVerdict}
+use Rattle.board.specs.Arguments.{Found, none, some, issueOf, offNode}
+use Rattle.board.specs.Verdict.{loadVerdict, withdrawVerdict, lookVerdict, nodeVerdict}
 use Rattle.board.specs.Desk.{anyOf}
 use Rattle.board.specs.Model.{first, isCard, isTransistor, cardPlace, transistorPlace, foundAt, emptyCard}
 use Rattle.board.specs.Model.{refuse, freeCard, withCards, loadedOf, withdrawnOf, standsOn, highestAt, lookedOf}

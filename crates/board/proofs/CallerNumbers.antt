@@ -4,7 +4,7 @@ use Prim.Native.Nat.{ℕ, _-_, _≤_, _<_, zero-le}
 use lib.IntN.{ℤ, pos, negsuc}
 use borrow.Author.Tests.{le-leb, lt-leb, le-ltb}
 use Rattle.board.specs.Counts.{nodesMost, issuesMost}
-use Rattle.board.specs.Verdict.{issueOf}
+use Rattle.board.specs.Arguments.{issueOf}
 use Rattle.board.specs.inner.Parts.{nodeOf}
 
 pub issue-is : (k : ℕ) (z : ℤ) → pos k ≡ z → k ≤ issuesMost → k ≡ issueOf z

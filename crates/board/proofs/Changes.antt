@@ -21,7 +21,8 @@ use Rattle.board.specs.declared.Answer.the-variants.{Issue, Done}
 use Rattle.board.specs.declared.rules.Way.{Way}
 use Rattle.board.specs.declared.rules.Way.the-variants.{Go, Stop}
 use Rattle.board.specs.Counts.{nodesMost, cardsMost, transistorsMost, issuesMost}
-use Rattle.board.specs.Verdict.{Found, none, some, issueOf, offNode, moveVerdict, liftVerdict}
+use Rattle.board.specs.Arguments.{Found, none, some, issueOf, offNode}
+use Rattle.board.specs.Verdict.{moveVerdict, liftVerdict}
 use Rattle.board.specs.Desk.{overloads, flow, anyOf, usedUp}
 use Rattle.board.specs.Model.{first, isTransistor, cardPlace, transistorPlace, noTransistor, emptyTransistor}
 use Rattle.board.specs.Model.{noCard, workedAt, placeGives, placeOverloads, totalsOf, voltsOf, refuse}

@@ -22,7 +22,8 @@ use Rattle.board.specs.declared.Card.{Card}
 use Rattle.board.specs.declared.Transistor.{Transistor}
 use Rattle.board.specs.declared.Board.{Board}
 use Rattle.board.specs.Counts.{nodesMost, cardsMost, transistorsMost}
-use Rattle.board.specs.Verdict.{none, some, issueOf, offNode, someNodeOff, lookVerdict, nodeVerdict}
+use Rattle.board.specs.Arguments.{none, some, issueOf, offNode, someNodeOff}
+use Rattle.board.specs.Verdict.{lookVerdict, nodeVerdict}
 use Rattle.board.specs.Desk.{Call, load, place, move, lift, withdraw, lookUp, node, overloads, flow, sumOver}
 use Rattle.board.specs.Desk.{anyOf}
 use Rattle.board.specs.Model.{first, foundAt, isCard, cardPlace, transistorPlace, emptyCard, noCard}

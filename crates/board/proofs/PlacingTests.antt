@@ -19,7 +19,8 @@ use Rattle.board.specs.declared.Transistor.{Transistor}
 use Rattle.board.specs.declared.rules.Way.{Way}
 use Rattle.board.specs.declared.rules.Way.the-variants.{Go, Stop}
 use Rattle.board.specs.Counts.{nodesMost, transistorsMost, issuesMost}
-use Rattle.board.specs.Verdict.{Found, none, some, offNode, someNodeOff, apart, placeVerdict}
+use Rattle.board.specs.Arguments.{Found, none, some, offNode, someNodeOff, apart}
+use Rattle.board.specs.Verdict.{placeVerdict}
 use Rattle.board.specs.Desk.{anyOf, usedUp}
 use Rattle.board.specs.Model.{cardPlace, workedAt, freeTransistor}
 use Rattle.board.specs.inner.Parts.{nodeOf}

@@ -14,7 +14,7 @@ use borrow.Author.Tests.{ltb-false}
 use Rattle.name.specs.Name.{same}
 use Rattle.branch.specs.laws.Filled.{Filled, filled-all, up-map}
 use Rattle.board.specs.declared.Card.{Card}
-use Rattle.board.specs.Verdict.{none, some}
+use Rattle.board.specs.Arguments.{none, some}
 use Rattle.board.specs.Desk.{anyOf, larger}
 use Rattle.board.specs.Model.{first, foundAt, highestAt, noCard}
 use Rattle.board.specs.inner.Parts.{placeOr}

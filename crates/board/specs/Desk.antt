@@ -2,21 +2,25 @@
 -- with, the voltages and the next issue number.
 -- No place, no array and no stored total is known here.
 use mathlib.Core.Path.{_≡_}
-use mathlib.Core.Bool.{Bool, true, false, cond, not, _||_}
+use mathlib.Core.Bool.{Bool, true, false, cond, not, _&&_, _||_}
 use mathlib.Core.List.{List, [], _∷_, map}
 use Prim.Native.Nat.{ℕ, suc, _+_}
 use lib.Dec.{eqb, leb, ltb}
 use lib.ListN.{getD, set, replicate, length}
 use lib.IntN.{ℤ, pos, natAbs, _+ℤ_, _-ℤ_}
 use Rattle.refusal.specs.declared.Refusal.{Refusal}
-use Rattle.refusal.specs.Order.{Verdict, no, yes}
-use Rattle.name.specs.Name.{padded, same}
+use Rattle.refusal.specs.declared.Refusal.the-variants.{Malformed, BadName, NameNotHeld, NoRoom, OutOfRange}
+use Rattle.refusal.specs.declared.Refusal.the-variants.{SplitCollector, Overload, CardInUse, NumbersUsedUp}
+use Rattle.refusal.specs.Order.{Verdict, no, yes, refuseIf, andThen}
+use Rattle.name.specs.Name.{asked, padded, same}
+use Rattle.volts.specs.Volts.{offVolts}
+use Rattle.card.specs.Judge.{judgeOf}
+use Rattle.card.specs.Record.{rightLength}
 use Rattle.card.specs.declared.WorkedCard.{WorkedCard}
 use Rattle.branch.specs.Rows.{Row, rowsFor, roleIndex, roles}
 use Rattle.branch.specs.Outcome.{isOver, outcomeOf}
 use Rattle.board.specs.Counts.{nodesMost, cardsMost, transistorsMost, issuesMost}
-use Rattle.board.specs.Verdict.{Found, none, some, issueOf, loadVerdict, placeVerdict, moveVerdict, liftVerdict}
-use Rattle.board.specs.Verdict.{withdrawVerdict, lookVerdict, nodeVerdict}
+use Rattle.board.specs.Arguments.{Found, none, some, issueOf, offNode, someNodeOff, apart, known}
 
 pub record Held : Type 0 where
   pub issue : ℕ
@@ -213,29 +217,54 @@ heldAs n cards = firstWith (λ (h : Held). eqb (h .issue) n) cards
 abbrev pub standsAs : ℕ → List Standing → Found Standing
 standsAs n ts = firstWith (λ (t : Standing). eqb (t .issue) n) ts
 
--- the verdict on each call
-abbrev pub mayLoad : Desk → List ℕ → List ℕ → Verdict WorkedCard
-mayLoad d name bytes = loadVerdict name bytes (leb cardsMost (length (d .cards))) (usedUp (d .next))
+-- ---- which refusal a call gets: its tests in the paper's order, each with the number that it draws
 
+-- Loading: 1, 2, 6 to 10, 11, 17
+abbrev pub mayLoad : Desk → List ℕ → List ℕ → Verdict WorkedCard
+mayLoad d name bytes =
+    refuseIf (not (rightLength bytes)) Malformed
+    (refuseIf (not (asked name)) BadName
+    (andThen (judgeOf bytes)
+    (λ (c : WorkedCard). refuseIf (leb cardsMost (length (d .cards))) NoRoom
+    (refuseIf (usedUp (d .next)) NumbersUsedUp (yes c)))))
+
+-- Placing: 12, 13, 14, 11, 17, 15
 abbrev pub mayPlace : Desk → ℤ → List ℤ → Verdict Held
 mayPlace d card nodes =
-    placeVerdict (heldAs (issueOf card) (d .cards)) (λ (h : Held). h .worked)
-    (λ (h : Held). overloads (h .worked) (map natAbs nodes) (d .volts)) nodes
-    (leb transistorsMost (length (d .standing))) (usedUp (d .next))
+    andThen (known (heldAs (issueOf card) (d .cards)))
+    (λ (h : Held). refuseIf (someNodeOff nodes) OutOfRange
+    (refuseIf (h .worked .«rcbli_zero» && apart nodes) SplitCollector
+    (refuseIf (leb transistorsMost (length (d .standing))) NoRoom
+    (refuseIf (usedUp (d .next)) NumbersUsedUp
+    (refuseIf (overloads (h .worked) (map natAbs nodes) (d .volts)) Overload (yes h))))))
 
+-- Moving a voltage: 13, then 15 if some transistor that stands would overload
 abbrev pub mayMove : Desk → ℤ → ℤ → Verdict ℕ
-mayMove d n v = moveVerdict n v (someOverloads d (set (d .volts) (natAbs n) v))
+mayMove d n v =
+    refuseIf (offNode n || offVolts v) OutOfRange
+    (refuseIf (someOverloads d (set (d .volts) (natAbs n) v)) Overload (yes (natAbs n)))
 
+-- Lifting: 12
 abbrev pub mayLift : Desk → ℤ → Verdict Standing
-mayLift d n = liftVerdict (standsAs (issueOf n) (d .standing))
+mayLift d n = known (standsAs (issueOf n) (d .standing))
 
+-- Withdrawing: 12, 16
 abbrev pub mayWithdraw : Desk → ℤ → Verdict Held
 mayWithdraw d n =
-    withdrawVerdict (heldAs (issueOf n) (d .cards))
-    (λ (h : Held). anyOf (λ (t : Standing). eqb (t .card) (h .issue)) (d .standing))
+    andThen (known (heldAs (issueOf n) (d .cards)))
+    (λ (h : Held). refuseIf (anyOf (λ (t : Standing). eqb (t .card) (h .issue)) (d .standing)) CardInUse (yes h))
 
+-- Looking a name up: 2, 4; 0 is the highest issue where no card of the name is held
 abbrev pub mayLookUp : Desk → List ℕ → Verdict ℕ
-mayLookUp d name = lookVerdict name (highest (padded name) (d .cards))
+mayLookUp d name =
+    refuseIf (not (asked name)) BadName
+    (refuseIf (eqb (highest (padded name) (d .cards)) 0) NameNotHeld (yes (highest (padded name) (d .cards))))
+
+-- Reading a node: 13
+abbrev pub mayRead : ℤ → Verdict ℕ
+mayRead n = refuseIf (offNode n) OutOfRange (yes (natAbs n))
+
+-- ---- one call
 
 unfoldable pub step : Desk → Call → Step
 step d (load name bytes) = loaded d name (mayLoad d name bytes)
@@ -244,7 +273,7 @@ step d (move n v) = moved d v (mayMove d n v)
 step d (lift n) = lifted d (mayLift d n)
 step d (withdraw n) = withdrawn d (mayWithdraw d n)
 step d (lookUp name) = looked d (mayLookUp d name)
-step d (node n) = showed d (nodeVerdict n)
+step d (node n) = showed d (mayRead n)
 
 -- a fresh desk
 unfoldable pub freshDesk : Desk

@@ -1,4 +1,5 @@
 pub mod Counts
+pub mod Arguments
 pub mod Verdict
 pub mod Desk
 pub mod Model

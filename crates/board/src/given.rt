@@ -1,7 +1,7 @@
 // Numbers of the caller, each an i64, as the board holds them. Every number has an answer.
 ghost use mathlib.Core.Path.{_≡_};
 ghost use mathlib.Core.List.{map};
-ghost use Rattle.board.specs.Verdict.{issueOf};
+ghost use Rattle.board.specs.Arguments.{issueOf};
 ghost use Rattle.board.specs.inner.Parts.{nodeOf};
 use crate::Board;
 use crate::ISSUES;

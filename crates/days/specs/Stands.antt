@@ -12,7 +12,7 @@ use Rattle.board.specs.declared.Board.{Board}
 use Rattle.board.specs.declared.Answer.{Answer}
 use Rattle.board.specs.declared.Answer.the-variants.{Issue, Done, Node, Refused}
 use Rattle.board.specs.declared.Answered.{Answered}
-use Rattle.board.specs.Verdict.{Found, none, some}
+use Rattle.board.specs.Arguments.{Found, none, some}
 use Rattle.board.specs.Desk.{Held, Standing, Desk, Step, Reply, issued, done, shows, refused, keepIf}
 use Rattle.board.specs.Model.{noCard, noTransistor, workedAt, transistorPlace, voltsOf}
 use Rattle.days.specs.Perm.{Perm}

@@ -11,7 +11,7 @@ use Rattle.card.specs.declared.WorkedCard.{WorkedCard}
 use Rattle.branch.specs.Rows.{roles, branches}
 use Rattle.board.specs.declared.Transistor.{Transistor}
 use Rattle.board.specs.Counts.{nodesMost, cardsMost}
-use Rattle.board.specs.Verdict.{Found, none, some, offNode}
+use Rattle.board.specs.Arguments.{Found, none, some, offNode}
 use Rattle.board.specs.Desk.{flow, anyOf, atNode}
 
 -- ---- numbers of the caller

@@ -11,7 +11,7 @@ use Rattle.branch.specs.Rows.{C1, C4, roleIndex}
 use Rattle.board.specs.declared.rules.Way.{Way}
 use Rattle.board.specs.declared.rules.Way.the-variants.{Go, Stop}
 use Rattle.board.specs.Counts.{nodesMost}
-use Rattle.board.specs.Verdict.{Found, known}
+use Rattle.board.specs.Arguments.{Found, known}
 use Rattle.board.specs.Desk.{anyOf}
 
 -- C4 stands on another node than C1

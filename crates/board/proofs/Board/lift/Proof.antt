@@ -7,7 +7,7 @@ use borrow.Author.Needs.{needs}
 use mir.Syntax.{w64}
 use mir.ValLaws.{toZ-ofZ}
 use Rattle.board.specs.Counts.{transistorsMost}
-use Rattle.board.specs.Verdict.{issueOf, some}
+use Rattle.board.specs.Arguments.{issueOf, some}
 use Rattle.board.specs.Model.{noTransistor, transistorPlace}
 use Rattle.board.specs.inner.Parts.{placeOr}
 use Rattle.board.proofs.Currents.{place-below}

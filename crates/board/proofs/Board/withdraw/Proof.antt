@@ -8,7 +8,7 @@ use mir.ValLaws.{toZ-ofZ}
 use Rattle.board.specs.declared.Card.{Card}
 use Rattle.board.specs.declared.Answer.the-variants.{Done}
 use Rattle.board.specs.Counts.{cardsMost}
-use Rattle.board.specs.Verdict.{issueOf, some}
+use Rattle.board.specs.Arguments.{issueOf, some}
 use Rattle.board.specs.Desk.{anyOf}
 use Rattle.board.specs.Model.{cardPlace, standsOn, withCards}
 use Rattle.board.specs.inner.Parts.{placeOr}

@@ -5,7 +5,7 @@ use Prim.Native.Nat.{ℕ, _≤_, _<_}
 use lib.Dec.{leb}
 use borrow.Author.Needs.{needs}
 use Rattle.board.specs.Counts.{nodesMost, cardsMost, transistorsMost}
-use Rattle.board.specs.Verdict.{some}
+use Rattle.board.specs.Arguments.{some}
 use Rattle.board.specs.Desk.{anyOf}
 use Rattle.board.specs.Model.{cardPlace, workedAt}
 use Rattle.board.specs.inner.Placing.{apartOn}
