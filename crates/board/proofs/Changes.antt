@@ -27,10 +27,11 @@ use Rattle.board.specs.Desk.{overloads, flow, anyOf, usedUp}
 use Rattle.board.specs.Model.{first, isTransistor, cardPlace, transistorPlace, noTransistor, emptyTransistor}
 use Rattle.board.specs.Model.{noCard, workedAt, placeGives, placeOverloads, totalsOf, voltsOf, refuse}
 use Rattle.board.specs.Model.{freeTransistor, placedOf, mayPlace, movedOf, liftedOf, Reached}
-use Rattle.board.specs.inner.Parts.{nodeOf, placeOfCard, More, Room, backFlow}
+use Rattle.totals.specs.inner.Sums.{More, Room}
+use Rattle.board.specs.inner.Parts.{nodeOf, placeOfCard, backFlow}
 use Rattle.board.specs.inner.Settle.{Workable, Settling}
 use Rattle.board.specs.inner.Placing.{placing, wayOf}
-use Rattle.board.specs.inner.Sizes.{workedMost}
+use Rattle.totals.specs.inner.Sizes.{roomMost}
 use Rattle.board.proofs.Lists.{first-passes}
 use Rattle.board.proofs.Invariant.{invariant, AtCard, at-card, at-transistor, AtTransistor, on-nodes}
 use Rattle.board.proofs.Verdicts.{Places, places}
@@ -59,7 +60,7 @@ module _ {b : Board} (k : Reached b) (z : ℤ) (i : ℕ) (there : transistorPlac
   stands e = placed-there .given (sym (placed-there .issue-is) ∙ e)
 
   pub lift-works : (table : List ℕ) → table ≡ entries →
-      Workable table (getD (b .cards) s noCard) (leaver .nodes) (b .volts) × Room nodesMost workedMost (b .totals)
+      Workable table (getD (b .cards) s noCard) (leaver .nodes) (b .volts) × Room nodesMost roomMost (b .totals)
   lift-works table e = (
     workable-card (b .cards) leaver stands (has-card (invariant k) i stands) s at table (b .volts) e
         (volts-invariant (invariant k)),
@@ -192,7 +193,7 @@ module _ {b : Board} {card : ℤ} {nodes : List ℤ} {on : List ℕ} {w : Way} (
         record { issue = b .next; card = getD (b .cards) i noCard .issue; «card_place» = i; nodes = on }
 
     pub place-works : (table : List ℕ) → table ≡ entries →
-        Workable table (getD (b .cards) i noCard) on (b .volts) × Room nodesMost workedMost (b .totals)
+        Workable table (getD (b .cards) i noCard) on (b .volts) × Room nodesMost roomMost (b .totals)
     place-works table h = (
       record {
         table-is = h;

@@ -1,4 +1,3 @@
-pub mod Integers
 pub mod Verdicts
 pub mod Lists
 pub mod NodeSums
@@ -7,8 +6,6 @@ pub mod CallerNumbers
 pub mod Scans
 pub mod Reaches
 pub mod Answers
-pub mod Amounts
-pub mod Roles
 pub mod Currents
 pub mod Midway
 pub mod PlacingTests

@@ -1,10 +1,8 @@
 -- How many there are: the board's nodes, cards and transistors, and the issue numbers.
 use Prim.Native.Nat.{ℕ}
+pub use Rattle.totals.specs.Gives.{nodesMost}
 
--- the board's limits
-abbrev pub nodesMost : ℕ
-nodesMost = 32
-
+-- the board's limits, beside its nodes
 abbrev pub cardsMost : ℕ
 cardsMost = 16
 

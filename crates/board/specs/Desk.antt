@@ -7,7 +7,7 @@ use mathlib.Core.List.{List, [], _∷_, map}
 use Prim.Native.Nat.{ℕ, suc, _+_}
 use lib.Dec.{eqb, leb, ltb}
 use lib.ListN.{getD, set, replicate, length}
-use lib.IntN.{ℤ, pos, natAbs, _+ℤ_, _-ℤ_}
+use lib.IntN.{ℤ, pos, natAbs, _+ℤ_}
 use Rattle.refusal.specs.declared.Refusal.{Refusal}
 use Rattle.refusal.specs.declared.Refusal.the-variants.{Malformed, BadName, NameNotHeld, NoRoom, OutOfRange}
 use Rattle.refusal.specs.declared.Refusal.the-variants.{SplitCollector, Overload, CardInUse, NumbersUsedUp}
@@ -17,8 +17,9 @@ use Rattle.volts.specs.Volts.{offVolts}
 use Rattle.card.specs.Judge.{judgeOf}
 use Rattle.card.specs.Record.{rightLength}
 use Rattle.card.specs.declared.WorkedCard.{WorkedCard}
-use Rattle.branch.specs.Rows.{Row, rowsFor, roleIndex, roles}
+use Rattle.branch.specs.Rows.{rowsFor, roles}
 use Rattle.branch.specs.Outcome.{isOver, outcomeOf}
+use Rattle.totals.specs.Gives.{rowsGive}
 use Rattle.board.specs.Counts.{nodesMost, cardsMost, transistorsMost, issuesMost}
 use Rattle.board.specs.Arguments.{Found, none, some, issueOf, offNode, someNodeOff, apart, known}
 
@@ -66,18 +67,6 @@ rolesAt volts nodes = map (λ (n : ℕ). getD volts n (pos 0)) nodes
 
 unfoldable pub overloads : WorkedCard → List ℕ → List ℤ → Bool
 overloads c nodes volts = isOver (outcomeOf c (rolesAt volts nodes) .over)
-
--- x at the node m, nothing at any other
-abbrev pub atNode : ℕ → ℕ → ℤ → ℤ
-atNode m n x = cond (eqb m n) x (pos 0)
-
--- what the branches give to node n: each its ticks to its from-node, and as much less to its to-node
-unfoldable pub rowsGive : List Row → List ℕ → List ℤ → ℕ → ℤ
-rowsGive [] nodes ticks n = pos 0
-rowsGive (r ∷ rs) nodes [] n = pos 0
-rowsGive (r ∷ rs) nodes (x ∷ xs) n =
-    (atNode (getD nodes (roleIndex (r .from)) 0) n x -ℤ atNode (getD nodes (roleIndex (r .to)) 0) n x)
-    +ℤ rowsGive rs nodes xs n
 
 -- what a transistor adds to node n
 unfoldable pub flow : WorkedCard → List ℕ → List ℤ → ℕ → ℤ

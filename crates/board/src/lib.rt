@@ -7,7 +7,6 @@ mod finds; // finds.rt: looking through the places
 mod given; // given.rt: the caller's numbers
 mod rules; // rules.rt: placing's tests
 mod sets; // sets.rt: which transistors name a node
-mod sums; // sums.rt: what branches give to the totals
 mod worker; // worker.rt: currents put into the totals and taken out
 
 use branch::ROLES;
@@ -89,7 +88,7 @@ fn refused(b: Board, f: Refusal) -> Answered
 }
 
 impl Board {
-    pub const NODES: usize = 32;
+    pub const NODES: usize = totals::NODES;
 
     pub const CARDS: usize = 16;
 

@@ -42,7 +42,7 @@ use Rattle.days.proofs.Perms.{perm-join, perm-length, perm-sum, perm-an
 use Rattle.days.proofs.Perms.{perm-without, perm-highest}
 use Rattle.days.proofs.Places.{sum-occupied, any-occupied, full, join, seen, find, find-none}
 use Rattle.days.proofs.Places.{count-occupied, leave}
-use Rattle.board.proofs.Lists.{getD-map}
+use Rattle.totals.proofs.Lists.{getD-map}
 use Rattle.board.proofs.NodeSums.{totals-at}
 use Rattle.board.proofs.Verdicts.{loads, places, moves, lifts, withdraws, shown}
 use Rattle.board.proofs.Invariant.{Invariant, invariant-after, at-card, AtCard, at-transistor, AtTransistor}

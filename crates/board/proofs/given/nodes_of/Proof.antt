@@ -8,7 +8,7 @@ use borrow.Author.Needs.{needs}
 use Rattle.branch.specs.Rows.{roles}
 use Rattle.branch.specs.laws.Filled.{Filled, filled-none, filled-more}
 use Rattle.board.specs.inner.Parts.{nodeOf}
-use Rattle.board.proofs.Integers.{held}
+use Rattle.totals.proofs.Integers.{held}
 use Rattle.board.proofs.Scans.{filled-map}
 use Rattle.board.proofs.given.nodes_of.Statement.{statement}
 use Rattle.board.proofs.given.nodes_of.Tie as tie

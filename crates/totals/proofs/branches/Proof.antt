@@ -6,11 +6,11 @@ use lib.ListN.{getD}
 use lib.IntN.{pos}
 use borrow.Author.Needs.{needs}
 use Rattle.branch.specs.Rows.{roles, branches}
-use Rattle.board.specs.inner.Parts.{More, endsGive}
-use Rattle.board.proofs.Integers.{held, held-is}
-use Rattle.board.proofs.Amounts.{ends-none, ends-more, fair-next}
-use Rattle.board.proofs.sums.branches.Statement.{statement}
-use Rattle.board.proofs.sums.branches.Tie as tie
+use Rattle.totals.specs.inner.Sums.{More, endsGive}
+use Rattle.totals.proofs.Integers.{held, held-is}
+use Rattle.totals.proofs.Amounts.{ends-none, ends-more, fair-next}
+use Rattle.totals.proofs.branches.Statement.{statement}
+use Rattle.totals.proofs.branches.Tie as tie
 
 abbrev Inv-loop : tie.InvT-loop
 Inv-loop a₀ from to ticks k₀ a k = (k ≤ branches) × More roles a₀ a (endsGive from to ticks k)

@@ -1,8 +1,8 @@
 -- `add` gives to one node.
 use borrow.Author.Needs.{needs}
-use Rattle.board.proofs.Amounts.{room-add, adds}
-use Rattle.board.proofs.sums.add.Statement.{statement}
-use Rattle.board.proofs.sums.add.Tie as tie
+use Rattle.totals.proofs.Amounts.{room-add, adds}
+use Rattle.totals.proofs.add.Statement.{statement}
+use Rattle.totals.proofs.add.Tie as tie
 
 add-y : tie.Need-add-y
 add-y c = room-add (c .before .args .l .now) (c .before .args .n) (c .before .args .x) (c .before .pre)

@@ -2,7 +2,7 @@
 -- sum leaves the machine's signed numbers.
 use mathlib.Core.Path.{_≡_, refl, sym, ap, _∙_, subst}
 use mathlib.Core.Bool.{Bool, true, false, cond}
-use mathlib.Core.List.{List}
+use mathlib.Core.List.{List, [], _∷_}
 use mathlib.Core.Logic.{_⊎_, inl, inr}
 use Prim.Native.Nat.{ℕ, zero, suc, _+_, _*_, _^_, _≤_, _<_, zero-le}
 use native.Mathlib.Nat.{suc-mul}
@@ -17,12 +17,11 @@ use mir.Syntax.{w64}
 use mir.Val.{SFits}
 use Rattle.whole.specs.laws.Biased.{below-or-not}
 use Rattle.branch.specs.Outcome.{tickLimit}
-use Rattle.branch.specs.Rows.{roles, branches}
-use Rattle.board.specs.Counts.{nodesMost}
-use Rattle.board.specs.Desk.{atNode}
-use Rattle.board.specs.inner.Parts.{More, Within, Room, Wired, ends, endsGive, spread}
-use Rattle.board.specs.inner.Sizes.{flowMost, workedMost, handedMost}
-use Rattle.board.proofs.Integers.{abs-add, abs-neg, abs-ends, turned, held, fits, held-is}
+use Rattle.branch.specs.Rows.{Row, roleIndex, roles, branches}
+use Rattle.totals.specs.Gives.{nodesMost, atNode, rowsGive}
+use Rattle.totals.specs.inner.Sums.{More, Within, Room, Wired, ends, endsGive, spread}
+use Rattle.totals.specs.inner.Sizes.{flowMost, roomMost, handedMost}
+use Rattle.totals.proofs.Integers.{abs-add, abs-neg, abs-ends, turned, held, fits, held-is}
 
 -- ---- the sizes fit
 
@@ -236,9 +235,25 @@ module _ (nodes : List ℕ) (f : ℕ → ℤ) where
       }
 
   -- there is room for one more role
-  pub room-next : {l₀ l : List ℤ} (k : ℕ) (x : ℤ) → Wired nodesMost nodes → Room nodesMost workedMost l₀ →
+  pub room-next : {l₀ l : List ℤ} (k : ℕ) (x : ℤ) → Wired nodesMost nodes → Room nodesMost roomMost l₀ →
       ((r : ℕ) → natAbs (f r) ≤ flowMost) → k < roles → x ≡ f k → More nodesMost l₀ l (spread nodes f k) →
       (getD nodes k 0 < nodesMost) × Room nodesMost handedMost l × (natAbs x ≤ flowMost)
   room-next k x u w s h e more =
       let b = s k in
       (u .wired k, room-less (omega arith) (room-more w more (spread-small nodes f flowMost s k)), rw e b)
+
+-- ---- sizes: a row counts at most once at a node
+
+pub small-rows : (rows : List Row) (nodes : List ℕ) (ticks : List ℤ) (n most : ℕ) →
+    ((k : ℕ) → natAbs (getD ticks k (pos 0)) ≤ most) → natAbs (rowsGive rows nodes ticks n) ≤ length rows * most
+unfolding rowsGive
+small-rows [] nodes ticks n most h = zero-le
+small-rows (r ∷ rs) nodes [] n most h = zero-le
+small-rows (r ∷ rs) nodes (x ∷ xs) n most h =
+    let a = getD nodes (roleIndex (r .from)) 0 in
+    let b = getD nodes (roleIndex (r .to)) 0 in
+    let p = abs-add (atNode a n x -ℤ atNode b n x) (rowsGive rs nodes xs n) in
+    let q = abs-ends (eqb a n) (eqb b n) x in
+    let t = small-rows rs nodes xs n most (λ k. h (suc k)) in
+    let u = h 0 in
+    rw (suc-mul (length rs) most) (omega arith)

@@ -3,23 +3,22 @@
 use mathlib.Core.Path.{_≡_, refl, sym, ap, _∙_}
 use mathlib.Core.Bool.{Bool, true, false, cond}
 use mathlib.Core.List.{List, [], _∷_, map}
-use Prim.Native.Nat.{ℕ, zero, suc, _≤_, _<_}
+use Prim.Native.Nat.{ℕ, zero, suc, _≤_, _<_, zero-le}
 use native.Mathlib.Nat.{le-of-eq}
 use native.Mathlib.Omega.{arith}
-use lib.Dec.{eqb, lit<, lit≤}
+use lib.Dec.{eqb, lit<}
 use lib.ListN.{length, getD, replicate, length-map}
 use lib.IntN.{ℤ, pos, negℤ, _+ℤ_, _-ℤ_, +ℤ-idl, +ℤ-idr, +ℤ-assoc, +ℤ-comm, negℤ-+ℤ, negℤ-negℤ}
 use borrow.Author.Tests.{eqb-true, eqb-false, ne-eqb}
 use Rattle.branch.specs.Rows.{Role, E1, B1, B2, C1, C2, C4, S, Row, roleIndex, roles, branches}
 use Rattle.branch.specs.Outcome.{tickLimit}
 use Rattle.branch.specs.Ends.{fromsOf, tosOf}
-use Rattle.board.specs.Counts.{nodesMost}
-use Rattle.board.specs.Desk.{atNode, rowsGive}
-use Rattle.board.specs.inner.Parts.{More, Within, Room, Wired, ends, endsGive, spread, rolesGive}
-use Rattle.board.specs.inner.Sizes.{flowMost}
-use Rattle.board.proofs.Lists.{getD-map}
-use Rattle.board.proofs.Integers.{turned, swap-inner}
-use Rattle.board.proofs.Amounts.{room-more, ends-small}
+use Rattle.totals.specs.Gives.{nodesMost, atNode, rowsGive}
+use Rattle.totals.specs.inner.Sums.{More, Within, Room, Wired, Givable, ends, endsGive, spread, rolesGive}
+use Rattle.totals.specs.inner.Sizes.{flowMost, roomMost}
+use Rattle.totals.proofs.Lists.{getD-map}
+use Rattle.totals.proofs.Integers.{turned, swap-inner}
+use Rattle.totals.proofs.Amounts.{room-more, ends-small}
 
 -- ---- handing out is by role
 
@@ -193,13 +192,16 @@ module _ (rows : List Row) (nodes : List ℕ) (ticks : List ℤ) (n : ℕ) (h : 
 
 -- ---- the roles' amounts, worked from nothing
 
-nothing-yet : (k r : ℕ) → getD (replicate k (pos 0)) r (pos 0) ≡ pos 0
-nothing-yet zero r = refl
-nothing-yet (suc k) zero = refl
-nothing-yet (suc k) (suc r) = nothing-yet k r
+same-yet : {A : Type 0} (v : A) (k r : ℕ) → getD (replicate k v) r v ≡ v
+same-yet v zero r = refl
+same-yet v (suc k) zero = refl
+same-yet v (suc k) (suc r) = same-yet v k r
+
+within-nothing : (k most : ℕ) → Within most (replicate k (pos 0))
+within-nothing k most = record { within = λ r. rw (same-yet (pos 0) k r) zero-le }
 
 pub room-nothing : Room roles 0 (replicate roles (pos 0))
-room-nothing = record { long = refl; within = λ r. rw (nothing-yet roles r) (lit≤ tt) }
+room-nothing = record { long = refl; within = within-nothing roles 0 .within }
 
 module _ (froms tos : List ℕ) (ticks a : List ℤ)
     (more : More roles (replicate roles (pos 0)) a (endsGive froms tos ticks branches)) where
@@ -215,5 +217,14 @@ module _ (froms tos : List ℕ) (ticks a : List ℤ)
         at =
             λ n h. m .at n h
             ∙ ap (λ (z : ℤ). getD l n (pos 0) +ℤ z)
-            (spread-same nodes n _ _ roles (λ r k. more .at r k ∙ rw (nothing-yet roles r) (+ℤ-idl _)));
+            (spread-same nodes n _ _ roles (λ r k. more .at r k ∙ rw (same-yet (pos 0) roles r) (+ℤ-idl _)));
       }
+
+-- no ticks can be given to totals that are nothing
+pub givable-none : Givable (replicate nodesMost (pos 0)) (replicate roles 0) (replicate branches (pos 0))
+givable-none =
+    record {
+      wired = record { wired = λ k. rw (same-yet {A = ℕ} 0 roles k) (lit< tt) };
+      room = record { long = refl; within = within-nothing nodesMost roomMost .within };
+      within = within-nothing branches tickLimit;
+    }

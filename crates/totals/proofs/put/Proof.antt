@@ -3,10 +3,10 @@ use mathlib.Core.Path.{sym, subst}
 use mathlib.Core.Bool.{false}
 use borrow.Author.Needs.{needs}
 use Rattle.branch.specs.Rows.{rowsFor, roles}
-use Rattle.board.specs.inner.Parts.{Wired}
-use Rattle.board.proofs.Roles.{wired-froms, wired-tos, room-nothing, amounts-within, amounts-out}
-use Rattle.board.proofs.sums.put.Statement.{statement}
-use Rattle.board.proofs.sums.put.Tie as tie
+use Rattle.totals.specs.inner.Sums.{Wired}
+use Rattle.totals.proofs.Roles.{wired-froms, wired-tos, room-nothing, amounts-within, amounts-out}
+use Rattle.totals.proofs.put.Statement.{statement}
+use Rattle.totals.proofs.put.Tie as tie
 
 -- earlier places, from later ones
 abbrev after-from-roles : tie.After-to → tie.After-from-roles
@@ -20,13 +20,13 @@ branches-requires c κs = (
   subst (Wired roles) (sym (after-from-roles c .from-roles .ensures)) (wired-froms (rowsFor false)),
   subst (Wired roles) (sym (c .before .before .before .to-roles .ensures)) (wired-tos (rowsFor false)),
   room-nothing,
-  (after-from-roles c .before .pre .2),
+  (after-from-roles c .before .pre .within),
 )
 
 hand-out-requires : tie.Need-hand-out-requires
 hand-out-requires c κs =
     let s = after-from-roles (c .before .before .before) .before in
-    ((s .pre .0), (s .pre .1), amounts-within _ _ _ _ (c .before .before .branches .ensures) (s .pre .2))
+    (s .pre .wired, s .pre .room, amounts-within _ _ _ _ (c .before .before .branches .ensures) (s .pre .within))
 
 returns : tie.Need-returns
 returns c =

@@ -5,13 +5,14 @@ ghost use lib.IntN.{natAbs, pos};
 ghost use Rattle.branch.specs.Rows.{roles, branches};
 ghost use Rattle.branch.specs.Outcome.{tickLimit};
 ghost use Rattle.branch.specs.Ends.{fromRoles, toRoles};
-ghost use Rattle.board.specs.Counts.{nodesMost};
-ghost use Rattle.board.specs.inner.Sizes.{flowMost, workedMost, handedMost};
-ghost use Rattle.board.specs.Desk.{atNode};
-ghost use Rattle.board.specs.inner.Parts.{More, Within, Room, Wired, ends, endsGive, spread, rolesGive};
-use crate::Board;
+ghost use Rattle.totals.specs.Gives.{nodesMost, atNode};
+ghost use Rattle.totals.specs.inner.Sizes.{flowMost, roomMost, handedMost};
+ghost use Rattle.totals.specs.inner.Sums.{More, Within, Room, Wired, Givable, ends, endsGive, spread, rolesGive};
 use branch::BRANCHES;
 use branch::ROLES;
+
+// The nodes.
+pub const NODES: usize = 32;
 
 // A branch gives x to the role it comes from, and takes as much from the other.
 fn branch(a: &mut [i64; ROLES], from: u8, to: u8, x: i64)
@@ -45,7 +46,7 @@ fn branches(
 }
 
 // x more at the node n.
-fn add(l: &mut [i64; Board::NODES], n: u8, x: i64)
+fn add(l: &mut [i64; NODES], n: u8, x: i64)
     requires { ⌜ (n < nodesMost) × Room nodesMost handedMost (now l) × (natAbs x ≤ flowMost) ⌝ }
     ensures { λ _. ⌜ More nodesMost (now (l .entry)) (now (l .exit)) (λ (m : ℕ). atNode n m x) ⌝ }
 {
@@ -55,8 +56,8 @@ fn add(l: &mut [i64; Board::NODES], n: u8, x: i64)
 }
 
 // Each role's amount to its node.
-fn hand_out(l: &mut [i64; Board::NODES], nodes: &[u8; ROLES], a: &[i64; ROLES])
-    requires { ⌜ Wired nodesMost (now nodes) × Room nodesMost workedMost (now l) × Within flowMost (now a) ⌝ }
+fn hand_out(l: &mut [i64; NODES], nodes: &[u8; ROLES], a: &[i64; ROLES])
+    requires { ⌜ Wired nodesMost (now nodes) × Room nodesMost roomMost (now l) × Within flowMost (now a) ⌝ }
     ensures { λ _. ⌜ More nodesMost (now (l .entry)) (now (l .exit)) (spread (now (nodes .entry)) (λ (k : ℕ). getD (now (a .entry)) k (pos 0)) roles) ⌝ }
 {
     for k in 0..ROLES {
@@ -67,8 +68,8 @@ fn hand_out(l: &mut [i64; Board::NODES], nodes: &[u8; ROLES], a: &[i64; ROLES])
 }
 
 // What the branches give to the nodes.
-pub(crate) fn put(l: &mut [i64; Board::NODES], nodes: &[u8; ROLES], ticks: &[i64; BRANCHES])
-    requires { ⌜ Wired nodesMost (now nodes) × Room nodesMost workedMost (now l) × Within tickLimit (now ticks) ⌝ }
+pub fn put(l: &mut [i64; NODES], nodes: &[u8; ROLES], ticks: &[i64; BRANCHES])
+    requires { ⌜ Givable (now l) (now nodes) (now ticks) ⌝ }
     ensures { λ _. ⌜ More nodesMost (now (l .entry)) (now (l .exit)) (rolesGive (now (nodes .entry)) fromRoles toRoles (now (ticks .entry))) ⌝ }
 {
     let from = branch::from_roles();
@@ -79,8 +80,8 @@ pub(crate) fn put(l: &mut [i64; Board::NODES], nodes: &[u8; ROLES], ticks: &[i64
 }
 
 // The same taken away: each branch turned about.
-pub(crate) fn take(l: &mut [i64; Board::NODES], nodes: &[u8; ROLES], ticks: &[i64; BRANCHES])
-    requires { ⌜ Wired nodesMost (now nodes) × Room nodesMost workedMost (now l) × Within tickLimit (now ticks) ⌝ }
+pub fn take(l: &mut [i64; NODES], nodes: &[u8; ROLES], ticks: &[i64; BRANCHES])
+    requires { ⌜ Givable (now l) (now nodes) (now ticks) ⌝ }
     ensures { λ _. ⌜ More nodesMost (now (l .entry)) (now (l .exit)) (rolesGive (now (nodes .entry)) toRoles fromRoles (now (ticks .entry))) ⌝ }
 {
     let from = branch::from_roles();

@@ -1,8 +1,8 @@
 -- `branch` gives to one role and takes from the other.
 use borrow.Author.Needs.{needs}
-use Rattle.board.proofs.Amounts.{room-from, room-to, branch-gives}
-use Rattle.board.proofs.sums.branch.Statement.{statement}
-use Rattle.board.proofs.sums.branch.Tie as tie
+use Rattle.totals.proofs.Amounts.{room-from, room-to, branch-gives}
+use Rattle.totals.proofs.branch.Statement.{statement}
+use Rattle.totals.proofs.branch.Tie as tie
 
 add-y : tie.Need-add-y
 add-y c =

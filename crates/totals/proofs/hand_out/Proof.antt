@@ -6,12 +6,12 @@ use lib.ListN.{getD}
 use lib.IntN.{pos}
 use borrow.Author.Needs.{needs}
 use Rattle.branch.specs.Rows.{roles}
-use Rattle.board.specs.Counts.{nodesMost}
-use Rattle.board.specs.inner.Parts.{More, spread}
-use Rattle.board.proofs.Integers.{held, held-is}
-use Rattle.board.proofs.Amounts.{spread-none, spread-more, room-next}
-use Rattle.board.proofs.sums.hand_out.Statement.{statement}
-use Rattle.board.proofs.sums.hand_out.Tie as tie
+use Rattle.totals.specs.Gives.{nodesMost}
+use Rattle.totals.specs.inner.Sums.{More, spread}
+use Rattle.totals.proofs.Integers.{held, held-is}
+use Rattle.totals.proofs.Amounts.{spread-none, spread-more, room-next}
+use Rattle.totals.proofs.hand_out.Statement.{statement}
+use Rattle.totals.proofs.hand_out.Tie as tie
 
 abbrev Inv-loop : tie.InvT-loop
 Inv-loop l₀ nodes a k₀ l k = (k ≤ roles) × More nodesMost l₀ l (spread nodes (λ (r : ℕ). getD a r (pos 0)) k)
