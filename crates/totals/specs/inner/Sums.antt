@@ -1,9 +1,10 @@
 -- Lists of numbers with something more at each place, and the branches given in two steps: to the roles, and from
 -- each role to its node.
-use mathlib.Core.Path.{_≡_}
+use mathlib.Core.Path.{_≡_, sym, _∙_}
 use mathlib.Core.List.{List}
 use Prim.Native.Nat.{ℕ, zero, suc, _≤_, _<_}
 use lib.ListN.{getD, length}
+use lib.Seq.{ext-getD}
 use lib.IntN.{ℤ, pos, natAbs, _+ℤ_, _-ℤ_}
 use Rattle.branch.specs.Outcome.{tickLimit}
 use Rattle.branch.specs.Rows.{roles, branches}
@@ -52,3 +53,9 @@ spread nodes f (suc k) n = spread nodes f k n +ℤ atNode (getD nodes k 0) n (f 
 -- what the branches between these roles give to node n
 abbrev pub rolesGive : List ℕ → List ℕ → List ℕ → List ℤ → ℕ → ℤ
 rolesGive nodes froms tos ticks n = spread nodes (endsGive froms tos ticks branches) roles n
+
+-- one list alone has what a promise of more says
+pub unique-more : {m : ℕ} {l₀ l l′ : List ℤ} {f : ℕ → ℤ} → More m l₀ l f → More m l₀ l′ f → l ≡ l′
+unique-more {m} {l₀} {l} {l′} {f} p q =
+    ext-getD (pos 0) l l′ (p .long ∙ sym (q .long))
+    (λ i h. let k : i < m = rw (p .long) at h in p .at i k ∙ sym (q .at i k))
