@@ -203,8 +203,7 @@ module _ (b : Board) (d : Desk) (g : Invariant b) (o : Orderly d) (s : Stands b 
       (go (board.mayLoad b name bytes) refl)
     where
       agree : board.mayLoad b name bytes ≡ desk.mayLoad d name bytes
-      agree =
-          rw (← (order-load d name bytes), cards-full b d g o s, s .next)
+      agree = rw (← (order-load d name bytes), cards-full b d g o s, s .next)
 
       new : (c : WorkedCard) →
           heldOf (record { issue = b .next; name = padded name; ready = readyOf c })
