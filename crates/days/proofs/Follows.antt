@@ -20,8 +20,8 @@ use Rattle.card.specs.declared.WorkedCard.{WorkedCard}
 use Rattle.branch.specs.inner.Ready.{readyOf}
 use Rattle.branch.proofs.Laws.{ready-card}
 use Rattle.branch.specs.Rows.{roles}
-use Rattle.board.specs.declared.Card.{Card}
-use Rattle.board.specs.declared.Transistor.{Transistor}
+use Rattle.places.specs.declared.Card.{Card}
+use Rattle.places.specs.declared.Transistor.{Transistor}
 use Rattle.board.specs.declared.Board.{Board}
 use Rattle.board.specs.declared.Answered.{Answered}
 use Rattle.board.specs.Counts.{nodesMost, cardsMost, transistorsMost}
