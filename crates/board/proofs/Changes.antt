@@ -15,28 +15,30 @@ use Rattle.volts.specs.Volts.{givenBack, keptAs, offVolts}
 use Rattle.volts.specs.laws.Keeping.{KeptIs}
 use Rattle.octave.specs.Table.{entries}
 use Rattle.branch.specs.Rows.{roles}
-use Rattle.board.specs.declared.Transistor.{Transistor}
+use Rattle.places.specs.declared.Transistor.{Transistor}
 use Rattle.board.specs.declared.Board.{Board}
 use Rattle.board.specs.declared.Answer.the-variants.{Issue, Done}
-use Rattle.board.specs.declared.rules.Way.{Way}
-use Rattle.board.specs.declared.rules.Way.the-variants.{Go, Stop}
+use Rattle.places.specs.declared.Way.{Way}
+use Rattle.places.specs.declared.Way.the-variants.{Go, Stop}
 use Rattle.board.specs.Counts.{nodesMost, cardsMost, transistorsMost, issuesMost}
-use Rattle.board.specs.Arguments.{Found, none, some, issueOf, offNode}
+use Rattle.places.specs.Arguments.{Found, none, some, issueOf, offNode}
 use Rattle.board.specs.Verdict.{moveVerdict, liftVerdict}
 use Rattle.board.specs.Desk.{overloads, flow, anyOf, usedUp}
 use Rattle.board.specs.Model.{first, isTransistor, cardPlace, transistorPlace, noTransistor, emptyTransistor}
 use Rattle.board.specs.Model.{noCard, workedAt, placeGives, placeOverloads, totalsOf, voltsOf, refuse}
 use Rattle.board.specs.Model.{freeTransistor, placedOf, mayPlace, movedOf, liftedOf, Reached}
 use Rattle.totals.specs.inner.Sums.{More, Room}
-use Rattle.board.specs.inner.Parts.{nodeOf, placeOfCard, backFlow}
+use Rattle.places.specs.inner.Parts.{nodeOf}
+use Rattle.board.specs.inner.Parts.{placeOfCard, backFlow}
 use Rattle.board.specs.inner.Settle.{Workable, Settling}
-use Rattle.board.specs.inner.Placing.{placing, wayOf}
+use Rattle.places.specs.inner.Placing.{placing, wayOf}
 use Rattle.totals.specs.inner.Sizes.{roomMost}
 use Rattle.board.proofs.Lists.{first-passes}
 use Rattle.board.proofs.Invariant.{invariant, AtCard, at-card, at-transistor, AtTransistor, on-nodes}
 use Rattle.board.proofs.Verdicts.{Places, places}
 use Rattle.board.proofs.Answers.{off-board, on-board}
-use Rattle.board.proofs.PlacingTests.{way, stopped, went, lastly, on-same, then-lastly}
+use Rattle.places.proofs.Ways.{way, stopped, went}
+use Rattle.board.proofs.PlacingTests.{lastly, on-same, then-lastly}
 use Rattle.board.proofs.Currents.{workable-card, card-takes}
 use Rattle.board.proofs.WorkerCalls.{volts-invariant, has-card, room-now, totals-put, totals-taken}
 use Rattle.board.proofs.WorkerCalls.{settling-moved}

@@ -2,8 +2,6 @@ pub mod Verdicts
 pub mod Lists
 pub mod NodeSums
 pub mod Invariant
-pub mod CallerNumbers
-pub mod Scans
 pub mod Reaches
 pub mod Answers
 pub mod Currents

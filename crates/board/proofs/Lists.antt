@@ -9,7 +9,7 @@ use lib.ListN.{length, getD, set, replicate}
 use borrow.Author.Tests.{ltb-true}
 use Rattle.refusal.specs.Clash.{clash}
 use Rattle.board.specs.Desk.{anyOf}
-use Rattle.board.specs.Arguments.{none, some}
+use Rattle.places.specs.Arguments.{none, some}
 use Rattle.board.specs.Model.{first, foundAt}
 
 -- what holds of the element at i, and of one put in somewhere, holds of the element at i then

@@ -11,8 +11,8 @@ use lib.IntN.{ℤ, pos, natAbs, negℤ, _+ℤ_, +ℤ-idr, +ℤ-assoc, +ℤ-comm,
 use mathlib.Core.Logic.{_⊎_, inl, inr}
 use Rattle.whole.specs.laws.Biased.{below-or-not}
 use Rattle.volts.specs.Volts.{givenBack}
-use Rattle.board.specs.declared.Card.{Card}
-use Rattle.board.specs.declared.Transistor.{Transistor}
+use Rattle.places.specs.declared.Card.{Card}
+use Rattle.places.specs.declared.Transistor.{Transistor}
 use Rattle.board.specs.Counts.{nodesMost, transistorsMost}
 use Rattle.board.specs.Desk.{sumOver}
 use Rattle.board.specs.Model.{noTransistor, placeGives, totalsOf}

@@ -16,8 +16,8 @@ use Rattle.card.specs.declared.WorkedCard.{WorkedCard}
 use Rattle.branch.specs.Rows.{rowsFor}
 use Rattle.branch.specs.Outcome.{tickLimit, outcomeOf}
 use Rattle.branch.proofs.Laws.{ticks-small}
-use Rattle.board.specs.declared.Card.{Card}
-use Rattle.board.specs.declared.Transistor.{Transistor}
+use Rattle.places.specs.declared.Card.{Card}
+use Rattle.places.specs.declared.Transistor.{Transistor}
 use Rattle.board.specs.Counts.{nodesMost, transistorsMost}
 use Rattle.board.specs.Desk.{rolesAt, flow, sumOver}
 use Rattle.board.specs.Model.{workedAt, placeGives, tabulate, totalsOf}

@@ -12,7 +12,7 @@ use Rattle.name.specs.Name.{asked}
 use lib.Dec.{leb, ltb}
 use borrow.Author.Tests.{leb-false}
 use Rattle.board.specs.Counts.{nodesMost}
-use Rattle.board.specs.Arguments.{Found, none, some, offNode, someNodeOff, apart}
+use Rattle.places.specs.Arguments.{Found, none, some, offNode, someNodeOff, apart}
 use Rattle.board.specs.Verdict.{loadVerdict, placeVerdict, moveVerdict, liftVerdict, withdrawVerdict, nodeVerdict}
 use Rattle.refusal.specs.Order.{Verdict, no, yes, refuseIf, andThen, passes-if}
 use Rattle.volts.specs.Volts.{offVolts}

@@ -11,15 +11,15 @@ use borrow.Author.Tests.{eqb-false, eq-eqb, ne-eqb}
 use Rattle.refusal.specs.Clash.{clash}
 use Rattle.volts.specs.Volts.{givenBack, span}
 use Rattle.volts.specs.laws.Keeping.{near-set}
-use Rattle.board.specs.declared.Card.{Card}
-use Rattle.board.specs.declared.Transistor.{Transistor}
+use Rattle.places.specs.declared.Card.{Card}
+use Rattle.places.specs.declared.Transistor.{Transistor}
 use Rattle.board.specs.declared.Board.{Board}
 use Rattle.board.specs.Counts.{nodesMost, transistorsMost}
 use Rattle.board.specs.Desk.{rolesAt, overloads, flow, anyOf}
 use Rattle.board.specs.Model.{noTransistor, emptyTransistor, workedAt, placeGives, placeOverloads, totalsOf}
 use Rattle.board.specs.Model.{voltsOf}
 use Rattle.totals.specs.inner.Sums.{More, Room}
-use Rattle.board.specs.inner.Parts.{names, standsAt}
+use Rattle.places.specs.inner.Parts.{names, standsAt}
 use Rattle.board.specs.inner.Settle.{Volts, HasCard, Settling}
 use Rattle.totals.specs.inner.Sizes.{roomMost}
 use Rattle.board.specs.inner.Sizes.{totalMost}

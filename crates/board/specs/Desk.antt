@@ -5,7 +5,7 @@ use mathlib.Core.Path.{_≡_}
 use mathlib.Core.Bool.{Bool, true, false, cond, not, _&&_, _||_}
 use mathlib.Core.List.{List, [], _∷_, map}
 use Prim.Native.Nat.{ℕ, suc, _+_}
-use lib.Dec.{eqb, leb, ltb}
+use lib.Dec.{eqb, leb}
 use lib.ListN.{getD, set, replicate, length}
 use lib.IntN.{ℤ, pos, natAbs, _+ℤ_}
 use Rattle.refusal.specs.declared.Refusal.{Refusal}
@@ -20,8 +20,10 @@ use Rattle.card.specs.declared.WorkedCard.{WorkedCard}
 use Rattle.branch.specs.Rows.{rowsFor, roles}
 use Rattle.branch.specs.Outcome.{isOver, outcomeOf}
 use Rattle.totals.specs.Gives.{rowsGive}
+unfoldable pub use Rattle.places.specs.Finding.{anyOf}
+pub use Rattle.places.specs.Finding.{larger, usedUp}
+use Rattle.places.specs.Arguments.{Found, none, some, issueOf, offNode, someNodeOff, apart, known}
 use Rattle.board.specs.Counts.{nodesMost, cardsMost, transistorsMost, issuesMost}
-use Rattle.board.specs.Arguments.{Found, none, some, issueOf, offNode, someNodeOff, apart, known}
 
 pub record Held : Type 0 where
   pub issue : ℕ
@@ -92,10 +94,6 @@ unfoldable pub firstWith : {A : Type 0} → (A → Bool) → List A → Found A
 firstWith p [] = none
 firstWith p (a ∷ rest) = ifTrue (p a) a (firstWith p rest)
 
-unfoldable pub anyOf : {A : Type 0} → (A → Bool) → List A → Bool
-anyOf p [] = false
-anyOf p (a ∷ rest) = p a || anyOf p rest
-
 abbrev pub keepIf : {A : Type 0} → Bool → A → List A → List A
 keepIf true a rest = a ∷ rest
 keepIf false a rest = rest
@@ -104,9 +102,6 @@ keepIf false a rest = rest
 unfoldable pub without : {A : Type 0} → (A → ℕ) → ℕ → List A → List A
 without key n [] = []
 without key n (a ∷ rest) = keepIf (not (eqb (key a) n)) a (without key n rest)
-
-abbrev pub larger : ℕ → ℕ → ℕ
-larger m n = cond (ltb m n) n m
 
 -- the highest issue among the cards of a name; 0 where there is none
 unfoldable pub highest : List ℕ → List Held → ℕ
@@ -196,9 +191,6 @@ showed d (yes n) = record { reply = shows (getD (d .volts) n (pos 0)) (total d n
 -- some transistor that stands would overload at these voltages
 abbrev pub someOverloads : Desk → List ℤ → Bool
 someOverloads d volts = anyOf (λ (t : Standing). overloads (t .worked) (t .nodes) volts) (d .standing)
-
-abbrev pub usedUp : ℕ → Bool
-usedUp next = ltb issuesMost next
 
 abbrev pub heldAs : ℕ → List Held → Found Held
 heldAs n cards = firstWith (λ (h : Held). eqb (h .issue) n) cards

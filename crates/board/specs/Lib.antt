@@ -1,5 +1,4 @@
 pub mod Counts
-pub mod Arguments
 pub mod Verdict
 pub mod Desk
 pub mod Model

@@ -15,13 +15,12 @@ ghost use Rattle.board.specs.inner.Parts.{rolesOf, placeOfCard, backFlow
 ghost use Rattle.totals.specs.inner.Sizes.{roomMost};
 ghost use Rattle.board.specs.inner.Settle.{Workable, Settling};
 use crate::Board;
-use crate::Card;
-use crate::Transistor;
-use crate::sets;
 use branch::Outcome;
 use branch::Over;
 use branch::ROLES;
 use octave::Table;
+use places::Card;
+use places::Transistor;
 
 fn volt(volts: &[u32; Board::NODES], n: u8) -> u32
     requires { ⌜ n < nodesMost ⌝ }
@@ -131,7 +130,7 @@ pub(crate) fn settle(
     let mut over = false;
     for i in 0..Board::TRANSISTORS {
         let t = ts[i];
-        if sets::is_at(t, n) {
+        if places::is_at(t, n) {
             let s = card_place_of(t);
             let c = cards[s];
             let nodes = t.nodes;

@@ -20,11 +20,11 @@ use Rattle.card.specs.declared.WorkedCard.{WorkedCard}
 use Rattle.branch.specs.inner.Ready.{readyOf}
 use Rattle.branch.proofs.Laws.{ready-card}
 use Rattle.branch.specs.Rows.{roles}
-use Rattle.board.specs.declared.Card.{Card}
-use Rattle.board.specs.declared.Transistor.{Transistor}
+use Rattle.places.specs.declared.Card.{Card}
+use Rattle.places.specs.declared.Transistor.{Transistor}
 use Rattle.board.specs.declared.Board.{Board}
 use Rattle.board.specs.Counts.{nodesMost, cardsMost, transistorsMost}
-use Rattle.board.specs.Arguments.{Found, none, some, issueOf}
+use Rattle.places.specs.Arguments.{Found, none, some, issueOf}
 use Rattle.board.specs.Verdict.{placeVerdict, moveVerdict, liftVerdict, withdrawVerdict, nodeVerdict}
 use Rattle.board.specs.Desk as desk
 use Rattle.board.specs.Desk.{Held, Standing, Desk, Call, load, place, move, lift, withdraw, lookUp, node}

@@ -17,7 +17,7 @@ use Rattle.branch.specs.Rows.{roles}
 use Rattle.board.specs.declared.Board.{Board}
 use Rattle.board.specs.declared.Answer.the-variants.{Issue}
 use Rattle.board.specs.Counts.{issuesMost}
-use Rattle.board.specs.Arguments.{issueOf}
+use Rattle.places.specs.Arguments.{issueOf}
 use Rattle.board.specs.Verdict.{nodeVerdict}
 use Rattle.board.specs.Desk as desk
 use Rattle.board.specs.Desk.{Held, Standing, Desk, Call, load, place, move, lift, withdraw, lookUp, node}

@@ -11,7 +11,7 @@ use Rattle.refusal.specs.Order.{Verdict, refuseIf}
 use Rattle.name.specs.Name.{padded}
 use Rattle.volts.specs.Volts.{offVolts}
 use Rattle.board.specs.Counts.{cardsMost, transistorsMost}
-use Rattle.board.specs.Arguments.{issueOf, offNode}
+use Rattle.places.specs.Arguments.{issueOf, offNode}
 use Rattle.board.specs.Verdict.{loadVerdict, placeVerdict, moveVerdict, liftVerdict, withdrawVerdict, lookVerdict}
 use Rattle.board.specs.Verdict.{nodeVerdict}
 use Rattle.board.specs.Desk.{Held, Standing, Desk, overloads, anyOf, highest, someOverloads, usedUp, heldAs, standsAs}

@@ -15,8 +15,8 @@ use Rattle.branch.specs.declared.Over.{Over}
 use Rattle.branch.specs.declared.Over.the-variants.{Within, Ticks, Injection}
 use Rattle.branch.specs.Rows.{Row, rowsFor, roleIndex}
 use Rattle.branch.specs.Outcome.{outcomeOf, isOver}
-use Rattle.board.specs.declared.Card.{Card}
-use Rattle.board.specs.declared.Transistor.{Transistor}
+use Rattle.places.specs.declared.Card.{Card}
+use Rattle.places.specs.declared.Transistor.{Transistor}
 use Rattle.board.specs.declared.Board.{Board}
 use Rattle.board.specs.Counts.{nodesMost}
 use Rattle.totals.specs.Gives.{atNode, rowsGive}

@@ -1,39 +1,14 @@
--- Words for what the board's inner functions give: a caller's number as the board holds it, a place or none, and a
--- transistor with its card.
-use mathlib.Core.Bool.{Bool, false, cond}
+-- Words for what the board's inner functions give: a transistor with its card.
+use mathlib.Core.Bool.{cond}
 use mathlib.Core.List.{List, map}
 use Prim.Native.Nat.{ℕ}
-use lib.Dec.{eqb, ltb}
+use lib.Dec.{ltb}
 use lib.ListN.{getD}
-use lib.IntN.{ℤ, natAbs, negℤ}
+use lib.IntN.{ℤ, negℤ}
 use Rattle.card.specs.declared.WorkedCard.{WorkedCard}
-use Rattle.board.specs.declared.Transistor.{Transistor}
-use Rattle.board.specs.Counts.{nodesMost, cardsMost}
-use Rattle.board.specs.Arguments.{Found, none, some, offNode}
-use Rattle.board.specs.Desk.{flow, anyOf}
-
--- ---- numbers of the caller
-
--- a node number in range, and the number of nodes for any other
-abbrev pub nodeOf : ℤ → ℕ
-nodeOf z = cond (offNode z) nodesMost (natAbs z)
-
--- ---- places
-
--- the place found, or the number of places where there is none
-abbrev pub placeOr : ℕ → Found ℕ → ℕ
-placeOr most none = most
-placeOr most (some i) = i
-
--- one of the nodes is n
-abbrev pub names : ℕ → List ℕ → Bool
-names n nodes = anyOf (λ (m : ℕ). eqb m n) nodes
-
--- a transistor that stands and names the node n
-abbrev pub standsAt : ℕ → Transistor → Bool
-standsAt n t = cond (eqb (t .issue) 0) false (names n (t .nodes))
-
--- ---- a transistor with its card
+use Rattle.places.specs.declared.Transistor.{Transistor}
+use Rattle.board.specs.Counts.{cardsMost}
+use Rattle.board.specs.Desk.{flow}
 
 -- the kept voltages of its roles
 abbrev pub rolesOf : List ℕ → List ℕ → List ℕ

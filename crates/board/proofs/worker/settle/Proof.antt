@@ -9,14 +9,14 @@ use native.Mathlib.Omega.{arith}
 use lib.ListN.{length, getD}
 use borrow.Author.Needs.{needs}
 use Rattle.volts.specs.Volts.{givenBack}
-use Rattle.board.specs.declared.Transistor.{Transistor}
+use Rattle.places.specs.declared.Transistor.{Transistor}
 use Rattle.board.specs.Counts.{nodesMost, transistorsMost}
 use Rattle.board.specs.Model.{noTransistor, placeOverloads}
 use Rattle.totals.specs.inner.Sums.{Room}
-use Rattle.board.specs.inner.Parts.{standsAt}
+use Rattle.places.specs.inner.Parts.{standsAt}
 use Rattle.board.specs.inner.Sizes.{totalMost}
 use Rattle.board.specs.inner.Settle.{HasCard}
-use Rattle.board.proofs.Scans.{AnyAmong, among-none, among-more, among-quiet, among-all}
+use Rattle.places.proofs.Scans.{AnyAmong, among-none, among-more, among-quiet, among-all}
 use Rattle.totals.proofs.Amounts.{room-more, room-less}
 use Rattle.board.proofs.Currents.{takes-small, named-stands, place-below, workable-card, card-gives}
 use Rattle.board.proofs.Currents.{card-takes, card-overloads}
