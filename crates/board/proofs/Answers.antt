@@ -4,10 +4,9 @@ use mathlib.Core.Bool.{Bool, true, false, cond}
 use mathlib.Core.List.{List}
 use Prim.Native.Nat.{ℕ, _+_, _≤_, _<_}
 use native.Mathlib.Omega.{arith}
-use lib.Dec.{eqb, ltb}
 use lib.ListN.{getD, set}
 use lib.IntN.{ℤ, pos, natAbs}
-use borrow.Author.Tests.{ne-eqb, le-leb, lt-leb, lt-ltb, le-ltb, ltb-true}
+use borrow.Author.Tests.{ne-eqb, le-leb, lt-leb, lt-ltb, le-ltb}
 use Rattle.refusal.specs.declared.Refusal.{Refusal}
 use Rattle.refusal.specs.declared.Refusal.the-variants.{Malformed, BadName, NameNotHeld, NoRoom, Unknown, OutOfRange}
 use Rattle.refusal.specs.declared.Refusal.the-variants.{CardInUse, NumbersUsedUp}
@@ -19,55 +18,19 @@ use Rattle.card.specs.Judge.{judgeOf}
 use Rattle.card.specs.Record.{rightLength}
 use Rattle.branch.specs.declared.Ready.{Ready}
 use Rattle.branch.specs.inner.Ready.{readyOf}
-use Rattle.board.specs.declared.Card.{Card}
-use Rattle.board.specs.declared.Transistor.{Transistor}
 use Rattle.board.specs.declared.Board.{Board}
 use Rattle.board.specs.declared.Answer.the-variants.{Issue, Done, Node}
-use Rattle.board.specs.Counts.{nodesMost, cardsMost, transistorsMost, issuesMost}
-use Rattle.board.specs.Verdict.{Found, none, some, issueOf, offNode, loadVerdict, withdrawVerdict, lookVerdict}
-use Rattle.board.specs.Verdict.{nodeVerdict}
+use Rattle.board.specs.Counts.{nodesMost, cardsMost, issuesMost}
+use Rattle.places.specs.Arguments.{none, some, issueOf, offNode}
+use Rattle.board.specs.Verdict.{loadVerdict, withdrawVerdict, lookVerdict, nodeVerdict}
 use Rattle.board.specs.Desk.{anyOf}
-use Rattle.board.specs.Model.{first, isCard, isTransistor, cardPlace, transistorPlace, foundAt, emptyCard}
+use Rattle.board.specs.Model.{cardPlace, emptyCard}
 use Rattle.board.specs.Model.{refuse, freeCard, withCards, loadedOf, withdrawnOf, standsOn, highestAt, lookedOf}
 use Rattle.board.specs.Model.{showedOf}
-use Rattle.board.specs.inner.Parts.{nodeOf, placeOr}
+use Rattle.places.specs.inner.Parts.{nodeOf}
 use Rattle.board.proofs.Verdicts.{on-node}
 
--- ---- places and nodes as numbers
-
--- a place found lies below the number of places
-abbrev Below : ℕ → Found ℕ → Type 0
-Below most none = Unit {0}
-Below most (some i) = i < most
-
-below : (most i : ℕ) (t : Bool) → Below most (cond t none (foundAt most i))
-below most i true = tt
-below most i false = go (ltb i most) refl
-  where
-    go : (u : Bool) → ltb i most ≡ u → Below most (cond u (some i) none)
-    go true e = ltb-true i most e
-    go false e = tt
-
--- so that its number tells whether there was one
-not-there : (most i : ℕ) (t : Bool) → most ≤ placeOr most (cond t none (foundAt most i)) →
-    cond t none (foundAt most i) ≡ none
-not-there most i t h = go (cond t none (foundAt most i)) (below most i t) h
-  where
-    go : (f : Found ℕ) → Below most f → most ≤ placeOr most f → f ≡ none
-    go none b k = refl
-    go (some j) b k = absurd (omega arith)
-
-pub no-card-there : (n : ℕ) (cards : List Card) → cardsMost ≤ placeOr cardsMost (cardPlace n cards) →
-    cardPlace n cards ≡ none
-no-card-there n cards h = not-there cardsMost (first (isCard n) cards) (eqb n 0) h
-
-pub no-transistor-there : (n : ℕ) (ts : List Transistor) →
-    transistorsMost ≤ placeOr transistorsMost (transistorPlace n ts) → transistorPlace n ts ≡ none
-no-transistor-there n ts h = not-there transistorsMost (first (isTransistor n) ts) (eqb n 0) h
-
-pub is-there : (most : ℕ) (f : Found ℕ) → placeOr most f < most → f ≡ some (placeOr most f)
-is-there most none h = absurd (omega arith)
-is-there most (some i) h = refl
+-- ---- nodes as numbers
 
 -- a caller's node in range, and out of it
 pub off-board : (z : ℤ) → nodesMost ≤ nodeOf z → offNode z ≡ true

@@ -15,26 +15,30 @@ use Rattle.volts.specs.Volts.{givenBack, keptAs, offVolts}
 use Rattle.volts.specs.laws.Keeping.{KeptIs}
 use Rattle.octave.specs.Table.{entries}
 use Rattle.branch.specs.Rows.{roles}
-use Rattle.board.specs.declared.Transistor.{Transistor}
+use Rattle.places.specs.declared.Transistor.{Transistor}
 use Rattle.board.specs.declared.Board.{Board}
 use Rattle.board.specs.declared.Answer.the-variants.{Issue, Done}
-use Rattle.board.specs.declared.rules.Way.{Way}
-use Rattle.board.specs.declared.rules.Way.the-variants.{Go, Stop}
+use Rattle.places.specs.declared.Way.{Way}
+use Rattle.places.specs.declared.Way.the-variants.{Go, Stop}
 use Rattle.board.specs.Counts.{nodesMost, cardsMost, transistorsMost, issuesMost}
-use Rattle.board.specs.Verdict.{Found, none, some, issueOf, offNode, moveVerdict, liftVerdict}
+use Rattle.places.specs.Arguments.{Found, none, some, issueOf, offNode}
+use Rattle.board.specs.Verdict.{moveVerdict, liftVerdict}
 use Rattle.board.specs.Desk.{overloads, flow, anyOf, usedUp}
 use Rattle.board.specs.Model.{first, isTransistor, cardPlace, transistorPlace, noTransistor, emptyTransistor}
 use Rattle.board.specs.Model.{noCard, workedAt, placeGives, placeOverloads, totalsOf, voltsOf, refuse}
 use Rattle.board.specs.Model.{freeTransistor, placedOf, mayPlace, movedOf, liftedOf, Reached}
-use Rattle.board.specs.inner.Parts.{nodeOf, placeOfCard, More, Room, backFlow}
+use Rattle.totals.specs.inner.Sums.{More, Room}
+use Rattle.places.specs.inner.Parts.{nodeOf}
+use Rattle.board.specs.inner.Parts.{placeOfCard, backFlow}
 use Rattle.board.specs.inner.Settle.{Workable, Settling}
-use Rattle.board.specs.inner.Placing.{placing, wayOf}
-use Rattle.board.specs.inner.Sizes.{workedMost}
+use Rattle.places.specs.inner.Placing.{placing, wayOf}
+use Rattle.totals.specs.inner.Sizes.{roomMost}
 use Rattle.board.proofs.Lists.{first-passes}
 use Rattle.board.proofs.Invariant.{invariant, AtCard, at-card, at-transistor, AtTransistor, on-nodes}
 use Rattle.board.proofs.Verdicts.{Places, places}
 use Rattle.board.proofs.Answers.{off-board, on-board}
-use Rattle.board.proofs.PlacingTests.{way, stopped, went, lastly, on-same, then-lastly}
+use Rattle.places.proofs.Ways.{way, stopped, went}
+use Rattle.board.proofs.PlacingTests.{lastly, on-same, then-lastly}
 use Rattle.board.proofs.Currents.{workable-card, card-takes}
 use Rattle.board.proofs.WorkerCalls.{volts-invariant, has-card, room-now, totals-put, totals-taken}
 use Rattle.board.proofs.WorkerCalls.{settling-moved}
@@ -58,7 +62,7 @@ module _ {b : Board} (k : Reached b) (z : ℤ) (i : ℕ) (there : transistorPlac
   stands e = placed-there .given (sym (placed-there .issue-is) ∙ e)
 
   pub lift-works : (table : List ℕ) → table ≡ entries →
-      Workable table (getD (b .cards) s noCard) (leaver .nodes) (b .volts) × Room nodesMost workedMost (b .totals)
+      Workable table (getD (b .cards) s noCard) (leaver .nodes) (b .volts) × Room nodesMost roomMost (b .totals)
   lift-works table e = (
     workable-card (b .cards) leaver stands (has-card (invariant k) i stands) s at table (b .volts) e
         (volts-invariant (invariant k)),
@@ -191,7 +195,7 @@ module _ {b : Board} {card : ℤ} {nodes : List ℤ} {on : List ℕ} {w : Way} (
         record { issue = b .next; card = getD (b .cards) i noCard .issue; «card_place» = i; nodes = on }
 
     pub place-works : (table : List ℕ) → table ≡ entries →
-        Workable table (getD (b .cards) i noCard) on (b .volts) × Room nodesMost workedMost (b .totals)
+        Workable table (getD (b .cards) i noCard) on (b .volts) × Room nodesMost roomMost (b .totals)
     place-works table h = (
       record {
         table-is = h;

@@ -16,18 +16,20 @@ use Rattle.branch.specs.Rows.{rowsFor}
 use Rattle.branch.specs.Outcome.{tickLimit, outcomeOf, isOver}
 use Rattle.branch.proofs.Laws.{ticks-long, ticks-small}
 use Rattle.branch.specs.Ends.{fromRoles, toRoles}
-use Rattle.board.specs.declared.Card.{Card}
-use Rattle.board.specs.declared.Transistor.{Transistor}
+use Rattle.places.specs.declared.Card.{Card}
+use Rattle.places.specs.declared.Transistor.{Transistor}
 use Rattle.board.specs.Counts.{nodesMost, cardsMost}
 use Rattle.board.specs.Desk.{rolesAt, overloads, flow}
 use Rattle.board.specs.Model.{noCard, placeGives, placeOverloads}
-use Rattle.board.specs.inner.Parts.{More, Within, rolesGive, rolesOf, placeOfCard, standsAt, backFlow}
+use Rattle.totals.specs.inner.Sums.{More, Within, rolesGive}
+use Rattle.places.specs.inner.Parts.{standsAt}
+use Rattle.board.specs.inner.Parts.{rolesOf, placeOfCard, backFlow}
 use Rattle.board.specs.inner.Settle.{Volts, Workable, HasCard}
-use Rattle.board.specs.inner.Sizes.{flowMost}
-use Rattle.board.proofs.Integers.{abs-neg}
-use Rattle.board.proofs.Lists.{getD-map}
+use Rattle.totals.specs.inner.Sizes.{flowMost}
+use Rattle.totals.proofs.Integers.{abs-neg}
+use Rattle.totals.proofs.Lists.{getD-map}
 use Rattle.board.proofs.NodeSums.{small-flow}
-use Rattle.board.proofs.Roles.{roles-are-rows, roles-turned}
+use Rattle.totals.proofs.Roles.{roles-are-rows, roles-turned}
 
 -- ---- the voltages of the roles
 

@@ -1,14 +1,9 @@
-pub mod Integers
 pub mod Verdicts
 pub mod Lists
 pub mod NodeSums
 pub mod Invariant
-pub mod CallerNumbers
-pub mod Scans
 pub mod Reaches
 pub mod Answers
-pub mod Amounts
-pub mod Roles
 pub mod Currents
 pub mod Midway
 pub mod PlacingTests

@@ -1,8 +1,7 @@
--- Lists by their places: what holds of each element, the first place that passes a test, and what a
--- function makes of it.
+-- Lists by their places: what holds of each element, and the first place that passes a test.
 use mathlib.Core.Path.{_≡_, refl}
 use mathlib.Core.Bool.{Bool, true, false, cond, _||_}
-use mathlib.Core.List.{List, [], _∷_, map}
+use mathlib.Core.List.{List, [], _∷_}
 use Prim.Native.Nat.{ℕ, zero, suc, _<_}
 use native.Mathlib.Omega.{arith}
 use lib.Dec.{ltb}
@@ -10,7 +9,7 @@ use lib.ListN.{length, getD, set, replicate}
 use borrow.Author.Tests.{ltb-true}
 use Rattle.refusal.specs.Clash.{clash}
 use Rattle.board.specs.Desk.{anyOf}
-use Rattle.board.specs.Verdict.{none, some}
+use Rattle.places.specs.Arguments.{none, some}
 use Rattle.board.specs.Model.{first, foundAt}
 
 -- what holds of the element at i, and of one put in somewhere, holds of the element at i then
@@ -65,10 +64,3 @@ pub stands : {A : Type 0} (key : A → ℕ) (d : A) (l : List A) (i : ℕ) → k
 stands key d [] i z h = absurd (h z)
 stands key d (a ∷ rest) zero z h = omega arith
 stands key d (a ∷ rest) (suc i) z h = let k = stands key d rest i z h in omega arith
-
--- what a function makes of the element at a place
-pub getD-map : {A B : Type 0} (f : A → B) (l : List A) (i : ℕ) (d : A) (e : B) → i < length l →
-    getD (map f l) i e ≡ f (getD l i d)
-getD-map f [] i d e h = absurd (omega arith)
-getD-map f (a ∷ rest) zero d e h = refl
-getD-map f (a ∷ rest) (suc i) d e h = getD-map f rest i d e (omega arith)

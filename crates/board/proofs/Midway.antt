@@ -11,14 +11,15 @@ use lib.IntN.{ℤ, pos, natAbs, negℤ, _+ℤ_, +ℤ-idr, +ℤ-assoc, +ℤ-comm,
 use mathlib.Core.Logic.{_⊎_, inl, inr}
 use Rattle.whole.specs.laws.Biased.{below-or-not}
 use Rattle.volts.specs.Volts.{givenBack}
-use Rattle.board.specs.declared.Card.{Card}
-use Rattle.board.specs.declared.Transistor.{Transistor}
+use Rattle.places.specs.declared.Card.{Card}
+use Rattle.places.specs.declared.Transistor.{Transistor}
 use Rattle.board.specs.Counts.{nodesMost, transistorsMost}
 use Rattle.board.specs.Desk.{sumOver}
 use Rattle.board.specs.Model.{noTransistor, placeGives, totalsOf}
-use Rattle.board.specs.inner.Parts.{More, Room}
-use Rattle.board.specs.inner.Sizes.{flowMost, totalMost}
-use Rattle.board.proofs.Integers.{abs-add}
+use Rattle.totals.specs.inner.Sums.{More, Room}
+use Rattle.totals.specs.inner.Sizes.{flowMost}
+use Rattle.board.specs.inner.Sizes.{totalMost}
+use Rattle.totals.proofs.Integers.{abs-add}
 use Rattle.board.proofs.NodeSums.{small-sum, small-place, totals-at, totals-count, are-totals}
 
 -- ---- sums half way

@@ -10,20 +10,22 @@ use native.Mathlib.Omega.{arith}
 use lib.Dec.{eqb}
 use lib.ListN.{length, getD, replicate, List·getD-eq-default}
 use lib.Seq.{ext-getD}
-use lib.IntN.{ℤ, pos, natAbs, _-ℤ_}
+use lib.IntN.{ℤ, pos, natAbs}
 use Rattle.whole.specs.laws.Biased.{below-or-not}
 use Rattle.card.specs.declared.WorkedCard.{WorkedCard}
-use Rattle.branch.specs.Rows.{Row, rowsFor, roleIndex}
+use Rattle.branch.specs.Rows.{rowsFor}
 use Rattle.branch.specs.Outcome.{tickLimit, outcomeOf}
 use Rattle.branch.proofs.Laws.{ticks-small}
-use Rattle.board.specs.declared.Card.{Card}
-use Rattle.board.specs.declared.Transistor.{Transistor}
+use Rattle.places.specs.declared.Card.{Card}
+use Rattle.places.specs.declared.Transistor.{Transistor}
 use Rattle.board.specs.Counts.{nodesMost, transistorsMost}
-use Rattle.board.specs.Desk.{rolesAt, atNode, rowsGive, flow, sumOver}
+use Rattle.board.specs.Desk.{rolesAt, flow, sumOver}
 use Rattle.board.specs.Model.{workedAt, placeGives, tabulate, totalsOf}
-use Rattle.board.specs.inner.Parts.{Room}
-use Rattle.board.specs.inner.Sizes.{flowMost, totalMost}
-use Rattle.board.proofs.Integers.{abs-add, abs-ends}
+use Rattle.totals.specs.inner.Sums.{Room}
+use Rattle.totals.specs.inner.Sizes.{flowMost}
+use Rattle.board.specs.inner.Sizes.{totalMost}
+use Rattle.totals.proofs.Integers.{abs-add}
+use Rattle.totals.proofs.Amounts.{small-rows}
 
 -- ---- sums and tables
 
@@ -58,21 +60,7 @@ tabulate-none f a zero h = refl
 tabulate-none f a (suc n) h =
     rw (h 0 (omega arith), ← (tabulate-none (λ (i : ℕ). f (suc i)) a n (λ i k. h (suc i) (omega arith))))
 
--- ---- sizes: a row counts at most once at a node
-
-small-rows : (rows : List Row) (nodes : List ℕ) (ticks : List ℤ) (n most : ℕ) →
-    ((k : ℕ) → natAbs (getD ticks k (pos 0)) ≤ most) → natAbs (rowsGive rows nodes ticks n) ≤ length rows * most
-unfolding rowsGive
-small-rows [] nodes ticks n most h = zero-le
-small-rows (r ∷ rs) nodes [] n most h = zero-le
-small-rows (r ∷ rs) nodes (x ∷ xs) n most h =
-    let a = getD nodes (roleIndex (r .from)) 0 in
-    let b = getD nodes (roleIndex (r .to)) 0 in
-    let p = abs-add (atNode a n x -ℤ atNode b n x) (rowsGive rs nodes xs n) in
-    let q = abs-ends (eqb a n) (eqb b n) x in
-    let t = small-rows rs nodes xs n most (λ k. h (suc k)) in
-    let u = h 0 in
-    rw (suc-mul (length rs) most) (omega arith)
+-- ---- sizes
 
 pub small-flow : (c : WorkedCard) (nodes : List ℕ) (volts : List ℤ) (n : ℕ) → natAbs (flow c nodes volts n) ≤ flowMost
 unfolding flow

@@ -1,77 +1,25 @@
--- Placing's way through its tests, and how the test of the currents comes after it.
+-- How the test of the currents comes after placing's other tests.
 use mathlib.Core.Path.{_≡_, refl, ap}
 use mathlib.Core.Bool.{Bool, true, false, cond, _&&_, _||_}
 use mathlib.Core.List.{List, [], _∷_, map}
-use Prim.Native.Nat.{ℕ, zero, suc, _≤_, _<_}
+use Prim.Native.Nat.{ℕ, zero, suc}
 use lib.Dec.{leb}
 use lib.ListN.{getD}
 use lib.IntN.{ℤ, pos, natAbs}
-use borrow.Author.Tests.{le-leb, lt-leb, lt-ltb, le-ltb}
-use Rattle.refusal.specs.declared.Refusal.{Refusal}
-use Rattle.refusal.specs.declared.Refusal.the-variants.{NoRoom, Unknown, OutOfRange, SplitCollector, Overload}
+use borrow.Author.Tests.{lt-leb}
+use Rattle.refusal.specs.declared.Refusal.the-variants.{NoRoom, OutOfRange, SplitCollector, Overload}
 use Rattle.refusal.specs.declared.Refusal.the-variants.{NumbersUsedUp}
 use Rattle.refusal.specs.Order.{Verdict, no, yes, refuseIf}
 use Rattle.refusal.specs.Clash.{clash}
 use Rattle.card.specs.declared.WorkedCard.{WorkedCard}
 use Rattle.branch.specs.Rows.{C1, C4, roleIndex}
-use Rattle.board.specs.declared.Card.{Card}
-use Rattle.board.specs.declared.Transistor.{Transistor}
-use Rattle.board.specs.declared.rules.Way.{Way}
-use Rattle.board.specs.declared.rules.Way.the-variants.{Go, Stop}
-use Rattle.board.specs.Counts.{nodesMost, transistorsMost, issuesMost}
-use Rattle.board.specs.Verdict.{Found, none, some, offNode, someNodeOff, apart, placeVerdict}
-use Rattle.board.specs.Desk.{anyOf, usedUp}
-use Rattle.board.specs.Model.{cardPlace, workedAt, freeTransistor}
-use Rattle.board.specs.inner.Parts.{nodeOf}
-use Rattle.board.specs.inner.Placing.{apartOn, placing, wayOf}
+use Rattle.board.specs.Counts.{nodesMost}
+use Rattle.places.specs.Arguments.{Found, none, some, offNode, someNodeOff, apart}
+use Rattle.board.specs.Verdict.{placeVerdict}
+use Rattle.board.specs.Desk.{anyOf}
+use Rattle.places.specs.inner.Parts.{nodeOf}
+use Rattle.places.specs.inner.Placing.{apartOn, placing}
 use Rattle.board.proofs.Verdicts.{on-node}
-
--- ---- the way, test by test
-
-module _ (cards : List Card) (ts : List Transistor) (next n : ℕ) (on : List ℕ) where
-  abbrev pub way : Way
-  way =
-      wayOf (freeTransistor ts)
-      (placing (cardPlace n cards) (workedAt cards) on (leb transistorsMost (freeTransistor ts)) (usedUp next))
-
-  pub stop-unknown : cardPlace n cards ≡ none → Stop Unknown ≡ way
-  unfolding placing
-  stop-unknown e = rw e
-
-  module _ (i : ℕ) (e : cardPlace n cards ≡ some i) where
-    pub stop-off : anyOf (leb nodesMost) on ≡ true → Stop OutOfRange ≡ way
-    unfolding placing
-    stop-off o = rw (e, o)
-
-    module _ (o : anyOf (leb nodesMost) on ≡ false) where
-      pub stop-split : workedAt cards i .«rcbli_zero» && apartOn on ≡ true → Stop SplitCollector ≡ way
-      unfolding placing
-      stop-split s = rw (e, o, s)
-
-      module _ (s : workedAt cards i .«rcbli_zero» && apartOn on ≡ false) where
-        pub stop-full : transistorsMost ≤ freeTransistor ts → Stop NoRoom ≡ way
-        unfolding placing
-        stop-full h = rw (e, o, s, le-leb _ _ h)
-
-        pub stop-used-up : freeTransistor ts < transistorsMost → issuesMost < next → Stop NumbersUsedUp ≡ way
-        unfolding placing
-        stop-used-up h k = rw (e, o, s, lt-leb _ _ h, lt-ltb _ _ k)
-
-        pub goes : (free : ℕ) → free ≡ freeTransistor ts → free < transistorsMost → next ≤ issuesMost → Go i free ≡ way
-        unfolding placing
-        goes free p h k = rw (e, o, s, ← p, lt-leb _ _ h, le-ltb _ _ k) (rw p)
-
--- ---- what a way tells
-
-pub stopped : (free : ℕ) (v : Verdict ℕ) {f : Refusal} → wayOf free v ≡ Stop f → v ≡ no f
-stopped free (no g) e = cc
-stopped free (yes i) e = clash cc
-
-pub went : (free : ℕ) (v : Verdict ℕ) {i k : ℕ} → wayOf free v ≡ Go i k → (v ≡ yes i) × (k ≡ free)
-went free (no g) e = clash cc
-went free (yes j) e = (cc, cc)
-
--- ---- the last test comes after it
 
 abbrev pub lastly : {A : Type 0} → Verdict A → (A → Bool) → Verdict A
 lastly (no f) over = no f

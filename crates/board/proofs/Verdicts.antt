@@ -12,8 +12,8 @@ use Rattle.name.specs.Name.{asked}
 use lib.Dec.{leb, ltb}
 use borrow.Author.Tests.{leb-false}
 use Rattle.board.specs.Counts.{nodesMost}
-use Rattle.board.specs.Verdict.{Found, none, some, loadVerdict, placeVerdict, moveVerdict}
-use Rattle.board.specs.Verdict.{liftVerdict, withdrawVerdict, nodeVerdict, offNode, someNodeOff, apart}
+use Rattle.places.specs.Arguments.{Found, none, some, offNode, someNodeOff, apart}
+use Rattle.board.specs.Verdict.{loadVerdict, placeVerdict, moveVerdict, liftVerdict, withdrawVerdict, nodeVerdict}
 use Rattle.refusal.specs.Order.{Verdict, no, yes, refuseIf, andThen, passes-if}
 use Rattle.volts.specs.Volts.{offVolts}
 use Rattle.refusal.specs.Clash.{clash}

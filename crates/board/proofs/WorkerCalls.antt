@@ -11,18 +11,20 @@ use borrow.Author.Tests.{eqb-false, eq-eqb, ne-eqb}
 use Rattle.refusal.specs.Clash.{clash}
 use Rattle.volts.specs.Volts.{givenBack, span}
 use Rattle.volts.specs.laws.Keeping.{near-set}
-use Rattle.board.specs.declared.Card.{Card}
-use Rattle.board.specs.declared.Transistor.{Transistor}
+use Rattle.places.specs.declared.Card.{Card}
+use Rattle.places.specs.declared.Transistor.{Transistor}
 use Rattle.board.specs.declared.Board.{Board}
 use Rattle.board.specs.Counts.{nodesMost, transistorsMost}
 use Rattle.board.specs.Desk.{rolesAt, overloads, flow, anyOf}
 use Rattle.board.specs.Model.{noTransistor, emptyTransistor, workedAt, placeGives, placeOverloads, totalsOf}
 use Rattle.board.specs.Model.{voltsOf}
-use Rattle.board.specs.inner.Parts.{More, Room, names, standsAt}
+use Rattle.totals.specs.inner.Sums.{More, Room}
+use Rattle.places.specs.inner.Parts.{names, standsAt}
 use Rattle.board.specs.inner.Settle.{Volts, HasCard, Settling}
-use Rattle.board.specs.inner.Sizes.{totalMost, workedMost}
+use Rattle.totals.specs.inner.Sizes.{roomMost}
+use Rattle.board.specs.inner.Sizes.{totalMost}
 use Rattle.board.proofs.Invariant.{Invariant}
-use Rattle.board.proofs.Amounts.{room-less}
+use Rattle.totals.proofs.Amounts.{room-less}
 use Rattle.board.proofs.Currents.{named-stands}
 use Rattle.board.proofs.NodeSums.{totals-room}
 use Rattle.board.proofs.Midway.{totals-changed}
@@ -58,7 +60,7 @@ module _ {b : Board} (g : Invariant b) where
       go false e = g .transistor i (eqb-false _ _ e) .quiet
 
   -- there is room for what one transistor gives
-  pub room-now : Room nodesMost workedMost (b .totals)
+  pub room-now : Room nodesMost roomMost (b .totals)
   room-now =
       room-less {a = totalMost} (omega arith)
       (rw (g .balanced) (totals-room (b .cards) (b .transistors) (voltsOf b) (g .transistors-long)))

@@ -2,21 +2,28 @@
 -- with, the voltages and the next issue number.
 -- No place, no array and no stored total is known here.
 use mathlib.Core.Path.{_≡_}
-use mathlib.Core.Bool.{Bool, true, false, cond, not, _||_}
+use mathlib.Core.Bool.{Bool, true, false, cond, not, _&&_, _||_}
 use mathlib.Core.List.{List, [], _∷_, map}
 use Prim.Native.Nat.{ℕ, suc, _+_}
-use lib.Dec.{eqb, leb, ltb}
+use lib.Dec.{eqb, leb}
 use lib.ListN.{getD, set, replicate, length}
-use lib.IntN.{ℤ, pos, natAbs, _+ℤ_, _-ℤ_}
+use lib.IntN.{ℤ, pos, natAbs, _+ℤ_}
 use Rattle.refusal.specs.declared.Refusal.{Refusal}
-use Rattle.refusal.specs.Order.{Verdict, no, yes}
-use Rattle.name.specs.Name.{padded, same}
+use Rattle.refusal.specs.declared.Refusal.the-variants.{Malformed, BadName, NameNotHeld, NoRoom, OutOfRange}
+use Rattle.refusal.specs.declared.Refusal.the-variants.{SplitCollector, Overload, CardInUse, NumbersUsedUp}
+use Rattle.refusal.specs.Order.{Verdict, no, yes, refuseIf, andThen}
+use Rattle.name.specs.Name.{asked, padded, same}
+use Rattle.volts.specs.Volts.{offVolts}
+use Rattle.card.specs.Judge.{judgeOf}
+use Rattle.card.specs.Record.{rightLength}
 use Rattle.card.specs.declared.WorkedCard.{WorkedCard}
-use Rattle.branch.specs.Rows.{Row, rowsFor, roleIndex, roles}
+use Rattle.branch.specs.Rows.{rowsFor, roles}
 use Rattle.branch.specs.Outcome.{isOver, outcomeOf}
+use Rattle.totals.specs.Gives.{rowsGive}
+unfoldable pub use Rattle.places.specs.Finding.{anyOf}
+pub use Rattle.places.specs.Finding.{larger, usedUp}
+use Rattle.places.specs.Arguments.{Found, none, some, issueOf, offNode, someNodeOff, apart, known}
 use Rattle.board.specs.Counts.{nodesMost, cardsMost, transistorsMost, issuesMost}
-use Rattle.board.specs.Verdict.{Found, none, some, issueOf, loadVerdict, placeVerdict, moveVerdict, liftVerdict}
-use Rattle.board.specs.Verdict.{withdrawVerdict, lookVerdict, nodeVerdict}
 
 pub record Held : Type 0 where
   pub issue : ℕ
@@ -63,18 +70,6 @@ rolesAt volts nodes = map (λ (n : ℕ). getD volts n (pos 0)) nodes
 unfoldable pub overloads : WorkedCard → List ℕ → List ℤ → Bool
 overloads c nodes volts = isOver (outcomeOf c (rolesAt volts nodes) .over)
 
--- x at the node m, nothing at any other
-abbrev pub atNode : ℕ → ℕ → ℤ → ℤ
-atNode m n x = cond (eqb m n) x (pos 0)
-
--- what the branches give to node n: each its ticks to its from-node, and as much less to its to-node
-unfoldable pub rowsGive : List Row → List ℕ → List ℤ → ℕ → ℤ
-rowsGive [] nodes ticks n = pos 0
-rowsGive (r ∷ rs) nodes [] n = pos 0
-rowsGive (r ∷ rs) nodes (x ∷ xs) n =
-    (atNode (getD nodes (roleIndex (r .from)) 0) n x -ℤ atNode (getD nodes (roleIndex (r .to)) 0) n x)
-    +ℤ rowsGive rs nodes xs n
-
 -- what a transistor adds to node n
 unfoldable pub flow : WorkedCard → List ℕ → List ℤ → ℕ → ℤ
 unfolding rowsGive
@@ -99,10 +94,6 @@ unfoldable pub firstWith : {A : Type 0} → (A → Bool) → List A → Found A
 firstWith p [] = none
 firstWith p (a ∷ rest) = ifTrue (p a) a (firstWith p rest)
 
-unfoldable pub anyOf : {A : Type 0} → (A → Bool) → List A → Bool
-anyOf p [] = false
-anyOf p (a ∷ rest) = p a || anyOf p rest
-
 abbrev pub keepIf : {A : Type 0} → Bool → A → List A → List A
 keepIf true a rest = a ∷ rest
 keepIf false a rest = rest
@@ -111,9 +102,6 @@ keepIf false a rest = rest
 unfoldable pub without : {A : Type 0} → (A → ℕ) → ℕ → List A → List A
 without key n [] = []
 without key n (a ∷ rest) = keepIf (not (eqb (key a) n)) a (without key n rest)
-
-abbrev pub larger : ℕ → ℕ → ℕ
-larger m n = cond (ltb m n) n m
 
 -- the highest issue among the cards of a name; 0 where there is none
 unfoldable pub highest : List ℕ → List Held → ℕ
@@ -204,38 +192,60 @@ showed d (yes n) = record { reply = shows (getD (d .volts) n (pos 0)) (total d n
 abbrev pub someOverloads : Desk → List ℤ → Bool
 someOverloads d volts = anyOf (λ (t : Standing). overloads (t .worked) (t .nodes) volts) (d .standing)
 
-abbrev pub usedUp : ℕ → Bool
-usedUp next = ltb issuesMost next
-
 abbrev pub heldAs : ℕ → List Held → Found Held
 heldAs n cards = firstWith (λ (h : Held). eqb (h .issue) n) cards
 
 abbrev pub standsAs : ℕ → List Standing → Found Standing
 standsAs n ts = firstWith (λ (t : Standing). eqb (t .issue) n) ts
 
--- the verdict on each call
-abbrev pub mayLoad : Desk → List ℕ → List ℕ → Verdict WorkedCard
-mayLoad d name bytes = loadVerdict name bytes (leb cardsMost (length (d .cards))) (usedUp (d .next))
+-- ---- which refusal a call gets: its tests in the paper's order, each with the number that it draws
 
+-- Loading: 1, 2, 6 to 10, 11, 17
+abbrev pub mayLoad : Desk → List ℕ → List ℕ → Verdict WorkedCard
+mayLoad d name bytes =
+    refuseIf (not (rightLength bytes)) Malformed
+    (refuseIf (not (asked name)) BadName
+    (andThen (judgeOf bytes)
+    (λ (c : WorkedCard). refuseIf (leb cardsMost (length (d .cards))) NoRoom
+    (refuseIf (usedUp (d .next)) NumbersUsedUp (yes c)))))
+
+-- Placing: 12, 13, 14, 11, 17, 15
 abbrev pub mayPlace : Desk → ℤ → List ℤ → Verdict Held
 mayPlace d card nodes =
-    placeVerdict (heldAs (issueOf card) (d .cards)) (λ (h : Held). h .worked)
-    (λ (h : Held). overloads (h .worked) (map natAbs nodes) (d .volts)) nodes
-    (leb transistorsMost (length (d .standing))) (usedUp (d .next))
+    andThen (known (heldAs (issueOf card) (d .cards)))
+    (λ (h : Held). refuseIf (someNodeOff nodes) OutOfRange
+    (refuseIf (h .worked .«rcbli_zero» && apart nodes) SplitCollector
+    (refuseIf (leb transistorsMost (length (d .standing))) NoRoom
+    (refuseIf (usedUp (d .next)) NumbersUsedUp
+    (refuseIf (overloads (h .worked) (map natAbs nodes) (d .volts)) Overload (yes h))))))
 
+-- Moving a voltage: 13, then 15 if some transistor that stands would overload
 abbrev pub mayMove : Desk → ℤ → ℤ → Verdict ℕ
-mayMove d n v = moveVerdict n v (someOverloads d (set (d .volts) (natAbs n) v))
+mayMove d n v =
+    refuseIf (offNode n || offVolts v) OutOfRange
+    (refuseIf (someOverloads d (set (d .volts) (natAbs n) v)) Overload (yes (natAbs n)))
 
+-- Lifting: 12
 abbrev pub mayLift : Desk → ℤ → Verdict Standing
-mayLift d n = liftVerdict (standsAs (issueOf n) (d .standing))
+mayLift d n = known (standsAs (issueOf n) (d .standing))
 
+-- Withdrawing: 12, 16
 abbrev pub mayWithdraw : Desk → ℤ → Verdict Held
 mayWithdraw d n =
-    withdrawVerdict (heldAs (issueOf n) (d .cards))
-    (λ (h : Held). anyOf (λ (t : Standing). eqb (t .card) (h .issue)) (d .standing))
+    andThen (known (heldAs (issueOf n) (d .cards)))
+    (λ (h : Held). refuseIf (anyOf (λ (t : Standing). eqb (t .card) (h .issue)) (d .standing)) CardInUse (yes h))
 
+-- Looking a name up: 2, 4; 0 is the highest issue where no card of the name is held
 abbrev pub mayLookUp : Desk → List ℕ → Verdict ℕ
-mayLookUp d name = lookVerdict name (highest (padded name) (d .cards))
+mayLookUp d name =
+    refuseIf (not (asked name)) BadName
+    (refuseIf (eqb (highest (padded name) (d .cards)) 0) NameNotHeld (yes (highest (padded name) (d .cards))))
+
+-- Reading a node: 13
+abbrev pub mayRead : ℤ → Verdict ℕ
+mayRead n = refuseIf (offNode n) OutOfRange (yes (natAbs n))
+
+-- ---- one call
 
 unfoldable pub step : Desk → Call → Step
 step d (load name bytes) = loaded d name (mayLoad d name bytes)
@@ -244,7 +254,7 @@ step d (move n v) = moved d v (mayMove d n v)
 step d (lift n) = lifted d (mayLift d n)
 step d (withdraw n) = withdrawn d (mayWithdraw d n)
 step d (lookUp name) = looked d (mayLookUp d name)
-step d (node n) = showed d (nodeVerdict n)
+step d (node n) = showed d (mayRead n)
 
 -- a fresh desk
 unfoldable pub freshDesk : Desk

@@ -3,70 +3,31 @@ use mathlib.Core.Path.{_≡_}
 use mathlib.Core.Bool.{Bool, false, cond}
 use mathlib.Core.List.{List, [], _∷_, map}
 use Prim.Native.Nat.{ℕ, zero, suc, _+_}
-use lib.Dec.{eqb, leb, ltb}
+use lib.Dec.{eqb, leb}
 use lib.ListN.{getD, set, replicate}
 use lib.IntN.{ℤ, pos, natAbs}
 use Rattle.refusal.specs.declared.Refusal.{Refusal}
 use Rattle.refusal.specs.Order.{Verdict, no, yes}
-use Rattle.name.specs.Name.{nameLength, padded, same}
+use Rattle.name.specs.Name.{padded}
 use Rattle.volts.specs.Volts.{givenBack, keptAs}
 use Rattle.card.specs.declared.WorkedCard.{WorkedCard}
-use Rattle.branch.specs.inner.Ready.{readyOf, noReady}
-use Rattle.branch.specs.Rows.{roles}
-use Rattle.board.specs.declared.Card.{Card}
-use Rattle.board.specs.declared.Transistor.{Transistor}
+use Rattle.branch.specs.inner.Ready.{readyOf}
+use Rattle.places.specs.declared.Card.{Card}
+use Rattle.places.specs.declared.Transistor.{Transistor}
+pub use Rattle.places.specs.Finding.{foundAt, isCard, isTransistor, cardPlace, transistorPlace, emptyCard, noCard}
+pub use Rattle.places.specs.Finding.{emptyTransistor, noTransistor, workedAt, freeCard, freeTransistor, standsOn}
+unfoldable pub use Rattle.places.specs.Finding.{first, highestAt}
 use Rattle.board.specs.declared.Board.{Board}
 use Rattle.board.specs.declared.Answer.the-variants.{Issue, Done, Node, Refused}
 use Rattle.board.specs.declared.Answered.{Answered}
 use Rattle.board.specs.Counts.{nodesMost, cardsMost, transistorsMost}
-use Rattle.board.specs.Verdict.{Found, none, some, issueOf, loadVerdict, placeVerdict, moveVerdict, liftVerdict}
-use Rattle.board.specs.Verdict.{withdrawVerdict, lookVerdict, nodeVerdict}
+use Rattle.places.specs.Arguments.{issueOf}
+use Rattle.board.specs.Verdict.{loadVerdict, placeVerdict, moveVerdict, liftVerdict, withdrawVerdict, lookVerdict}
+use Rattle.board.specs.Verdict.{nodeVerdict}
 use Rattle.board.specs.Desk.{Call, load, place, move, lift, withdraw, lookUp, node, overloads, flow, sumOver}
-use Rattle.board.specs.Desk.{anyOf, larger, usedUp}
-
--- ---- places
-
--- the first place that passes the test; the number of places where none does
-unfoldable pub first : {A : Type 0} → (A → Bool) → List A → ℕ
-first p [] = 0
-first p (a ∷ rest) = cond (p a) 0 (suc (first p rest))
-
--- a place as what was found, where it is below the number of places
-abbrev pub foundAt : ℕ → ℕ → Found ℕ
-foundAt most i = cond (ltb i most) (some i) none
-
--- issue 0 marks an empty place
-abbrev pub isCard : ℕ → Card → Bool
-isCard n c = eqb (c .issue) n
-
-abbrev pub isTransistor : ℕ → Transistor → Bool
-isTransistor n t = eqb (t .issue) n
-
--- the place of an issue number: 0 has none
-abbrev pub cardPlace : ℕ → List Card → Found ℕ
-cardPlace n cards = cond (eqb n 0) none (foundAt cardsMost (first (isCard n) cards))
-
-abbrev pub transistorPlace : ℕ → List Transistor → Found ℕ
-transistorPlace n ts = cond (eqb n 0) none (foundAt transistorsMost (first (isTransistor n) ts))
-
--- what a fresh board has at each place, and what is read past the last place
-abbrev pub emptyCard : Card
-emptyCard = record { issue = 0; name = replicate nameLength 0; ready = noReady }
-
-abbrev pub noCard : Card
-noCard = record { issue = 0; name = []; ready = noReady }
-
-abbrev pub emptyTransistor : Transistor
-emptyTransistor = record { issue = 0; card = 0; «card_place» = 0; nodes = replicate roles 0 }
-
-abbrev pub noTransistor : Transistor
-noTransistor = record { issue = 0; card = 0; «card_place» = 0; nodes = [] }
+use Rattle.board.specs.Desk.{anyOf, usedUp}
 
 -- ---- totals anew
-
--- the worked card at a place
-abbrev pub workedAt : List Card → ℕ → WorkedCard
-workedAt cards i = getD cards i noCard .ready .card
 
 -- what a place adds to node n: nothing where it is empty
 unfoldable pub placeGives : List Card → List ℤ → ℕ → Transistor → ℤ
@@ -103,12 +64,6 @@ voltsOf b = map givenBack (b .volts)
 
 abbrev pub refuse : Board → Refusal → Answered
 refuse b f = record { board = b; answer = Refused f }
-
-abbrev pub freeCard : List Card → ℕ
-freeCard cards = first (isCard 0) cards
-
-abbrev pub freeTransistor : List Transistor → ℕ
-freeTransistor ts = first (isTransistor 0) ts
 
 -- with these transistors at these kept voltages, each total anew
 abbrev pub settledAs : Board → List Transistor → List ℕ → ℕ → Board
@@ -189,10 +144,6 @@ abbrev pub withdrawn : Board → Verdict ℕ → Answered
 withdrawn b (no f) = refuse b f
 withdrawn b (yes i) = record { board = withCards b (set (b .cards) i emptyCard) (b .next); answer = Done }
 
--- a transistor stands on the card of this issue
-abbrev pub standsOn : ℕ → Transistor → Bool
-standsOn n t = cond (eqb (t .issue) 0) false (eqb (t .card) n)
-
 abbrev pub mayWithdraw : Board → ℤ → Verdict ℕ
 mayWithdraw b n =
     withdrawVerdict (cardPlace (issueOf n) (b .cards)) (λ (i : ℕ). anyOf (standsOn (issueOf n)) (b .transistors))
@@ -203,11 +154,6 @@ withdrawnOf b n = withdrawn b (mayWithdraw b n)
 abbrev pub looked : Board → Verdict ℕ → Answered
 looked b (no f) = refuse b f
 looked b (yes n) = record { board = b; answer = Issue n }
-
--- the highest issue among the places that hold a card of the name
-unfoldable pub highestAt : List ℕ → List Card → ℕ
-highestAt name [] = 0
-highestAt name (c ∷ cs) = larger (cond (same (c .name) name) (c .issue) 0) (highestAt name cs)
 
 abbrev pub mayLookUp : Board → List ℕ → Verdict ℕ
 mayLookUp b name = lookVerdict name (highestAt (padded name) (b .cards))

@@ -3,4 +3,3 @@
 pub mod Sizes
 pub mod Parts
 pub mod Settle
-pub mod Placing

@@ -1,35 +1,18 @@
 // The board: cards, transistors, voltages and node totals, handed from call to call by value.
 // Each method asks that calls from a fresh board left the board as it is, and gives the answer with the next board, which is such a board again.
 ghost use mathlib.Core.Path.{_≡_};
-ghost use Rattle.board.specs.Model.{emptyCard, emptyTransistor, freshBoard, refuse, loadedOf, placedOf, movedOf, liftedOf, withdrawnOf, lookedOf, showedOf, Reached};
+ghost use Rattle.board.specs.Model.{freshBoard, refuse, loadedOf, placedOf, movedOf, liftedOf, withdrawnOf, lookedOf, showedOf, Reached};
 
-mod finds; // finds.rt: looking through the places
-mod given; // given.rt: the caller's numbers
-mod rules; // rules.rt: placing's tests
-mod sets; // sets.rt: which transistors name a node
-mod sums; // sums.rt: what branches give to the totals
 mod worker; // worker.rt: currents put into the totals and taken out
 
 use branch::ROLES;
-use branch::Ready;
 use card::Judged;
+use places::Card;
+use places::ISSUES;
+use places::Transistor;
+use places::Way;
 use refusal::Refusal;
-use rules::Way;
 use volts::Voltage;
-
-pub struct Card {
-    pub issue: u32,
-    pub name: [u8; name::LENGTH],
-    pub ready: Ready,
-}
-
-// It keeps the place of its card beside the card's issue number.
-pub struct Transistor {
-    pub issue: u32,
-    pub card: u32,
-    pub card_place: u32,
-    pub nodes: [u8; ROLES],
-}
 
 pub struct Board {
     pub cards: [Card; Board::CARDS],
@@ -52,32 +35,6 @@ pub struct Answered {
     pub answer: Answer,
 }
 
-// The last issue number.
-const ISSUES: u32 = 65535;
-
-// What stands at an empty place.
-fn no_card() -> Card
-    ensures { λ r. ⌜ r ≡ emptyCard ⌝ }
-{
-    let ready = branch::no_ready();
-    Card {
-        issue: 0,
-        name: [0u8; name::LENGTH],
-        ready,
-    }
-}
-
-fn no_transistor() -> Transistor
-    ensures { λ r. ⌜ r ≡ emptyTransistor ⌝ }
-{
-    Transistor {
-        issue: 0,
-        card: 0,
-        card_place: 0,
-        nodes: [0u8; ROLES],
-    }
-}
-
 // The board as it was.
 fn refused(b: Board, f: Refusal) -> Answered
     ensures { λ r. ⌜ r ≡ refuse b f ⌝ }
@@ -89,19 +46,19 @@ fn refused(b: Board, f: Refusal) -> Answered
 }
 
 impl Board {
-    pub const NODES: usize = 32;
+    pub const NODES: usize = totals::NODES;
 
-    pub const CARDS: usize = 16;
+    pub const CARDS: usize = places::CARDS;
 
-    pub const TRANSISTORS: usize = 64;
+    pub const TRANSISTORS: usize = places::TRANSISTORS;
 
     // No cards, no transistors, and every voltage and total 0.
     pub fn fresh() -> Board
         ensures { λ r. ⌜ r ≡ freshBoard ⌝ }
         ensures { λ r. ⌜ Reached r ⌝ }
     {
-        let card = no_card();
-        let t = no_transistor();
+        let card = places::no_card();
+        let t = places::no_transistor();
         Board {
             cards: [card; Board::CARDS],
             transistors: [t; Board::TRANSISTORS],
@@ -128,7 +85,7 @@ impl Board {
             Judged::Refused(f) => refused(self, f),
             Judged::Card(worked) => {
                 let mut cards = self.cards;
-                let i = finds::find_card(cards, 0);
+                let i = places::find_card(cards, 0);
                 if Board::CARDS <= i {
                     return refused(self, Refusal::NoRoom);
                 }
@@ -160,12 +117,12 @@ impl Board {
         ensures { λ r. ⌜ r ≡ placedOf self card nodes ⌝ }
         ensures { λ r. ⌜ Reached (r .board) ⌝ }
     {
-        let n = given::issue_of(card);
-        let on = given::nodes_of(nodes);
+        let n = places::issue_of(card);
+        let on = places::nodes_of(nodes);
         let cards = self.cards;
         let ts = self.transistors;
         let issue = self.next;
-        let way = rules::may_place(cards, ts, issue, n, on);
+        let way = places::may_place(cards, ts, issue, n, on);
         match way {
             Way::Stop(f) => refused(self, f),
             Way::Go(at, free) => {
@@ -201,7 +158,7 @@ impl Board {
         ensures { λ r. ⌜ r ≡ movedOf self node microvolts ⌝ }
         ensures { λ r. ⌜ Reached (r .board) ⌝ }
     {
-        let k = given::node_of(node);
+        let k = places::node_of(node);
         let n = k as usize;
         if Board::NODES <= n {
             return refused(self, Refusal::OutOfRange);
@@ -232,9 +189,9 @@ impl Board {
         ensures { λ r. ⌜ r ≡ liftedOf self transistor ⌝ }
         ensures { λ r. ⌜ Reached (r .board) ⌝ }
     {
-        let n = given::issue_of(transistor);
+        let n = places::issue_of(transistor);
         let ts = self.transistors;
-        let i = finds::transistor_at(ts, n);
+        let i = places::transistor_at(ts, n);
         if Board::TRANSISTORS <= i {
             return refused(self, Refusal::Unknown);
         }
@@ -246,7 +203,7 @@ impl Board {
         let mut totals = self.totals;
         let nodes = t.nodes;
         worker::take_out(&mut totals, &table, c, &nodes, &volts);
-        let none = no_transistor();
+        let none = places::no_transistor();
         self.transistors[i] = none;
         self.totals = totals;
         Answered {
@@ -261,17 +218,17 @@ impl Board {
         ensures { λ r. ⌜ r ≡ withdrawnOf self card ⌝ }
         ensures { λ r. ⌜ Reached (r .board) ⌝ }
     {
-        let n = given::issue_of(card);
+        let n = places::issue_of(card);
         let mut cards = self.cards;
-        let i = finds::card_at(cards, n);
+        let i = places::card_at(cards, n);
         if Board::CARDS <= i {
             return refused(self, Refusal::Unknown);
         }
         let ts = self.transistors;
-        if finds::any_on(ts, n) {
+        if places::any_on(ts, n) {
             return refused(self, Refusal::CardInUse);
         }
-        let c = no_card();
+        let c = places::no_card();
         cards[i] = c;
         self.cards = cards;
         Answered {
@@ -291,7 +248,7 @@ impl Board {
         }
         let asked = name::pad(name);
         let cards = self.cards;
-        let n = finds::highest(cards, &asked);
+        let n = places::highest(cards, &asked);
         if n == 0 {
             return refused(self, Refusal::NameNotHeld);
         }
@@ -307,7 +264,7 @@ impl Board {
         ensures { λ r. ⌜ r ≡ showedOf self node ⌝ }
         ensures { λ r. ⌜ Reached (r .board) ⌝ }
     {
-        let n = given::node_of(node) as usize;
+        let n = places::node_of(node) as usize;
         if Board::NODES <= n {
             return refused(self, Refusal::OutOfRange);
         }

@@ -10,18 +10,17 @@ ghost use Rattle.branch.specs.Outcome.{outcomeOf, isOver};
 ghost use Rattle.board.specs.Counts.{nodesMost};
 ghost use Rattle.board.specs.Desk.{rolesAt, overloads, flow, anyOf};
 ghost use Rattle.board.specs.Model.{placeOverloads, totalsOf};
-ghost use Rattle.board.specs.inner.Parts.{More, Room, Wired, rolesOf, placeOfCard, backFlow};
-ghost use Rattle.board.specs.inner.Sizes.{workedMost};
+ghost use Rattle.totals.specs.inner.Sums.{More, Room, Wired};
+ghost use Rattle.board.specs.inner.Parts.{rolesOf, placeOfCard, backFlow};
+ghost use Rattle.totals.specs.inner.Sizes.{roomMost};
 ghost use Rattle.board.specs.inner.Settle.{Workable, Settling};
 use crate::Board;
-use crate::Card;
-use crate::Transistor;
-use crate::sets;
-use crate::sums;
 use branch::Outcome;
 use branch::Over;
 use branch::ROLES;
 use octave::Table;
+use places::Card;
+use places::Transistor;
 
 fn volt(volts: &[u32; Board::NODES], n: u8) -> u32
     requires { ⌜ n < nodesMost ⌝ }
@@ -73,13 +72,13 @@ pub(crate) fn put_in(
     nodes: &[u8; ROLES],
     volts: &[u32; Board::NODES],
 ) -> bool
-    requires { ⌜ Workable (now table) c (now nodes) (now volts) × Room nodesMost workedMost (now l) ⌝ }
+    requires { ⌜ Workable (now table) c (now nodes) (now volts) × Room nodesMost roomMost (now l) ⌝ }
     ensures { λ r. ⌜ r ≡ overloads (c .ready .card) (now (nodes .entry)) (map givenBack (now (volts .entry))) ⌝ }
     ensures { λ _. ⌜ More nodesMost (now (l .entry)) (now (l .exit)) (flow (c .ready .card) (now (nodes .entry)) (map givenBack (now (volts .entry)))) ⌝ }
 {
     let o = work(table, c, nodes, volts);
     let ticks = o.ticks;
-    sums::put(l, nodes, &ticks);
+    totals::put(l, nodes, &ticks);
     let over = o.over;
     is_over(over)
 }
@@ -92,12 +91,12 @@ pub(crate) fn take_out(
     nodes: &[u8; ROLES],
     volts: &[u32; Board::NODES],
 )
-    requires { ⌜ Workable (now table) c (now nodes) (now volts) × Room nodesMost workedMost (now l) ⌝ }
+    requires { ⌜ Workable (now table) c (now nodes) (now volts) × Room nodesMost roomMost (now l) ⌝ }
     ensures { λ _. ⌜ More nodesMost (now (l .entry)) (now (l .exit)) (backFlow (c .ready .card) (now (nodes .entry)) (map givenBack (now (volts .entry)))) ⌝ }
 {
     let o = work(table, c, nodes, volts);
     let ticks = o.ticks;
-    sums::take(l, nodes, &ticks);
+    totals::take(l, nodes, &ticks);
 }
 
 // The place of the card on which a transistor stands.
@@ -131,7 +130,7 @@ pub(crate) fn settle(
     let mut over = false;
     for i in 0..Board::TRANSISTORS {
         let t = ts[i];
-        if sets::is_at(t, n) {
+        if places::is_at(t, n) {
             let s = card_place_of(t);
             let c = cards[s];
             let nodes = t.nodes;

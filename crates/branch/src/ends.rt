@@ -1,18 +1,48 @@
-// Where the branches start and end, as places of their roles among the voltages of a transistor.
+// The roles by their numbers, and at which of them the branches start and end.
 ghost use mathlib.Core.Path.{_≡_};
 ghost use Rattle.branch.specs.Ends.{fromRoles, toRoles};
 use crate::BRANCHES;
 
-// The roles at which the branches start: C2, B2, B1, B2, B1, B1, S.
+pub const E1: usize = 0;
+
+pub const B1: usize = 1;
+
+pub const B2: usize = 2;
+
+pub const C1: usize = 3;
+
+pub const C2: usize = 4;
+
+pub const C4: usize = 5;
+
+pub const S: usize = 6;
+
+// The roles at which the branches start.
 pub fn from_roles() -> [u8; BRANCHES]
     ensures { λ r. ⌜ r ≡ fromRoles ⌝ }
 {
-    [4, 2, 1, 2, 1, 1, 6]
+    [
+        C2 as u8,
+        B2 as u8,
+        B1 as u8,
+        B2 as u8,
+        B1 as u8,
+        B1 as u8,
+        S as u8,
+    ]
 }
 
-// The roles at which they end: E1 four times, C4, S, C1.
+// The roles at which they end.
 pub fn to_roles() -> [u8; BRANCHES]
     ensures { λ r. ⌜ r ≡ toRoles ⌝ }
 {
-    [0, 0, 0, 0, 5, 6, 3]
+    [
+        E1 as u8,
+        E1 as u8,
+        E1 as u8,
+        E1 as u8,
+        C4 as u8,
+        S as u8,
+        C1 as u8,
+    ]
 }

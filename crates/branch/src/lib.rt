@@ -16,6 +16,8 @@ mod empty; // empty.rt: a ready card of zeros
 use card::Judged;
 use card::WorkedCard;
 pub use empty::no_ready;
+pub use ends::C1;
+pub use ends::C4;
 pub use ends::from_roles;
 pub use ends::to_roles;
 use octave::Reciprocal;

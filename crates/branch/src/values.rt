@@ -15,6 +15,13 @@ use crate::Ready;
 use crate::TICK_PLACES;
 use crate::TICKS_MOST;
 use crate::Terms;
+use crate::ends::B1;
+use crate::ends::B2;
+use crate::ends::C1;
+use crate::ends::C2;
+use crate::ends::C4;
+use crate::ends::E1;
+use crate::ends::S;
 use float::Split;
 use octave::Exponential;
 use octave::Reciprocal;
@@ -28,21 +35,6 @@ const PARTS: u64 = TICK_PLACES - PART_PLACES;
 
 // Shifted down by so many places or more, nothing is left of a product.
 const NOTHING: u64 = 63;
-
-// The roles' places among the voltages.
-const E1: usize = 0;
-
-const B1: usize = 1;
-
-const B2: usize = 2;
-
-const C1: usize = 3;
-
-const C2: usize = 4;
-
-const C4: usize = 5;
-
-const S: usize = 6;
 
 // Ticks of a value whose power is kept as `down`: 2^50 of them make an ampere.
 const ALONE: u64 = float::BIAS as u64 + TICK_PLACES;

@@ -20,15 +20,14 @@ use Rattle.card.specs.declared.WorkedCard.{WorkedCard}
 use Rattle.branch.specs.inner.Ready.{readyOf}
 use Rattle.branch.proofs.Laws.{ready-card}
 use Rattle.branch.specs.Rows.{roles}
-use Rattle.board.specs.declared.Card.{Card}
-use Rattle.board.specs.declared.Transistor.{Transistor}
+use Rattle.places.specs.declared.Card.{Card}
+use Rattle.places.specs.declared.Transistor.{Transistor}
 use Rattle.board.specs.declared.Board.{Board}
-use Rattle.board.specs.declared.Answered.{Answered}
 use Rattle.board.specs.Counts.{nodesMost, cardsMost, transistorsMost}
-use Rattle.board.specs.Verdict.{Found, none, some, issueOf, placeVerdict, moveVerdict, liftVerdict}
-use Rattle.board.specs.Verdict.{withdrawVerdict, nodeVerdict}
+use Rattle.places.specs.Arguments.{Found, none, some, issueOf}
+use Rattle.board.specs.Verdict.{placeVerdict, moveVerdict, liftVerdict, withdrawVerdict, nodeVerdict}
 use Rattle.board.specs.Desk as desk
-use Rattle.board.specs.Desk.{Held, Standing, Desk, Step, Call, load, place, move, lift, withdraw, lookUp, node}
+use Rattle.board.specs.Desk.{Held, Standing, Desk, Call, load, place, move, lift, withdraw, lookUp, node}
 use Rattle.board.specs.Desk.{overloads, sumOver, anyOf, firstWith, heldAs, standsAs, without, larger, highest}
 use Rattle.board.specs.Desk.{flow, total, someOverloads, step, freshDesk, after}
 use Rattle.board.specs.Model as board
@@ -43,12 +42,14 @@ use Rattle.days.proofs.Perms.{perm-join, perm-length, perm-sum, perm-an
 use Rattle.days.proofs.Perms.{perm-without, perm-highest}
 use Rattle.days.proofs.Places.{sum-occupied, any-occupied, full, join, seen, find, find-none}
 use Rattle.days.proofs.Places.{count-occupied, leave}
-use Rattle.board.proofs.Lists.{getD-map}
+use Rattle.totals.proofs.Lists.{getD-map}
 use Rattle.board.proofs.NodeSums.{totals-at}
 use Rattle.board.proofs.Verdicts.{loads, places, moves, lifts, withdraws, shown}
 use Rattle.board.proofs.Invariant.{Invariant, invariant-after, at-card, AtCard, at-transistor, AtTransistor}
 use Rattle.board.proofs.Invariant.{unused-away, worked-same, free-card}
 use Rattle.days.proofs.Orderly.{Orderly, orderly-after}
+use Rattle.days.proofs.Orders.{order-load, order-place, order-move, order-lift, order-withdraw, order-look}
+use Rattle.days.proofs.Orders.{order-read}
 
 -- ---- verdicts on what was found by place, and on the same found by itself
 
@@ -143,8 +144,8 @@ module _ (b : Board) (d : Desk) (g : Invariant b) (o : Orderly d) (s : Stands b 
       ∙ go (eqb n 0) refl
     where
       go : (t : Bool) → eqb n 0 ≡ t →
-          firstWith (λ (u : Standing). eqb (u .issue) n) (standingIn (b .cards) (b .transistors)) ≡ mapFound (standingAt b)
-          (cond t none (foundAt transistorsMost (first (isTransistor n) (b .transistors))))
+          firstWith (λ (u : Standing). eqb (u .issue) n) (standingIn (b .cards) (b .transistors)) ≡ mapFound
+          (standingAt b) (cond t none (foundAt transistorsMost (first (isTransistor n) (b .transistors))))
       go true e =
           rw (eqb-true n 0 e)
           (find-none (λ (t : Transistor). t .issue) (standingOf (b .cards)) (λ (u : Standing). u .issue) (λ t. refl)
@@ -202,7 +203,7 @@ module _ (b : Board) (d : Desk) (g : Invariant b) (o : Orderly d) (s : Stands b 
       (go (board.mayLoad b name bytes) refl)
     where
       agree : board.mayLoad b name bytes ≡ desk.mayLoad d name bytes
-      agree = rw (cards-full b d g o s, s .next)
+      agree = rw (← (order-load d name bytes), cards-full b d g o s, s .next)
 
       new : (c : WorkedCard) →
           heldOf (record { issue = b .next; name = padded name; ready = readyOf c })
@@ -232,7 +233,15 @@ module _ (b : Board) (d : Desk) (g : Invariant b) (o : Orderly d) (s : Stands b 
       (go (board.mayPlace b card nodes) refl)
     where
       agree : mapVerdict (heldAt b) (board.mayPlace b card nodes) ≡ desk.mayPlace d card nodes
-      agree = rw (card-by b d g o s (issueOf card), map-place (heldAt b), transistors-full b d g o s, s .next, s .volts)
+      agree =
+          rw (
+            ← (order-place d card nodes),
+            card-by b d g o s (issueOf card),
+            map-place (heldAt b),
+            transistors-full b d g o s,
+            s .next,
+            s .volts,
+          )
 
       new : (i : ℕ) →
           standingOf (b .cards)
@@ -265,8 +274,8 @@ module _ (b : Board) (d : Desk) (g : Invariant b) (o : Orderly d) (s : Stands b 
   -- out of range both refuse before they look at what stands
   agree-move : (n v : ℤ) (t : Bool) → offVolts v ≡ t → board.mayMove b n v ≡ desk.mayMove d n v
   unfolding moveVerdict
-  agree-move n v true e = rw e
-  agree-move n v false e = rw (any-standing b d g o s, moved-volts v (natAbs n) e)
+  agree-move n v true e = rw (← (order-move d n v), e)
+  agree-move n v false e = rw (← (order-move d n v), any-standing b d g o s, moved-volts v (natAbs n) e)
 
   follow-move : (n v : ℤ) → Follow (movedOf b n v) (step d (move n v))
   unfolding movedOf step
@@ -324,7 +333,7 @@ module _ (b : Board) (d : Desk) (g : Invariant b) (o : Orderly d) (s : Stands b 
       subst (λ (v : Verdict Standing). Follow (liftedOf b n) (desk.lifted d v)) agree (go (board.mayLift b n) refl)
     where
       agree : mapVerdict (standingAt b) (board.mayLift b n) ≡ desk.mayLift d n
-      agree = rw (transistor-by b d g o s (issueOf n), map-lift (standingAt b))
+      agree = rw (← (order-lift d n), transistor-by b d g o s (issueOf n), map-lift (standingAt b))
 
       go : (v : Verdict ℕ) → board.mayLift b n ≡ v →
           Follow (board.lifted b v) (desk.lifted d (mapVerdict (standingAt b) v))
@@ -348,13 +357,13 @@ module _ (b : Board) (d : Desk) (g : Invariant b) (o : Orderly d) (s : Stands b 
   agree-withdraw : (n : ℤ) (found : Found ℕ) → cardPlace (issueOf n) (b .cards) ≡ found →
       mapVerdict (heldAt b) (board.mayWithdraw b n) ≡ desk.mayWithdraw d n
   unfolding withdrawVerdict
-  agree-withdraw n none e = rw (card-by b d g o s (issueOf n), e)
+  agree-withdraw n none e = rw (← (order-withdraw d n), card-by b d g o s (issueOf n), e)
   agree-withdraw n (some i) e =
       let a = at-card (issueOf n) (b .cards) i (g .cards-long) e in
       let used : anyOf (standsOn (issueOf n)) (b .transistors) ≡ anyOf (λ (t : Standing). eqb (t .card) (heldAt b i .issue)) (d .standing) =
       sym (any-on b d g o s (issueOf n))
       ∙ ap (λ (k : ℕ). anyOf (λ (t : Standing). eqb (t .card) k) (d .standing)) (sym (a .issue-is)) in
-      rw (card-by b d g o s (issueOf n), e)
+      rw (← (order-withdraw d n), card-by b d g o s (issueOf n), e)
       (map-refuse (heldAt b) (anyOf (standsOn (issueOf n)) (b .transistors)) _ _
       ∙ ap (λ (t : Bool). refuseIf t CardInUse (yes (heldAt b i))) used)
 
@@ -388,7 +397,8 @@ module _ (b : Board) (d : Desk) (g : Invariant b) (o : Orderly d) (s : Stands b 
       subst (λ (v : Verdict ℕ). Follow (lookedOf b name) (desk.looked d v)) agree (go (board.mayLookUp b name))
     where
       agree : board.mayLookUp b name ≡ desk.mayLookUp d name
-      agree = rw (← (highest-held (padded name) (b .cards)), perm-highest (padded name) (s .cards))
+      agree =
+          rw (← (order-look d name), ← (highest-held (padded name) (b .cards)), perm-highest (padded name) (s .cards))
 
       go : (v : Verdict ℕ) → Follow (board.looked b v) (desk.looked d v)
       go (no f) = record { reply = refl; board = s }
@@ -396,7 +406,8 @@ module _ (b : Board) (d : Desk) (g : Invariant b) (o : Orderly d) (s : Stands b 
 
   follow-node : (n : ℤ) → Follow (showedOf b n) (step d (node n))
   unfolding showedOf step
-  follow-node n = go (nodeVerdict n) refl
+  follow-node n =
+      subst (λ (v : Verdict ℕ). Follow (showedOf b n) (desk.showed d v)) (order-read n) (go (nodeVerdict n) refl)
     where
       go : (v : Verdict ℕ) → nodeVerdict n ≡ v → Follow (board.showed b v) (desk.showed d v)
       go (no f) e = record { reply = refl; board = s }
@@ -413,7 +424,8 @@ pub stands-fresh : Stands freshBoard freshDesk
 unfolding freshBoard freshDesk occupied
 stands-fresh = record { cards = empty; standing = empty; volts = refl; next = refl }
 
-pub follow : (b : Board) (d : Desk) → Invariant b → Orderly d → Stands b d → (c : Call) → Follow (answered b c) (step d c)
+pub follow : (b : Board) (d : Desk) → Invariant b → Orderly d → Stands b d → (c : Call) →
+    Follow (answered b c) (step d c)
 unfolding answered
 follow b d g o s (load name bytes) = follow-load b d g o s name bytes
 follow b d g o s (place card nodes sized) = follow-place b d g o s card nodes sized

@@ -14,7 +14,7 @@ use Rattle.refusal.specs.Order.{Verdict, no, yes}
 use Rattle.refusal.specs.Clash.{clash}
 use Rattle.whole.specs.laws.Biased.{below-or-not}
 use Rattle.card.specs.declared.WorkedCard.{WorkedCard}
-use Rattle.board.specs.Verdict.{Found, none, some, issueOf, liftVerdict, nodeVerdict}
+use Rattle.places.specs.Arguments.{Found, none, some, issueOf, known}
 use Rattle.board.specs.Desk as desk
 use Rattle.board.specs.Desk.{Held, Standing, Desk, Call, load, place, move, lift, withdraw, lookUp, node}
 use Rattle.board.specs.Desk.{anyOf, firstWith, ifTrue, standsAs, without, keepIf, step, after}
@@ -94,8 +94,7 @@ module _ (d : Desk) (k : ℕ) (given : k < d .next) where
       record { next = omega arith; standing = rw (ne-eqb (d .next) k (λ e. omega arith)) }
 
   stays-lift : (n : ℤ) (found : Found Standing) → standsAs (issueOf n) (d .standing) ≡ found →
-      Stays d k (eqb (issueOf n) k) (desk.lifted d (liftVerdict found) .desk)
-  unfolding liftVerdict
+      Stays d k (eqb (issueOf n) k) (desk.lifted d (known found) .desk)
   stays-lift n none e = record { next = le-refl _; standing = go (eqb (issueOf n) k) refl }
     where
       go : (t : Bool) → eqb (issueOf n) k ≡ t →
@@ -135,7 +134,7 @@ module _ (d : Desk) (k : ℕ) (given : k < d .next) where
       go : (w : Verdict ℕ) → Stays d k false (desk.looked d w .desk)
       go (no f) = still d k
       go (yes m) = still d k
-  stays (node n) = go (nodeVerdict n)
+  stays (node n) = go (desk.mayRead n)
     where
       go : (w : Verdict ℕ) → Stays d k false (desk.showed d w .desk)
       go (no f) = still d k

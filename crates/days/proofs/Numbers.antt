@@ -1,27 +1,27 @@
 -- Issue numbers over any calls: never given twice; and lifting the one just placed brings every total back.
 use mathlib.Core.Path.{_≡_, refl, sym, ap, _∙_, subst}
-use mathlib.Core.Bool.{Bool, true, false, cond, not}
+use mathlib.Core.Bool.{Bool, true, false, not}
 use mathlib.Core.List.{List, [], _∷_}
 use Prim.Native.Nat.{ℕ, _+_, _≤_, _<_}
-use native.Mathlib.Nat.{le-of-eq, le-refl}
+use native.Mathlib.Nat.{le-refl}
 use native.Mathlib.Omega.{arith}
 use lib.Dec.{eqb, ltb}
 use lib.ListN.{length}
 use lib.Seq.{ext-getD}
 use lib.IntN.{ℤ, pos}
-use borrow.Author.Tests.{eqb-true, eqb-false, eq-eqb, ltb-false, le-leb}
+use borrow.Author.Tests.{eq-eqb, ltb-false, le-leb}
 use Rattle.refusal.specs.Order.{Verdict, no, yes}
 use Rattle.refusal.specs.Clash.{clash}
 use Rattle.card.specs.declared.WorkedCard.{WorkedCard}
 use Rattle.branch.specs.Rows.{roles}
 use Rattle.board.specs.declared.Board.{Board}
-use Rattle.board.specs.declared.Answer.{Answer}
-use Rattle.board.specs.declared.Answer.the-variants.{Issue, Done, Node, Refused}
+use Rattle.board.specs.declared.Answer.the-variants.{Issue}
 use Rattle.board.specs.Counts.{issuesMost}
-use Rattle.board.specs.Verdict.{Found, none, some, issueOf, liftVerdict, nodeVerdict}
+use Rattle.places.specs.Arguments.{issueOf}
+use Rattle.board.specs.Verdict.{nodeVerdict}
 use Rattle.board.specs.Desk as desk
 use Rattle.board.specs.Desk.{Held, Standing, Desk, Call, load, place, move, lift, withdraw, lookUp, node}
-use Rattle.board.specs.Desk.{firstWith, ifTrue, standsAs, without, keepIf, total, step, after}
+use Rattle.board.specs.Desk.{firstWith, without, keepIf, total, step, after}
 use Rattle.board.specs.Model as board
 use Rattle.board.specs.Model.{loadedOf, placedOf, movedOf, liftedOf, withdrawnOf, lookedOf, showedOf, answered}
 use Rattle.board.specs.Model.{boardAfter}
@@ -31,7 +31,8 @@ use Rattle.days.proofs.Perms.{count, more}
 use Rattle.board.proofs.Verdicts.{loads, places}
 use Rattle.board.proofs.Invariant.{invariant-after, totals-long}
 use Rattle.days.proofs.Orderly.{Orderly, orderly-after}
-use Rattle.days.proofs.Follows.{stands-after, follows}
+use Rattle.days.proofs.Orders.{order-place}
+use Rattle.days.proofs.Follows.{follows}
 use Rattle.days.proofs.Totals.{totals-are-sums}
 
 -- ---- no number is given twice
@@ -95,7 +96,8 @@ module _ (b : Board) (l : List ℕ) (begun : 1 ≤ b .next) (f : Falls (b .next)
 pub issues-never-twice : (calls : List Call) → Falls (boardAfter calls .next) (givenBy calls)
 unfolding givenBy boardAfter
 issues-never-twice [] = end
-issues-never-twice (c ∷ cs) = falls-call (boardAfter cs) (givenBy cs) (invariant-after cs .begun) (issues-never-twice cs) c
+issues-never-twice (c ∷ cs) =
+    falls-call (boardAfter cs) (givenBy cs) (invariant-after cs .begun) (issues-never-twice cs) c
 
 -- ---- lifting the one just placed
 
@@ -124,7 +126,7 @@ take-back : (d : Desk) → Orderly d → (t : Standing) (later : ℕ) → t .iss
     (desk.lifted (record { cards = d .cards; standing = t ∷ d .standing; volts = d .volts; next = later })
     (desk.mayLift (record { cards = d .cards; standing = t ∷ d .standing; volts = d .volts; next = later })
     (pos (d .next))) .desk)
-unfolding firstWith liftVerdict without
+unfolding firstWith without
 take-back d o t later e h =
     rw (issue-kept (d .next) h, eq-eqb (t .issue) (d .next) e)
     (record {
@@ -146,9 +148,10 @@ undo d o card nodes sized n e = go (desk.mayPlace d card nodes) refl e
     go (no f) p r = clash cc
     go (yes h) p r =
         let same : d .next ≡ n = cc in
+        let m = places (desk.heldAs (issueOf card) (d .cards)) (order-place d card nodes ∙ p) .number in
         rw (← same)
         (take-back d o _ _ refl
-        (ltb-false issuesMost (d .next) (places (desk.heldAs (issueOf card) (d .cards)) p .number)))
+        (ltb-false issuesMost (d .next) m))
 
 total-same : {d e : Desk} → Undone d e → (i : ℕ) → total e i ≡ total d i
 unfolding total

@@ -9,10 +9,9 @@ use lib.Dec.{eqb, lit≤}
 use borrow.Author.Tests.{eqb-true, ne-eqb}
 use Rattle.refusal.specs.Order.{Verdict, no, yes}
 use Rattle.card.specs.declared.WorkedCard.{WorkedCard}
-use Rattle.board.specs.Verdict.{nodeVerdict}
 use Rattle.board.specs.Desk.{Held, Standing, Desk, Call, load, place, move, lift, withdraw, lookUp, node}
 use Rattle.board.specs.Desk.{without, keepIf, loaded, placed, moved, lifted, withdrawn, looked, showed, mayLoad}
-use Rattle.board.specs.Desk.{mayPlace, mayMove, mayLift, mayWithdraw, mayLookUp, step, freshDesk, after}
+use Rattle.board.specs.Desk.{mayPlace, mayMove, mayLift, mayWithdraw, mayLookUp, mayRead, step, freshDesk, after}
 use Rattle.days.proofs.Perms.{count, more}
 
 -- things whose keys are their numbers: each number at most once, and below next
@@ -114,7 +113,7 @@ orderly-step d (lookUp name) o = go (mayLookUp d name)
     go : (v : Verdict ℕ) → Orderly (looked d v .desk)
     go (no f) = o
     go (yes n) = o
-orderly-step d (node n) o = go (nodeVerdict n)
+orderly-step d (node n) o = go (mayRead n)
   where
     go : (v : Verdict ℕ) → Orderly (showed d v .desk)
     go (no f) = o

@@ -10,7 +10,7 @@ use lib.ListN.{length, getD, set}
 use lib.IntN.{ℤ, pos, _+ℤ_, +ℤ-idl}
 use borrow.Author.Tests.{eqb-true, eqb-false, eq-eqb, ne-eqb, lt-leb, lt-ltb}
 use Rattle.board.specs.Desk.{sumOver, anyOf, firstWith, without, keepIf}
-use Rattle.board.specs.Verdict.{Found, none, some}
+use Rattle.places.specs.Arguments.{none, some}
 use Rattle.board.specs.Model.{first, foundAt}
 use Rattle.days.specs.Stands.{occupied, mapFound}
 use Rattle.days.specs.Perm.{Perm, keep, swap, then}

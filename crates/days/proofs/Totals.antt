@@ -15,17 +15,18 @@ use Rattle.branch.specs.declared.Over.{Over}
 use Rattle.branch.specs.declared.Over.the-variants.{Within, Ticks, Injection}
 use Rattle.branch.specs.Rows.{Row, rowsFor, roleIndex}
 use Rattle.branch.specs.Outcome.{outcomeOf, isOver}
-use Rattle.board.specs.declared.Card.{Card}
-use Rattle.board.specs.declared.Transistor.{Transistor}
+use Rattle.places.specs.declared.Card.{Card}
+use Rattle.places.specs.declared.Transistor.{Transistor}
 use Rattle.board.specs.declared.Board.{Board}
 use Rattle.board.specs.Counts.{nodesMost}
-use Rattle.board.specs.Desk.{Standing, Call, rolesAt, overloads, atNode, rowsGive, flow, sumOver, total, after}
+use Rattle.totals.specs.Gives.{atNode, rowsGive}
+use Rattle.board.specs.Desk.{Standing, Call, rolesAt, overloads, flow, sumOver, total, after}
 use Rattle.board.specs.Model.{noTransistor, workedAt, placeGives, tabulate, totalsOf, voltsOf, boardAfter}
 use Rattle.board.specs.Model.{Reached}
 use Rattle.days.specs.Perm.{Perm}
 use Rattle.days.specs.Stands.{standingOf, standingIn}
 use Rattle.days.specs.Fitted.{sumAll, Fitted, fittedOf, fittedIn}
-use Rattle.board.proofs.Integers.{turned, swap-inner}
+use Rattle.totals.proofs.Integers.{turned, swap-inner}
 use Rattle.days.proofs.Perms.{perm-sum}
 use Rattle.days.proofs.Places.{sum-occupied}
 use Rattle.board.proofs.NodeSums.{tabulate-same, totals-room}

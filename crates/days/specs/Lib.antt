@@ -2,3 +2,4 @@ pub mod Perm
 pub mod Stands
 pub mod Fitted
 pub mod Numbers
+pub mod Promised

@@ -6,7 +6,7 @@ use lib.Dec.{eqb}
 use Rattle.board.specs.declared.Answer.{Answer}
 use Rattle.board.specs.declared.Answer.the-variants.{Issue, Done, Node, Refused}
 use Rattle.board.specs.Counts.{issuesMost}
-use Rattle.board.specs.Verdict.{issueOf}
+use Rattle.places.specs.Arguments.{issueOf}
 use Rattle.board.specs.Desk.{Call, load, place, move, lift, withdraw, lookUp, node}
 use Rattle.board.specs.Model.{answered, boardAfter}
 

@@ -6,13 +6,13 @@ use mathlib.Core.List.{List, [], _∷_}
 use Prim.Native.Nat.{ℕ}
 use lib.Dec.{eqb}
 use lib.ListN.{getD}
-use Rattle.board.specs.declared.Card.{Card}
-use Rattle.board.specs.declared.Transistor.{Transistor}
+use Rattle.places.specs.declared.Card.{Card}
+use Rattle.places.specs.declared.Transistor.{Transistor}
 use Rattle.board.specs.declared.Board.{Board}
 use Rattle.board.specs.declared.Answer.{Answer}
 use Rattle.board.specs.declared.Answer.the-variants.{Issue, Done, Node, Refused}
 use Rattle.board.specs.declared.Answered.{Answered}
-use Rattle.board.specs.Verdict.{Found, none, some}
+use Rattle.places.specs.Arguments.{Found, none, some}
 use Rattle.board.specs.Desk.{Held, Standing, Desk, Step, Reply, issued, done, shows, refused, keepIf}
 use Rattle.board.specs.Model.{noCard, noTransistor, workedAt, transistorPlace, voltsOf}
 use Rattle.days.specs.Perm.{Perm}

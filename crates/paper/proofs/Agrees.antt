@@ -28,7 +28,8 @@ use Rattle.branch.proofs.Laws.{askable}
 use Rattle.board.specs.declared.Board.{Board}
 use Rattle.board.specs.Counts.{cardsMost}
 use Rattle.board.specs.Verdict.{loadOrder, loadVerdict, placeVerdict, moveVerdict}
-use Rattle.board.specs.Desk.{overloads, rowsGive, flow, sumOver, anyOf, usedUp}
+use Rattle.totals.specs.Gives.{rowsGive}
+use Rattle.board.specs.Desk.{overloads, flow, sumOver, anyOf, usedUp}
 use Rattle.board.specs.Model.{first, freeCard, placeGives, placeOverloads, tabulate, totalsOf, freshBoard, loaded}
 use Rattle.board.specs.Model.{loadedOf, placedOf, movedOf}
 use Rattle.paper.specs.Words.{recordOf}

@@ -1,4 +1,5 @@
--- The worked cases that are proved, as one list. Each works a value from the very definitions that the contracts cite; `paper-agrees` in proofs/ is the theorem.
+-- The worked cases that are proved, as one list. Each works a value from the very definitions that the contracts
+-- cite; `paper-agrees` in proofs/ is the theorem.
 use mathlib.Core.List.{List, [], _∷_}
 use Prim.Native.Nat.{ℕ}
 use lib.ListN.{getD, take, replicate}

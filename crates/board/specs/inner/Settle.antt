@@ -10,11 +10,11 @@ use Rattle.volts.specs.Volts.{givenBack, AllNear}
 use Rattle.octave.specs.Table.{entries}
 use Rattle.branch.specs.inner.Ready.{IsReady}
 use Rattle.branch.specs.Rows.{roles}
-use Rattle.board.specs.declared.Card.{Card}
-use Rattle.board.specs.declared.Transistor.{Transistor}
+use Rattle.places.specs.declared.Card.{Card}
+use Rattle.places.specs.declared.Transistor.{Transistor}
 use Rattle.board.specs.Counts.{nodesMost, cardsMost}
 use Rattle.board.specs.Model.{noCard, noTransistor, placeGives, placeOverloads, totalsOf}
-use Rattle.board.specs.inner.Parts.{standsAt}
+use Rattle.places.specs.inner.Parts.{standsAt}
 
 -- kept voltages of all nodes
 pub record Volts (volts : List ℕ) : Type 0 where

@@ -28,7 +28,8 @@ place-requires c κs =
 
 difference-requires : tie.Need-difference-requires
 difference-requires c κs =
-    let small = place-small (c .place .ensures) (c .before .across .ensures) (c .before .before .reciprocal-of .ensures) in
+    let a = c .before in
+    let small = place-small (c .place .ensures) (a .across .ensures) (a .before .reciprocal-of .ensures) in
     search needs
 
 pub position-spec : {M : Type 1} → statement M

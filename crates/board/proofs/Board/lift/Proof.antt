@@ -7,12 +7,12 @@ use borrow.Author.Needs.{needs}
 use mir.Syntax.{w64}
 use mir.ValLaws.{toZ-ofZ}
 use Rattle.board.specs.Counts.{transistorsMost}
-use Rattle.board.specs.Verdict.{issueOf, some}
+use Rattle.places.specs.Arguments.{issueOf, some}
 use Rattle.board.specs.Model.{noTransistor, transistorPlace}
-use Rattle.board.specs.inner.Parts.{placeOr}
+use Rattle.places.specs.inner.Parts.{placeOr}
 use Rattle.board.proofs.Currents.{place-below}
 use Rattle.board.proofs.Reaches.{after-lift}
-use Rattle.board.proofs.Answers.{no-transistor-there, is-there}
+use Rattle.places.proofs.Founds.{no-transistor-there, is-there}
 use Rattle.board.proofs.Changes.{lift-unknown, lift-works, lifts-it}
 use Rattle.board.proofs.Board.lift.Statement.{statement}
 use Rattle.board.proofs.Board.lift.Tie as tie

@@ -6,7 +6,7 @@ use mir.Syntax.{w64}
 use mir.ValLaws.{toZ-ofZ}
 use Rattle.volts.specs.laws.Keeping.{KeptIs, kept-is, outside-is}
 use Rattle.board.specs.Counts.{nodesMost}
-use Rattle.board.specs.inner.Parts.{nodeOf}
+use Rattle.places.specs.inner.Parts.{nodeOf}
 use Rattle.board.proofs.Reaches.{after-move}
 use Rattle.board.proofs.Changes.{move-off-node, move-too-far, settling-move, move-over, moves-it}
 use Rattle.board.proofs.Board.move_to.Statement.{statement}

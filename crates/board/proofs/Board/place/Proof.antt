@@ -6,7 +6,7 @@ use borrow.Author.Needs.{needs}
 use mir.Syntax.{w64}
 use mir.ValLaws.{toZ-ofZ}
 use Rattle.branch.specs.Rows.{roles}
-use Rattle.board.specs.Verdict.{issueOf}
+use Rattle.places.specs.Arguments.{issueOf}
 use Rattle.board.proofs.Reaches.{after-place}
 use Rattle.board.proofs.Changes.{Tested, tested-by, place-stops, free-below, number-below, place-below}
 use Rattle.board.proofs.Changes.{place-works, place-over, places-it}

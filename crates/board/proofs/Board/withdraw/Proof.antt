@@ -5,15 +5,16 @@ use Prim.Native.Nat.{ℕ, _≤_, _<_}
 use borrow.Author.Needs.{needs}
 use mir.Syntax.{w64}
 use mir.ValLaws.{toZ-ofZ}
-use Rattle.board.specs.declared.Card.{Card}
+use Rattle.places.specs.declared.Card.{Card}
 use Rattle.board.specs.declared.Answer.the-variants.{Done}
 use Rattle.board.specs.Counts.{cardsMost}
-use Rattle.board.specs.Verdict.{issueOf, some}
+use Rattle.places.specs.Arguments.{issueOf, some}
 use Rattle.board.specs.Desk.{anyOf}
 use Rattle.board.specs.Model.{cardPlace, standsOn, withCards}
-use Rattle.board.specs.inner.Parts.{placeOr}
+use Rattle.places.specs.inner.Parts.{placeOr}
 use Rattle.board.proofs.Reaches.{after-withdraw}
-use Rattle.board.proofs.Answers.{no-card-there, is-there, withdraw-unknown, withdraw-in-use, withdraws-it}
+use Rattle.places.proofs.Founds.{no-card-there, is-there}
+use Rattle.board.proofs.Answers.{withdraw-unknown, withdraw-in-use, withdraws-it}
 use Rattle.board.proofs.Board.withdraw.Statement.{statement}
 use Rattle.board.proofs.Board.withdraw.Tie as tie
 

@@ -3,7 +3,7 @@ use mathlib.Core.Path.{sym, subst, _∙_}
 use borrow.Author.Needs.{needs}
 use Rattle.branch.specs.declared.Outcome.{Outcome}
 use Rattle.branch.specs.Outcome.{tickLimit}
-use Rattle.board.specs.inner.Parts.{Within}
+use Rattle.totals.specs.inner.Sums.{Within}
 use Rattle.board.proofs.Currents.{ticks-within, over-told, gives-flow}
 use Rattle.board.proofs.worker.put_in.Statement.{statement}
 use Rattle.board.proofs.worker.put_in.Tie as tie
@@ -16,12 +16,14 @@ abbrev after-work : tie.After-put → tie.After-work
 after-work c = c .before .before .before .before
 
 put-requires : tie.Need-put-requires
-put-requires c κs = (
-  record { wired = (start c .pre .0 .wired) },
-  (start c .pre .1),
-  subst (λ (o : Outcome). Within tickLimit (o .ticks)) (sym (c .before .before .before .work .ensures))
-      (ticks-within _ _),
-)
+put-requires c κs =
+    record {
+      wired = record { wired = start c .pre .0 .wired };
+      room = start c .pre .1;
+      within =
+          subst (λ (o : Outcome). Within tickLimit (o .ticks)) (sym (c .before .before .before .work .ensures))
+          (ticks-within _ _);
+    }
 
 returns : tie.Need-returns
 returns c =

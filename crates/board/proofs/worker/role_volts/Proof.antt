@@ -5,7 +5,7 @@ use lib.ListN.{getD}
 use borrow.Author.Needs.{needs}
 use Rattle.branch.specs.Rows.{roles}
 use Rattle.branch.specs.laws.Filled.{Filled, filled-none, filled-more}
-use Rattle.board.proofs.Scans.{filled-map}
+use Rattle.places.proofs.Scans.{filled-map}
 use Rattle.board.proofs.worker.role_volts.Statement.{statement}
 use Rattle.board.proofs.worker.role_volts.Tie as tie
 

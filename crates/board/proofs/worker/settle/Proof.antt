@@ -9,14 +9,15 @@ use native.Mathlib.Omega.{arith}
 use lib.ListN.{length, getD}
 use borrow.Author.Needs.{needs}
 use Rattle.volts.specs.Volts.{givenBack}
-use Rattle.board.specs.declared.Transistor.{Transistor}
+use Rattle.places.specs.declared.Transistor.{Transistor}
 use Rattle.board.specs.Counts.{nodesMost, transistorsMost}
 use Rattle.board.specs.Model.{noTransistor, placeOverloads}
-use Rattle.board.specs.inner.Parts.{Room, standsAt}
+use Rattle.totals.specs.inner.Sums.{Room}
+use Rattle.places.specs.inner.Parts.{standsAt}
 use Rattle.board.specs.inner.Sizes.{totalMost}
 use Rattle.board.specs.inner.Settle.{HasCard}
-use Rattle.board.proofs.Scans.{AnyAmong, among-none, among-more, among-quiet, among-all}
-use Rattle.board.proofs.Amounts.{room-more, room-less}
+use Rattle.places.proofs.Scans.{AnyAmong, among-none, among-more, among-quiet, among-all}
+use Rattle.totals.proofs.Amounts.{room-more, room-less}
 use Rattle.board.proofs.Currents.{takes-small, named-stands, place-below, workable-card, card-gives}
 use Rattle.board.proofs.Currents.{card-takes, card-overloads}
 use Rattle.board.proofs.Midway.{Midway, midway-start, midway-end, midway-room, midway-passes, midway-works}
@@ -89,7 +90,7 @@ put-in-requires c κs =
     let w = p .before in (
       workable-card _ _ (stands w) (has-card w) _ (p .card-place-of .ensures) _ _
           (worked-turn w .before .table .ensures) (start w .pre .volts-are),
-      room-more (room w) (taken-out c .take-out .ensures) (takes-small _ _ _),
+      room-less (omega arith) (room-more (room w) (taken-out c .take-out .ensures) (takes-small _ _ _)),
     )
 
 loop-again : tie.Need-loop-again Inv-loop μ-loop

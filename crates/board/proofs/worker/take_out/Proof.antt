@@ -3,7 +3,7 @@ use mathlib.Core.Path.{sym, subst}
 use borrow.Author.Needs.{needs}
 use Rattle.branch.specs.declared.Outcome.{Outcome}
 use Rattle.branch.specs.Outcome.{tickLimit}
-use Rattle.board.specs.inner.Parts.{Within}
+use Rattle.totals.specs.inner.Sums.{Within}
 use Rattle.board.proofs.Currents.{ticks-within, takes-flow}
 use Rattle.board.proofs.worker.take_out.Statement.{statement}
 use Rattle.board.proofs.worker.take_out.Tie as tie
@@ -16,12 +16,14 @@ abbrev start : tie.After-ticks2 → tie.Start
 start c = c .before .before .before .before
 
 take-requires : tie.Need-take-requires
-take-requires c κs = (
-  record { wired = (start c .pre .0 .wired) },
-  (start c .pre .1),
-  subst (λ (o : Outcome). Within tickLimit (o .ticks)) (sym (c .before .before .before .work .ensures))
-      (ticks-within _ _),
-)
+take-requires c κs =
+    record {
+      wired = record { wired = start c .pre .0 .wired };
+      room = start c .pre .1;
+      within =
+          subst (λ (o : Outcome). Within tickLimit (o .ticks)) (sym (c .before .before .before .work .ensures))
+          (ticks-within _ _);
+    }
 
 returns : tie.Need-returns
 returns c = takes-flow _ _ _ (rw (after-work c .work .ensures) at (c .take .ensures))

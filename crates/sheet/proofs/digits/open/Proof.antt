@@ -22,12 +22,14 @@ start-before-known-told c = c .before .before .before .before
 is-up : (c : tie.After-known-told) → pos (c .before .n .given .0 .0) ≡ start-before-known-told c .args .v
 is-up c =
     let s = start-before-known-told c in
-    opened (toZ-ofZ w64 (s .args .v) (s .fits .v)) (c .before .before .before .«open» .ensures) (c .before .n .given .1)
+    opened (toZ-ofZ w64 (s .args .v) (s .fits .v)) (c .before .before .before .«open» .ensures)
+    (c .before .n .given .1)
 
 is-down : (c : tie.After-known-told2) → negsuc (c .before .n2 .given .0 .0) ≡ start-before-known-told2 c .args .v
 is-down c =
     let s = start-before-known-told2 c in
-    opened (toZ-ofZ w64 (s .args .v) (s .fits .v)) (c .before .before .before .«open» .ensures) (c .before .n2 .given .1)
+    opened (toZ-ofZ w64 (s .args .v) (s .fits .v)) (c .before .before .before .«open» .ensures)
+    (c .before .n2 .given .1)
 
 add-t6 : tie.Need-add-t6
 add-t6 c = let h = subst (SFits w64) (sym (is-down c)) (start-before-known-told2 c .fits .v) .sfits in omega arith

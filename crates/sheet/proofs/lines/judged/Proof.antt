@@ -10,14 +10,15 @@ use Rattle.sheet.proofs.lines.judged.Statement.{statement}
 returns : tie.Need-returns
 returns c =
     let o = c .before .before in
-    sym (ap numberTold (judged-card (judgeOf (o .before .before .args .bytes .now)) (o .judge .ensures) (c .enum-told .given .1)))
+    let v = judgeOf (o .before .before .args .bytes .now) in
+    sym (ap numberTold (judged-card v (o .judge .ensures) (c .enum-told .given .1)))
 
 returns-2 : tie.Need-returns-2
 returns-2 c =
     let k = c .before .before in
     let o = k .before .before in
-    c .number .ensures
-    ∙ sym (ap numberTold (judged-refused (judgeOf (o .before .before .args .bytes .now)) (o .judge .ensures) (k .f .given .1)))
+    let v = judgeOf (o .before .before .args .bytes .now) in
+    c .number .ensures ∙ sym (ap numberTold (judged-refused v (o .judge .ensures) (k .f .given .1)))
 
 pub judged-spec : {M : Type 1} → statement M
 judged-spec =

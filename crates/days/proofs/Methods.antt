@@ -1,0 +1,82 @@
+-- From what the methods promise to what the desk says: on a board that calls have left and that stands for a desk,
+-- whatever a method may answer is the desk's answer, and the board it hands back stands for the desk's next.
+use mathlib.Core.Path.{_≡_, sym, _∙_, subst}
+use mathlib.Core.List.{List}
+use Prim.Native.Nat.{ℕ, _≤_}
+use native.Mathlib.Omega.{arith}
+use lib.Dec.{eqb}
+use Rattle.board.specs.declared.Board.{Board}
+use Rattle.board.specs.declared.Answered.{Answered}
+use Rattle.board.specs.Desk.{Held, Standing, Desk, Call, step}
+use Rattle.board.specs.Desk.{freshDesk, after}
+use Rattle.board.specs.Model.{answered, Reached}
+use Rattle.board.specs.Unique.{Allows}
+use Rattle.board.proofs.Invariant.{invariant}
+use Rattle.days.specs.Perm.{Perm}
+use Rattle.days.specs.Stands.{Stands, Follow}
+use Rattle.days.specs.Promised.{Promised, by-load, by-place, by-move, by-lift, by-withdraw, by-look-up}
+use Rattle.days.specs.Promised.{by-read-node, PromisedFresh, by-fresh, Day, begun, then}
+use Rattle.days.proofs.Perms.{count, perm-count}
+use Rattle.days.proofs.Orderly.{Numbered, Orderly, orderly-after}
+use Rattle.days.proofs.Follows.{follow, stands-fresh, stands-after}
+
+-- ---- every desk that a board stands for is as orderly
+
+numbered-as : {A : Type 0} (key : A → ℕ) {xs ys zs : List A} {m n : ℕ} → Perm xs ys → Perm xs zs → m ≡ n →
+    Numbered key ys m → Numbered key zs n
+numbered-as {A} key {xs} {ys} {zs} p q e h = record {
+  single = λ k. subst (λ (l : ℕ). l ≤ 1) (counts k) (h .single k);
+  below = λ k j. sym (counts k) ∙ h .below k (omega arith);
+}
+  where
+    counts : (k : ℕ) → count (λ (a : A). eqb (key a) k) ys ≡ count (λ (a : A). eqb (key a) k) zs
+    counts k = sym (perm-count (λ (a : A). eqb (key a) k) p) ∙ perm-count (λ (a : A). eqb (key a) k) q
+
+orderly-as : {b : Board} {d e : Desk} → Stands b d → Stands b e → Orderly d → Orderly e
+orderly-as p q o =
+    let next = sym (p .next) ∙ q .next in
+    record {
+      begun = let h = o .begun in omega arith;
+      cards = numbered-as (λ (h : Held). h .issue) (p .cards) (q .cards) next (o .cards);
+      standing = numbered-as (λ (t : Standing). t .issue) (p .standing) (q .standing) next (o .standing);
+    }
+
+orderly : {b : Board} {d : Desk} → Reached b → Stands b d → Orderly d
+orderly {b} k s =
+    orderly-as (subst (λ (x : Board). Stands x (after (k .calls))) (k .leaves) (stands-after (k .calls))) s
+    (orderly-after (k .calls))
+
+-- ---- each method's promise is that of its call
+
+kept-promise : {b : Board} {c : Call} {r : Answered} → Promised b c r → Allows (answered b c) r
+unfolding answered
+kept-promise (by-load κs a e p) = p
+kept-promise (by-place κs a e sized p) = p
+kept-promise (by-move κs a e p) = p
+kept-promise (by-lift κs a e p) = p
+kept-promise (by-withdraw κs a e p) = p
+kept-promise (by-look-up κs a e p) = p
+kept-promise (by-read-node κs a e p) = p
+
+-- whatever a method may answer follows the desk
+pub methods-follow : {b : Board} {d : Desk} {c : Call} {r : Answered} → Reached b → Stands b d → Promised b c r →
+    Follow r (step d c) × Reached (r .board)
+methods-follow {b} {d} {c} k s p =
+    let a = kept-promise p in
+    (subst (λ (x : Answered). Follow x (step d c)) (sym (a .0)) (follow b d (invariant k) (orderly k s) s c), a .1)
+
+pub fresh-follows : {b : Board} → PromisedFresh b → Stands b freshDesk × Reached b
+fresh-follows (by-fresh κs a e p) = (subst (λ (x : Board). Stands x freshDesk) (sym (p .0)) stands-fresh, p .1)
+
+-- ---- a day of them
+
+pub days-follow : {calls : List Call} {b : Board} → Day calls b → Stands b (after calls) × Reached b
+unfolding after
+days-follow (begun p) = fresh-follows p
+days-follow (then day p) =
+    let h = days-follow day in let f = methods-follow (h .1) (h .0) p in (f .0 .board, f .1)
+
+-- and the next call of the day is answered as the desk answers it
+pub day-answers : {calls : List Call} {b : Board} {c : Call} {r : Answered} → Day calls b → Promised b c r →
+    Follow r (step (after calls) c)
+day-answers day p = let h = days-follow day in methods-follow (h .1) (h .0) p .0

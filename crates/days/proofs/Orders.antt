@@ -1,0 +1,61 @@
+-- The orders of refusals: what the board's verdicts say of the desk's own facts is what the desk says.
+use mathlib.Core.Path.{_≡_, refl}
+use mathlib.Core.Bool.{Bool, true, false, _||_}
+use mathlib.Core.List.{List, map}
+use Prim.Native.Nat.{ℕ}
+use lib.Dec.{eqb, leb}
+use lib.ListN.{length, set}
+use lib.IntN.{ℤ, natAbs}
+use Rattle.refusal.specs.declared.Refusal.{Refusal}
+use Rattle.refusal.specs.Order.{Verdict, refuseIf}
+use Rattle.name.specs.Name.{padded}
+use Rattle.volts.specs.Volts.{offVolts}
+use Rattle.board.specs.Counts.{cardsMost, transistorsMost}
+use Rattle.places.specs.Arguments.{issueOf, offNode}
+use Rattle.board.specs.Verdict.{loadVerdict, placeVerdict, moveVerdict, liftVerdict, withdrawVerdict, lookVerdict}
+use Rattle.board.specs.Verdict.{nodeVerdict}
+use Rattle.board.specs.Desk.{Held, Standing, Desk, overloads, anyOf, highest, someOverloads, usedUp, heldAs, standsAs}
+use Rattle.board.specs.Desk.{mayLoad, mayPlace, mayMove, mayLift, mayWithdraw, mayLookUp, mayRead}
+
+-- a range of two tests is one test
+either-test : {A : Type 0} (t u : Bool) (f : Refusal) (v : Verdict A) →
+    refuseIf t f (refuseIf u f v) ≡ refuseIf (t || u) f v
+either-test true u f v = refl
+either-test false u f v = refl
+
+module _ (d : Desk) where
+  pub order-load : (name bytes : List ℕ) →
+      loadVerdict name bytes (leb cardsMost (length (d .cards))) (usedUp (d .next)) ≡ mayLoad d name bytes
+  unfolding loadVerdict
+  order-load name bytes = refl
+
+  pub order-place : (card : ℤ) (nodes : List ℤ) →
+      placeVerdict (heldAs (issueOf card) (d .cards)) (λ (h : Held). h .worked)
+      (λ (h : Held). overloads (h .worked) (map natAbs nodes) (d .volts)) nodes
+      (leb transistorsMost (length (d .standing))) (usedUp (d .next))
+      ≡ mayPlace d card nodes
+  unfolding placeVerdict
+  order-place card nodes = refl
+
+  pub order-move : (n v : ℤ) → moveVerdict n v (someOverloads d (set (d .volts) (natAbs n) v)) ≡ mayMove d n v
+  unfolding moveVerdict
+  order-move n v = either-test (offNode n) (offVolts v) _ _
+
+  pub order-lift : (n : ℤ) → liftVerdict (standsAs (issueOf n) (d .standing)) ≡ mayLift d n
+  unfolding liftVerdict
+  order-lift n = refl
+
+  pub order-withdraw : (n : ℤ) →
+      withdrawVerdict (heldAs (issueOf n) (d .cards))
+      (λ (h : Held). anyOf (λ (t : Standing). eqb (t .card) (h .issue)) (d .standing))
+      ≡ mayWithdraw d n
+  unfolding withdrawVerdict
+  order-withdraw n = refl
+
+  pub order-look : (name : List ℕ) → lookVerdict name (highest (padded name) (d .cards)) ≡ mayLookUp d name
+  unfolding lookVerdict
+  order-look name = refl
+
+pub order-read : (n : ℤ) → nodeVerdict n ≡ mayRead n
+unfolding nodeVerdict
+order-read n = refl

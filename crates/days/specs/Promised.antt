@@ -1,0 +1,68 @@
+-- What the board's methods promise, call by call: the clauses of their own contracts, as the prover hands them to a
+-- caller. And a day of such calls.
+use mathlib.Core.Path.{_≡_}
+use mathlib.Core.List.{List, [], _∷_}
+use Prim.Native.Nat.{ℕ}
+use lib.ListN.{length}
+use contract.Lifetimes.{Lfts}
+use denote.Triple.Clauses.{AtExit}
+use borrow.Fn.Kinds.{PK, RK, Dens, endedOf}
+use Rattle.branch.specs.Rows.{roles}
+use Rattle.board.specs.declared.Board.{Board}
+use Rattle.board.specs.declared.Answered.{Answered}
+use Rattle.board.specs.Desk.{Call, load, place, move, lift, withdraw, lookUp, node}
+use Rattle.board.proofs.Board.fresh.Kinds as fresh-kinds
+use Rattle.board.proofs.Board.fresh.Reads as fresh-reads
+use Rattle.board.proofs.Board.load.Kinds as load-kinds
+use Rattle.board.proofs.Board.load.Reads as load-reads
+use Rattle.board.proofs.Board.place.Kinds as place-kinds
+use Rattle.board.proofs.Board.place.Reads as place-reads
+use Rattle.board.proofs.Board.«move_to».Kinds as move-kinds
+use Rattle.board.proofs.Board.«move_to».Reads as move-reads
+use Rattle.board.proofs.Board.lift.Kinds as lift-kinds
+use Rattle.board.proofs.Board.lift.Reads as lift-reads
+use Rattle.board.proofs.Board.withdraw.Kinds as withdraw-kinds
+use Rattle.board.proofs.Board.withdraw.Reads as withdraw-reads
+use Rattle.board.proofs.Board.«look_up».Kinds as look-up-kinds
+use Rattle.board.proofs.Board.«look_up».Reads as look-up-reads
+use Rattle.board.proofs.Board.«read_node».Kinds as read-node-kinds
+use Rattle.board.proofs.Board.«read_node».Reads as read-node-reads
+
+-- what a method's arguments are when it returns
+abbrev Left : {n : ℕ} → Lfts n → List (PK n) → RK n → Type 0
+Left {n} κs ps r = AtExit (endedOf n ps r) κs
+
+-- b is what the method for a fresh board may give
+pub data PromisedFresh : Board → Type 0 where
+  by-fresh : (κs : Lfts 0) (a : Dens κs fresh-kinds.ps) {b : Board} (e : Left κs fresh-kinds.ps fresh-kinds.r) →
+      fresh-reads.Learnt κs a b e → PromisedFresh b
+
+-- r is what the method of a call may answer on a board: a is what it is given, the board first
+pub data Promised : Board → Call → Answered → Type 0 where
+  by-load : (κs : Lfts 2) (a : Dens κs load-kinds.ps) {r : Answered}
+      (e : Left κs load-kinds.ps load-kinds.r) →
+      load-reads.Learnt κs a r e → Promised (a .0) (load (a .1 .0 .now) (a .1 .1 .0 .now)) r
+  by-place : (κs : Lfts 0) (a : Dens κs place-kinds.ps) {r : Answered}
+      (e : Left κs place-kinds.ps place-kinds.r) (sized : length (a .1 .1 .0) ≡ roles) →
+      place-reads.Learnt κs a r e → Promised (a .0) (place (a .1 .0) (a .1 .1 .0) sized) r
+  by-move : (κs : Lfts 0) (a : Dens κs move-kinds.ps) {r : Answered}
+      (e : Left κs move-kinds.ps move-kinds.r) →
+      move-reads.Learnt κs a r e → Promised (a .0) (move (a .1 .0) (a .1 .1 .0)) r
+  by-lift : (κs : Lfts 0) (a : Dens κs lift-kinds.ps) {r : Answered}
+      (e : Left κs lift-kinds.ps lift-kinds.r) →
+      lift-reads.Learnt κs a r e → Promised (a .0) (lift (a .1 .0)) r
+  by-withdraw : (κs : Lfts 0) (a : Dens κs withdraw-kinds.ps) {r : Answered}
+      (e : Left κs withdraw-kinds.ps withdraw-kinds.r) →
+      withdraw-reads.Learnt κs a r e → Promised (a .0) (withdraw (a .1 .0)) r
+  by-look-up : (κs : Lfts 1) (a : Dens κs look-up-kinds.ps) {r : Answered}
+      (e : Left κs look-up-kinds.ps look-up-kinds.r) →
+      look-up-reads.Learnt κs a r e → Promised (a .0) (lookUp (a .1 .0 .now)) r
+  by-read-node : (κs : Lfts 0) (a : Dens κs read-node-kinds.ps) {r : Answered}
+      (e : Left κs read-node-kinds.ps read-node-kinds.r) →
+      read-node-reads.Learnt κs a r e → Promised (a .0) (node (a .1 .0)) r
+
+-- a day of calls, the last one first in the list: each made on the board that the one before it handed back
+pub data Day : List Call → Board → Type 0 where
+  begun : {b : Board} → PromisedFresh b → Day [] b
+  then : {calls : List Call} {b : Board} {c : Call} {r : Answered} → Day calls b → Promised b c r →
+      Day (c ∷ calls) (r .board)

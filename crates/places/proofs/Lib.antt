@@ -1,0 +1,4 @@
+pub mod Scans
+pub mod CallerNumbers
+pub mod Founds
+pub mod Ways

@@ -1,0 +1,10 @@
+-- `is_split` compares two nodes where the card joins them.
+use borrow.Author.Needs.{needs}
+use Rattle.places.proofs.rules.is_split.Statement.{statement}
+use Rattle.places.proofs.rules.is_split.Tie as tie
+
+returns : tie.Need-returns
+returns c = rw (c .if1 .taken)
+
+pub is-split-spec : {M : Type 1} → statement M
+is-split-spec = tie.close (tie.spec (λ c. search needs) (λ c. search needs) returns (λ c. search needs))

@@ -1,0 +1,4 @@
+pub mod Counts
+pub mod Arguments
+pub mod Finding
+pub mod inner

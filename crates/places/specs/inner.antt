@@ -1,0 +1,3 @@
+-- Words of inner contracts: what looking through the places and placing's tests give.
+pub mod Parts
+pub mod Placing
