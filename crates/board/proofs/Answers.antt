@@ -16,8 +16,8 @@ use Rattle.volts.specs.Volts.{givenBack}
 use Rattle.card.specs.declared.WorkedCard.{WorkedCard}
 use Rattle.card.specs.Judge.{judgeOf}
 use Rattle.card.specs.Record.{rightLength}
-use Rattle.branch.specs.declared.Ready.{Ready}
-use Rattle.branch.specs.inner.Ready.{readyOf}
+use Rattle.terms.specs.declared.Ready.{Ready}
+use Rattle.terms.specs.inner.Ready.{readyOf}
 use Rattle.board.specs.declared.Board.{Board}
 use Rattle.board.specs.declared.Answer.the-variants.{Issue, Done, Node}
 use Rattle.board.specs.Counts.{nodesMost, cardsMost, issuesMost}

@@ -14,7 +14,7 @@ use Rattle.refusal.specs.Order.{Verdict, yes}
 use Rattle.volts.specs.Volts.{givenBack, keptAs, offVolts}
 use Rattle.volts.specs.laws.Keeping.{KeptIs}
 use Rattle.octave.specs.Table.{entries}
-use Rattle.branch.specs.Rows.{roles}
+use Rattle.terms.specs.Rows.{roles}
 use Rattle.places.specs.declared.Transistor.{Transistor}
 use Rattle.board.specs.declared.Board.{Board}
 use Rattle.board.specs.declared.Answer.the-variants.{Issue, Done}

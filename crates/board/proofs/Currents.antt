@@ -12,10 +12,10 @@ use Rattle.volts.specs.Volts.{givenBack, span, AllNear}
 use Rattle.octave.specs.Table.{entries}
 use Rattle.card.specs.declared.WorkedCard.{WorkedCard}
 use Rattle.branch.specs.declared.Outcome.{Outcome}
-use Rattle.branch.specs.Rows.{rowsFor}
+use Rattle.terms.specs.Rows.{rowsFor}
 use Rattle.branch.specs.Outcome.{tickLimit, outcomeOf, isOver}
 use Rattle.branch.proofs.Laws.{ticks-long, ticks-small}
-use Rattle.branch.specs.Ends.{fromRoles, toRoles}
+use Rattle.terms.specs.Ends.{fromRoles, toRoles}
 use Rattle.places.specs.declared.Card.{Card}
 use Rattle.places.specs.declared.Transistor.{Transistor}
 use Rattle.board.specs.Counts.{nodesMost, cardsMost}

@@ -15,9 +15,9 @@ use Rattle.refusal.specs.Clash.{clash}
 use Rattle.volts.specs.Volts.{givenBack, keptAs, span, AllNear}
 use Rattle.volts.specs.laws.Keeping.{kept, near-replicate, near-set}
 use Rattle.card.specs.declared.WorkedCard.{WorkedCard}
-use Rattle.branch.specs.inner.Ready.{IsReady}
-use Rattle.branch.proofs.Laws.{made-ready}
-use Rattle.branch.specs.Rows.{roles}
+use Rattle.terms.specs.inner.Ready.{IsReady}
+use Rattle.terms.proofs.Laws.{made-ready}
+use Rattle.terms.specs.Rows.{roles}
 use Rattle.places.specs.declared.Card.{Card}
 use Rattle.places.specs.declared.Transistor.{Transistor}
 use Rattle.board.specs.declared.Board.{Board}

@@ -13,7 +13,7 @@ use lib.Seq.{ext-getD}
 use lib.IntN.{ℤ, pos, natAbs}
 use Rattle.whole.specs.laws.Biased.{below-or-not}
 use Rattle.card.specs.declared.WorkedCard.{WorkedCard}
-use Rattle.branch.specs.Rows.{rowsFor}
+use Rattle.terms.specs.Rows.{rowsFor}
 use Rattle.branch.specs.Outcome.{tickLimit, outcomeOf}
 use Rattle.branch.proofs.Laws.{ticks-small}
 use Rattle.places.specs.declared.Card.{Card}

@@ -12,7 +12,7 @@ use Rattle.refusal.specs.declared.Refusal.the-variants.{NumbersUsedUp}
 use Rattle.refusal.specs.Order.{Verdict, no, yes, refuseIf}
 use Rattle.refusal.specs.Clash.{clash}
 use Rattle.card.specs.declared.WorkedCard.{WorkedCard}
-use Rattle.branch.specs.Rows.{C1, C4, roleIndex}
+use Rattle.terms.specs.Rows.{C1, C4, roleIndex}
 use Rattle.board.specs.Counts.{nodesMost}
 use Rattle.places.specs.Arguments.{Found, none, some, offNode, someNodeOff, apart}
 use Rattle.board.specs.Verdict.{placeVerdict}

@@ -17,7 +17,7 @@ use Rattle.volts.specs.Volts.{offVolts}
 use Rattle.card.specs.Judge.{judgeOf}
 use Rattle.card.specs.Record.{rightLength}
 use Rattle.card.specs.declared.WorkedCard.{WorkedCard}
-use Rattle.branch.specs.Rows.{rowsFor, roles}
+use Rattle.terms.specs.Rows.{rowsFor, roles}
 use Rattle.branch.specs.Outcome.{isOver, outcomeOf}
 use Rattle.totals.specs.Gives.{rowsGive}
 unfoldable pub use Rattle.places.specs.Finding.{anyOf}

@@ -11,7 +11,7 @@ use Rattle.refusal.specs.Order.{Verdict, no, yes}
 use Rattle.name.specs.Name.{padded}
 use Rattle.volts.specs.Volts.{givenBack, keptAs}
 use Rattle.card.specs.declared.WorkedCard.{WorkedCard}
-use Rattle.branch.specs.inner.Ready.{readyOf}
+use Rattle.terms.specs.inner.Ready.{readyOf}
 use Rattle.places.specs.declared.Card.{Card}
 use Rattle.places.specs.declared.Transistor.{Transistor}
 pub use Rattle.places.specs.Finding.{foundAt, isCard, isTransistor, cardPlace, transistorPlace, emptyCard, noCard}

@@ -5,7 +5,7 @@ ghost use mathlib.Core.List.{map};
 ghost use Prim.Native.Nat.{_<_};
 ghost use lib.ListN.{length, getD};
 ghost use Rattle.volts.specs.Volts.{givenBack};
-ghost use Rattle.branch.specs.Rows.{roles};
+ghost use Rattle.terms.specs.Rows.{roles};
 ghost use Rattle.branch.specs.Outcome.{outcomeOf, isOver};
 ghost use Rattle.board.specs.Counts.{nodesMost};
 ghost use Rattle.board.specs.Desk.{rolesAt, overloads, flow, anyOf};

@@ -13,14 +13,15 @@ use Rattle.whole.specs.Quotient.{quotientOf}
 use Rattle.card.specs.declared.WorkedCard.{WorkedCard}
 use Rattle.branch.specs.declared.Over.{Over}
 use Rattle.branch.specs.declared.Over.the-variants.{Within, Ticks, Injection}
-use Rattle.branch.specs.declared.Terms.{Terms}
-use Rattle.branch.specs.Rows.{Role, Summand, unit, root, Divisor, undivided, sumOf, Row, rowsFor, branches}
-use Rattle.branch.specs.Ticks.{tickOf, ratioOf, rootFor, summandOf, dividedBy, rowTicks}
+use Rattle.terms.specs.declared.Terms.{Terms}
+use Rattle.terms.specs.Rows.{Role, Summand, unit, root, Divisor, undivided, sumOf, Row, rowsFor, branches}
+use Rattle.terms.specs.Values.{tickOf, ratioOf}
+use Rattle.terms.specs.inner.Terms.{UpTo, leftOf, rightOf, RowTerms, RowsAt, none, more, TermsOf}
+use Rattle.branch.specs.Ticks.{rootFor, summandOf, dividedBy, rowTicks}
 use Rattle.branch.specs.Outcome.{tickLimit, ratioLimit, someAbove, ratiosIn, firstOver}
 use Rattle.branch.specs.Outcome.{outcomeAt}
-use Rattle.branch.specs.inner.Terms.{UpTo, leftOf, rightOf, RowTerms, RowsAt, none, more, TermsOf, Small, Below}
-use Rattle.branch.specs.inner.Terms.{Most, overUp, dividedOf, ticksAt, listUp, NotOver, Fine}
-use Rattle.branch.specs.inner.Terms.{outcomeFrom}
+use Rattle.branch.specs.inner.FromTerms.{Small, Below, Most, overUp, dividedOf, ticksAt, listUp, NotOver, Fine}
+use Rattle.branch.specs.inner.FromTerms.{outcomeFrom}
 use Rattle.branch.proofs.Tests.{Passes, passes, BothWithin, both-within, none-above}
 use Rattle.branch.proofs.Roots.{root-unit, divided-plain}
 

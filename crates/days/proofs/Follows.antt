@@ -17,9 +17,9 @@ use Rattle.name.specs.Name.{padded, same}
 use Rattle.volts.specs.Volts.{givenBack, keptAs, offVolts}
 use Rattle.volts.specs.laws.Keeping.{kept}
 use Rattle.card.specs.declared.WorkedCard.{WorkedCard}
-use Rattle.branch.specs.inner.Ready.{readyOf}
-use Rattle.branch.proofs.Laws.{ready-card}
-use Rattle.branch.specs.Rows.{roles}
+use Rattle.terms.specs.inner.Ready.{readyOf}
+use Rattle.terms.proofs.Laws.{ready-card}
+use Rattle.terms.specs.Rows.{roles}
 use Rattle.places.specs.declared.Card.{Card}
 use Rattle.places.specs.declared.Transistor.{Transistor}
 use Rattle.board.specs.declared.Board.{Board}

@@ -13,7 +13,7 @@ use Rattle.refusal.specs.Clash.{clash}
 use Rattle.card.specs.declared.WorkedCard.{WorkedCard}
 use Rattle.branch.specs.declared.Over.{Over}
 use Rattle.branch.specs.declared.Over.the-variants.{Within, Ticks, Injection}
-use Rattle.branch.specs.Rows.{Row, rowsFor, roleIndex}
+use Rattle.terms.specs.Rows.{Row, rowsFor, roleIndex}
 use Rattle.branch.specs.Outcome.{outcomeOf, isOver}
 use Rattle.places.specs.declared.Card.{Card}
 use Rattle.places.specs.declared.Transistor.{Transistor}

@@ -20,11 +20,12 @@ use Rattle.card.specs.Clip.{clippedUp, clippedAt, maskUp, clipOf}
 use Rattle.card.specs.Judge.{judgeOf}
 use Rattle.card.specs.inner.Worked.{IsWorked}
 use Rattle.card.proofs.WorkedCards.{judged-is-worked}
-use Rattle.branch.specs.Rows.{roles}
-use Rattle.branch.specs.Ticks.{expOf, rootFor}
+use Rattle.terms.specs.Rows.{roles}
+use Rattle.terms.specs.Values.{expOf}
+use Rattle.branch.specs.Ticks.{rootFor}
 use Rattle.branch.specs.Outcome.{outcomeOf}
-use Rattle.branch.specs.inner.Ready.{readyOf, Askable}
-use Rattle.branch.proofs.Laws.{askable}
+use Rattle.terms.specs.inner.Ready.{readyOf, Askable}
+use Rattle.terms.proofs.Laws.{askable}
 use Rattle.board.specs.declared.Board.{Board}
 use Rattle.board.specs.Counts.{cardsMost}
 use Rattle.board.specs.Verdict.{loadOrder, loadVerdict, placeVerdict, moveVerdict}

@@ -15,7 +15,7 @@ use Rattle.card.specs.Clip.{clipOf, numbersOf, maskOf}
 use Rattle.card.specs.Judge.{judgeOf}
 use Rattle.branch.specs.declared.Over.{Over}
 use Rattle.branch.specs.declared.Over.the-variants.{Within, Ticks, Injection}
-use Rattle.branch.specs.Rows.{roles}
+use Rattle.terms.specs.Rows.{roles}
 use Rattle.branch.specs.Outcome.{outcomeOf}
 use Rattle.board.specs.declared.Board.{Board}
 use Rattle.board.specs.Model.{freshBoard, loadedOf, placedOf, movedOf}

@@ -8,7 +8,7 @@ use lib.IntN.{ℤ, pos, negsuc, natAbs}
 use lib.Signed.{leZ, ltZ}
 use Rattle.refusal.specs.declared.Refusal.the-variants.{Unknown}
 use Rattle.refusal.specs.Order.{Verdict, no, yes}
-use Rattle.branch.specs.Rows.{C1, C4, roleIndex}
+use Rattle.terms.specs.Rows.{C1, C4, roleIndex}
 use Rattle.totals.specs.Gives.{nodesMost}
 use Rattle.places.specs.Counts.{issuesMost}
 

@@ -6,8 +6,8 @@ use lib.Dec.{eqb, ltb}
 use lib.ListN.{getD, replicate}
 use Rattle.name.specs.Name.{nameLength, same}
 use Rattle.card.specs.declared.WorkedCard.{WorkedCard}
-use Rattle.branch.specs.inner.Ready.{noReady}
-use Rattle.branch.specs.Rows.{roles}
+use Rattle.terms.specs.inner.Ready.{noReady}
+use Rattle.terms.specs.Rows.{roles}
 use Rattle.places.specs.declared.Card.{Card}
 use Rattle.places.specs.declared.Transistor.{Transistor}
 use Rattle.places.specs.Counts.{cardsMost, transistorsMost, issuesMost}

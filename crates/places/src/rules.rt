@@ -13,10 +13,10 @@ use crate::TRANSISTORS;
 use crate::Transistor;
 use crate::Way;
 use crate::finds;
-use branch::C1;
-use branch::C4;
 use branch::ROLES;
 use refusal::Refusal;
+use terms::C1;
+use terms::C4;
 use totals::NODES;
 
 // Whether a node is none of the board's.

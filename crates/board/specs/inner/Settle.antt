@@ -8,8 +8,8 @@ use lib.ListN.{getD, length}
 use lib.IntN.{ℤ}
 use Rattle.volts.specs.Volts.{givenBack, AllNear}
 use Rattle.octave.specs.Table.{entries}
-use Rattle.branch.specs.inner.Ready.{IsReady}
-use Rattle.branch.specs.Rows.{roles}
+use Rattle.terms.specs.inner.Ready.{IsReady}
+use Rattle.terms.specs.Rows.{roles}
 use Rattle.places.specs.declared.Card.{Card}
 use Rattle.places.specs.declared.Transistor.{Transistor}
 use Rattle.board.specs.Counts.{nodesMost, cardsMost}

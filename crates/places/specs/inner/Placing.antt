@@ -7,7 +7,7 @@ use lib.ListN.{getD}
 use Rattle.refusal.specs.declared.Refusal.the-variants.{NoRoom, OutOfRange, SplitCollector, NumbersUsedUp}
 use Rattle.refusal.specs.Order.{Verdict, no, yes, refuseIf, andThen}
 use Rattle.card.specs.declared.WorkedCard.{WorkedCard}
-use Rattle.branch.specs.Rows.{C1, C4, roleIndex}
+use Rattle.terms.specs.Rows.{C1, C4, roleIndex}
 use Rattle.places.specs.declared.Way.{Way}
 use Rattle.places.specs.declared.Way.the-variants.{Go, Stop}
 use Rattle.totals.specs.Gives.{nodesMost}

@@ -5,7 +5,7 @@ use lib.ListN.{length}
 use borrow.Author.Needs.{needs}
 use mir.Syntax.{w64}
 use mir.ValLaws.{toZ-ofZ}
-use Rattle.branch.specs.Rows.{roles}
+use Rattle.terms.specs.Rows.{roles}
 use Rattle.places.specs.Arguments.{issueOf}
 use Rattle.board.proofs.Reaches.{after-place}
 use Rattle.board.proofs.Changes.{Tested, tested-by, place-stops, free-below, number-below, place-below}

@@ -3,7 +3,7 @@ use Prim.Native.Nat.{ℕ, _≤_, _-_}
 use native.Mathlib.Omega.{arith}
 use lib.ListN.{getD}
 use borrow.Author.Needs.{needs}
-use Rattle.branch.specs.Rows.{roles}
+use Rattle.terms.specs.Rows.{roles}
 use Rattle.branch.specs.laws.Filled.{Filled, filled-none, filled-more}
 use Rattle.places.proofs.Scans.{filled-map}
 use Rattle.board.proofs.worker.role_volts.Statement.{statement}

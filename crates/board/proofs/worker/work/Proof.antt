@@ -4,7 +4,7 @@ use mathlib.Core.List.{List, map}
 use Prim.Native.Nat.{ℕ}
 use lib.ListN.{length, length-map}
 use Rattle.volts.specs.Volts.{givenBack, AllNear}
-use Rattle.branch.specs.Rows.{roles}
+use Rattle.terms.specs.Rows.{roles}
 use Rattle.branch.specs.Outcome.{outcomeOf}
 use Rattle.board.proofs.Currents.{roles-given-back, roles-near}
 use Rattle.board.proofs.worker.work.Statement.{statement}

@@ -5,7 +5,7 @@ use native.Mathlib.Omega.{arith}
 use lib.ListN.{length, getD}
 use lib.IntN.{pos}
 use borrow.Author.Needs.{needs}
-use Rattle.branch.specs.Rows.{roles}
+use Rattle.terms.specs.Rows.{roles}
 use Rattle.branch.specs.laws.Filled.{Filled, filled-none, filled-more}
 use Rattle.places.specs.inner.Parts.{nodeOf}
 use Rattle.totals.proofs.Integers.{held}

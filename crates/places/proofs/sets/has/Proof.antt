@@ -6,7 +6,7 @@ use lib.ListN.{length}
 use borrow.Author.Needs.{needs}
 use lib.Dec.{eqb}
 use borrow.Author.Tests.{eq-eqb, ne-eqb}
-use Rattle.branch.specs.Rows.{roles}
+use Rattle.terms.specs.Rows.{roles}
 use Rattle.places.proofs.Scans.{Passed, at-start, goes-on, any-here, any-nowhere}
 use Rattle.places.proofs.sets.has.Statement.{statement}
 use Rattle.places.proofs.sets.has.Tie as tie
