@@ -15,7 +15,7 @@ use Rattle.name.specs.Name.{asked, padded}
 use Rattle.volts.specs.Volts.{givenBack}
 use Rattle.card.specs.declared.WorkedCard.{WorkedCard}
 use Rattle.card.specs.Judge.{judgeOf}
-use Rattle.card.specs.Record.{rightLength}
+use Rattle.clip.specs.Record.{rightLength}
 use Rattle.terms.specs.declared.Ready.{Ready}
 use Rattle.terms.specs.inner.Ready.{readyOf}
 use Rattle.board.specs.declared.Board.{Board}

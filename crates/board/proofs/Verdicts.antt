@@ -7,7 +7,7 @@ use lib.IntN.{ℤ, pos, negsuc, natAbs}
 use Rattle.refusal.specs.declared.Refusal.the-variants.{NoRoom, NumbersUsedUp}
 use Rattle.card.specs.declared.WorkedCard.{WorkedCard}
 use Rattle.card.specs.Judge.{judgeOf}
-use Rattle.card.specs.Record.{rightLength}
+use Rattle.clip.specs.Record.{rightLength}
 use Rattle.name.specs.Name.{asked}
 use lib.Dec.{leb, ltb}
 use borrow.Author.Tests.{leb-false}

@@ -15,7 +15,7 @@ use Rattle.refusal.specs.Order.{Verdict, no, yes, refuseIf, andThen}
 use Rattle.name.specs.Name.{asked, padded, same}
 use Rattle.volts.specs.Volts.{offVolts}
 use Rattle.card.specs.Judge.{judgeOf}
-use Rattle.card.specs.Record.{rightLength}
+use Rattle.clip.specs.Record.{rightLength}
 use Rattle.card.specs.declared.WorkedCard.{WorkedCard}
 use Rattle.terms.specs.Rows.{rowsFor, roles}
 use Rattle.branch.specs.Outcome.{isOver, outcomeOf}

@@ -12,7 +12,7 @@ use Rattle.name.specs.Name.{asked}
 use Rattle.volts.specs.Volts.{offVolts}
 use Rattle.card.specs.declared.WorkedCard.{WorkedCard}
 use Rattle.card.specs.Judge.{judgeOf}
-use Rattle.card.specs.Record.{rightLength}
+use Rattle.clip.specs.Record.{rightLength}
 use Rattle.places.specs.Arguments.{Found, known, offNode, someNodeOff, apart}
 
 -- Loading: 1, 2, 6 to 10, 11, 17, from what the record is judged to be

@@ -15,8 +15,8 @@ use Rattle.octave.specs.Table.{entries, entryOf}
 use Rattle.float.specs.declared.Split.{Split}
 use Rattle.float.specs.Split.{keptPower}
 use Rattle.card.specs.declared.WorkedCard.{WorkedCard}
-use Rattle.card.specs.Record.{finiteUp}
-use Rattle.card.specs.Clip.{clippedUp, clippedAt, maskUp, clipOf}
+use Rattle.clip.specs.Record.{finiteUp}
+use Rattle.clip.specs.Clip.{clippedUp, clippedAt, maskUp, clipOf}
 use Rattle.card.specs.Judge.{judgeOf}
 use Rattle.card.specs.inner.Worked.{IsWorked}
 use Rattle.card.proofs.WorkedCards.{judged-is-worked}

@@ -10,8 +10,8 @@ use Rattle.octave.specs.Table.{entryOf}
 use Rattle.float.specs.declared.Split.{Split}
 use Rattle.float.specs.Split.{keptPower}
 use Rattle.card.specs.declared.WorkedCard.{WorkedCard}
-use Rattle.card.specs.Limits.{width}
-use Rattle.card.specs.Clip.{clipOf, numbersOf, maskOf}
+use Rattle.clip.specs.Limits.{width}
+use Rattle.clip.specs.Clip.{clipOf, numbersOf, maskOf}
 use Rattle.card.specs.Judge.{judgeOf}
 use Rattle.branch.specs.declared.Over.{Over}
 use Rattle.branch.specs.declared.Over.the-variants.{Within, Ticks, Injection}

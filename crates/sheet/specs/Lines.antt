@@ -5,8 +5,8 @@ use Prim.Native.Nat.{ℕ}
 use lib.Dec.{eqb, leb}
 use lib.IntN.{ℤ}
 use Rattle.refusal.specs.Order.{numberTold}
-use Rattle.card.specs.Limits.{width}
-use Rattle.card.specs.Clip.{maskOf}
+use Rattle.clip.specs.Limits.{width}
+use Rattle.clip.specs.Clip.{maskOf}
 use Rattle.card.specs.Judge.{judgeOf}
 use Rattle.sheet.specs.Digits.{maskDigits, hexDigits, decimalOf, signedDigits, ampereDigits}
 

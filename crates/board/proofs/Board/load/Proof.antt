@@ -7,7 +7,7 @@ use borrow.Author.Tests.{not-true, not-false}
 use Rattle.refusal.specs.Order.{yes}
 use Rattle.name.specs.Name.{asked}
 use Rattle.card.specs.Judge.{judgeOf}
-use Rattle.card.specs.Record.{rightLength}
+use Rattle.clip.specs.Record.{rightLength}
 use Rattle.card.specs.laws.Unique.{judged-card, judged-refused}
 use Rattle.card.proofs.WorkedCards.{judged-is-worked}
 use Rattle.board.specs.Counts.{cardsMost}
