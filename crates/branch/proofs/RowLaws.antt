@@ -8,6 +8,7 @@ use mathlib.Core.Logic.{_⊎_, inl, inr}
 use native.Mathlib.Omega.{arith}
 use lib.ListN.{getD, length}
 use lib.IntN.{ℤ, subℕ}
+use Rattle.refusal.specs.Unique.{unique-by-equation}
 use Rattle.whole.specs.laws.Biased.{below-or-not}
 use Rattle.whole.specs.Quotient.{quotientOf}
 use Rattle.card.specs.declared.WorkedCard.{WorkedCard}
@@ -104,6 +105,10 @@ module _ (c : WorkedCard) (v : Role → Role → ℤ) where
       go Within e f = rw (← f, e, ticks-are (t .rows) e)
       go (Ticks k) e f = rw (← f, e)
       go (Injection k) e f = rw (← f, e)
+
+  -- whatever terms are permitted, they have one outcome
+  pub unique-outcome : {x y : Terms} → TermsOf c v x → TermsOf c v y → outcomeFrom x ≡ outcomeFrom y
+  unique-outcome t u = unique-by-equation (outcome-is t) (outcome-is u)
 
 -- ---- terms that are within, and rows of which none overloads
 

@@ -1,4 +1,4 @@
--- The number that loading tells is that of the first test that fails, in the paper's order; 0 where the record is taken.
+-- The number that loading tells is that of the first test that fails, in the rules' order; 0 where the record is taken.
 use mathlib.Core.Path.{_≡_, ap, _∙_}
 use mathlib.Core.Bool.{not}
 use mathlib.Core.List.{List}
