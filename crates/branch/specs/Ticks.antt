@@ -7,7 +7,7 @@ use Rattle.card.specs.declared.WorkedCard.{WorkedCard}
 use Rattle.terms.specs.Rows.{Role, Summand, unit, root, Divisor, undivided, sumOf, Row}
 use Rattle.terms.specs.Values.{partPlaces, tickOf, ratioOf}
 
--- 1 in those parts, 2^20
+-- 1 in the parts of 2^-20 that ratios count
 abbrev pub oneUnit : ℕ
 oneUnit = 2 ^ partPlaces
 
