@@ -1,0 +1,3 @@
+-- What follows from the definitions of lines and pages.
+pub mod PageFits
+pub mod Lines
