@@ -1,19 +1,24 @@
--- Finding and locating agree: the part that is found is the located record, and it is empty where locating refuses.
+-- Finding, locating and handing out agree: the part that is found is the located record, and empty where locating
+-- refuses; of a sound library the part handed out for a card is its record, and what finding its name gives.
 use mathlib.Core.Path.{_≡_, sym, _∙_, ap}
 use mathlib.Core.List.{List, []}
-use Prim.Native.Nat.{ℕ, _+_, _*_, _≤_}
+use Prim.Native.Nat.{ℕ, zero, suc, _+_, _*_, _<_, _≤_}
+use native.Mathlib.Nat.{mul-suc, mul-zero}
 use native.Mathlib.Omega.{arith}
-use lib.ListN.{length, take, drop, length-drop}
-use lib.Seq.{length-take-le}
+use lib.ListN.{length, take, drop, getD, length-drop}
+use lib.Seq.{length-take-le, drop-drop}
 use denote.Ref.{RefT, ptr, now}
 use Rattle.library.specs.declared.Located.{Located}
 use Rattle.library.specs.declared.Located.the-variants.{Record, Refused}
-use Rattle.library.specs.Format.{wordsOf, version, recordBytes}
-use Rattle.library.specs.Answers.{locating, handed, standing, Finds, toldLocated}
+use Rattle.library.specs.Format.{wordsOf, version, count, directory, records, recordsAt, recordBytes}
+use Rattle.library.specs.Directory.{namesIn, pieces, placeOf}
+use Rattle.library.specs.Answers.{locating, handed, standing, Finds, toldLocated, recordAt, HandsOut, Sound}
 use Rattle.library.proofs.Headers.{only-version}
-use Rattle.library.proofs.Outcomes.{located-within}
+use Rattle.library.proofs.Outcomes.{located-placed, located-within}
+use Rattle.library.proofs.HandingOut.{record-sound}
 use Rattle.refusal.specs.Order.{Verdict, no, tells, tells-one, yes}
 use Rattle.bytes_le.specs.Le.{wordBytes}
+use Rattle.name.specs.Name.{padded}
 
 -- the part p is the size bytes of l from the place at on, and they are one record
 pub record Part (l : RefT (List ℕ)) (at size : ℕ) (p : RefT (List ℕ)) : Type 0 where
@@ -44,3 +49,39 @@ find-agrees {l} {x} {p} (Record at size) f e =
     }
 find-agrees {l} {x} (Refused g) f e =
     f .bytes ∙ ap (λ (v : Verdict (ℕ × ℕ)). handed v (now l)) (sym (tells-one (no g) (locating (now l) x) e))
+
+-- ---- handing out
+
+-- piece k of w elements
+piece : (w n : ℕ) (s : List ℕ) (k : ℕ) → k < n → getD (pieces w n s) k [] ≡ take w (drop (w * k) s)
+piece w zero s k h = absurd (omega arith)
+piece w (suc n) s zero h = ap (λ (m : ℕ). take w (drop m s)) (sym (mul-zero w))
+piece w (suc n) s (suc k) h =
+    let e : w + w * k ≡ w * suc k = omega (arith, mul-suc w k) in
+    piece w n (drop w s) k (omega arith) ∙ ap (take w) (drop-drop (w * k) w s ∙ ap (λ (m : ℕ). drop m s) e)
+
+-- the records of a sound library, one for each card
+abbrev pub recordsIn : List ℕ → List (List ℕ)
+recordsIn s = pieces (wordBytes * wordsOf (version s)) (count s) (records s)
+
+pub record-of-card : {l r : RefT (List ℕ)} {k : ℕ}
+    → Sound (now l) → k < count (now l) → HandsOut l k r → now r ≡ getD (recordsIn (now l)) k []
+record-of-card {l} {r} {k} g h d =
+    let s = now l in
+    let w : ℕ = wordsOf (version s) in
+    let e : recordsAt (count s) + wordBytes * w * k ≡ recordsAt (count s) + wordBytes * (w * k) = omega arith in
+    d .bytes ∙ ap (λ (p : ℕ × ℕ). handed (yes p) s) (record-sound s k g h) ∙ sym
+    (piece (wordBytes * w) (count s) (records s) k h ∙ ap (take (wordBytes * w))
+    (drop-drop (wordBytes * w * k) (recordsAt (count s)) s ∙ ap (λ (m : ℕ). drop m s) e))
+
+pub record-of-name : {l p r : RefT (List ℕ)} {x : List ℕ} {q : ℕ × ℕ}
+    → locating (now l) x ≡ yes q → Finds l x p → HandsOut l (placeOf (padded x) (namesIn (directory (now l)))) r
+    → (now r ≡ now p) × (ptr r ≡ ptr p)
+record-of-name {l} {p} {r} {x} {q} e f d =
+    let g = located-placed (now l) x e in
+    let i = placeOf (padded x) (namesIn (directory (now l))) in
+    let o : recordAt (now l) i ≡ q = record-sound (now l) i (g .sound) (g .held) ∙ sym (g .place) in
+    let t : yes (recordAt (now l) i) ≡ locating (now l) x = ap yes o ∙ sym e in (
+      d .bytes ∙ ap (λ (v : Verdict (ℕ × ℕ)). handed v (now l)) t ∙ sym (f .bytes),
+      d .place ∙ ap (λ (v : Verdict (ℕ × ℕ)). standing v l) t ∙ sym (f .place),
+    )

@@ -9,4 +9,5 @@ pub mod Outcomes
 pub mod Offers
 pub mod Inverse
 pub mod SoundLibraries
+pub mod HandingOut
 pub mod Finding

@@ -16,12 +16,12 @@ use Rattle.refusal.specs.declared.Refusal.the-variants.{Malformed, BadName, Nam
 use Rattle.refusal.specs.Order.{Verdict, no, yes, refuseIf, tells}
 use Rattle.library.specs.declared.Reading.{Reading}
 use Rattle.library.specs.declared.Reading.the-variants.{Cards, Refused}
-use Rattle.library.specs.Answers.{Reads, left, libraryJudged, locating, namesJudged, read, recordOf, verdictRead}
+use Rattle.library.specs.Answers.{Reads, Sound, left, libraryJudged, locating, namesJudged, numbersOf, read, recordOf, verdictRead}
 use Rattle.library.specs.Directory.{among, nameBytes, namesHeld, namesIn, placeOf}
 use Rattle.library.proofs.Names.{among-place, length-pieces, or-false}
 use Rattle.library.specs.Format.{count, directory, headed, headerBytes, mostCards, records, recordsAt, version, wholeOf, wordsIn, wordsOf}
 use Rattle.library.proofs.Headers.{directory-part, directoryPart, few, known-width, narrow, sized}
-use Rattle.library.proofs.Verdicts.{library-yes, passed, refuse-yes, then-yes}
+use Rattle.library.proofs.Verdicts.{library-pass, library-yes, passed, refuse-yes, then-yes}
 use Rattle.bytes_le.specs.Le.{wordBytes}
 use Rattle.library.specs.inner.Inspecting.{mostWords}
 use Rattle.bytes_le.specs.Buffer.{over}
@@ -148,33 +148,43 @@ module _ (s x : List ℕ) where
       unfolding locating
       locate-at l = rw (v .judged, h, held, lt-ltb i n l, place)
 
--- a record that is located is one of the library's width, and lies within it
+-- a record that is located is that of a card of a sound library
+pub record Placed (s x : List ℕ) (p : ℕ × ℕ) : Type 0 where
+  pub sound : Sound s
+  pub held : placeOf (padded x) (namesIn (directory s)) < count s
+  pub place : p ≡ recordOf (numbersOf s) (placeOf (padded x) (namesIn (directory s)))
+
+pub located-placed : (s x : List ℕ) {p : ℕ × ℕ} → locating s x ≡ yes p → Placed s x p
+unfolding locating
+located-placed s x {p} e =
+    let i : ℕ = placeOf (padded x) (namesIn (directory s)) in
+    let g = then-yes (libraryJudged s) _ e in
+    let b = library-yes s (g .first) in
+    let v = inspected s (library-pass (b .0)) in
+    let p = refuse-yes (not (asked x)) BadName (g .after) in
+    let q = refuse-yes (not (among (padded x) (namesIn (directory s)))) NameNotHeld (p .1) in
+    record {
+      sound = library-pass (b .0);
+      held =
+          ltb-true i (count s)
+          (ap (ltb i) (sym (names-count v)) ∙ sym (among-place (padded x) (namesIn (directory s))) ∙ not-false _
+          (q .0));
+      place = cc;
+    }
+
+-- it is one of the library's width, and lies within it
 pub record Within (s : List ℕ) (at size : ℕ) : Type 0 where
   pub inside : at + size ≤ length s
   pub wide : size ≡ wordBytes * wordsOf (version s)
   pub known : 0 < wordsOf (version s)
 
 pub located-within : (s x : List ℕ) {at size : ℕ} → locating s x ≡ yes (at, size) → Within s at size
-unfolding locating
 located-within s x {at} {size} e =
+    let g = located-placed s x e in
     let i : ℕ = placeOf (padded x) (namesIn (directory s)) in
-    let g = then-yes (libraryJudged s) _ e in
-    let b = library-yes s (g .first) in
-    let p = refuse-yes (not (asked x)) BadName (g .after) in
-    let q = refuse-yes (not (among (padded x) (namesIn (directory s)))) NameNotHeld (p .1) in
-    let n : ℕ = g .value .0 in
-    let k : ℕ = g .value .1 in
-    let v : Inspected s n k = inspected s (g .first) in
-    let h : i < n =
-    ltb-true i n
-    (ap (ltb i) (sym (names-count v)) ∙ sym (among-place (padded x) (namesIn (directory s))) ∙ not-false _ (q .0)) in
-    let r : k * i + k ≤ k * n = record-within k h in
-    let o : _≡_ {A = ℕ × ℕ} (recordOf (g .value) i) (at, size) = cc in
-    let a : at ≡ recordsAt n + wordBytes * (k * i) = sym (ap (λ (w : ℕ × ℕ). w .0) o) in
-    let z : size ≡ wordBytes * k = sym (ap (λ (w : ℕ × ℕ). w .1) o) in
-    let l = v .long in
-    record {
-      inside = omega arith;
-      wide = z ∙ ap (λ (w : ℕ × ℕ). wordBytes * w .1) (sym (b .1));
-      known = known-width s (b .0 .header);
-    }
+    let k : ℕ = wordsOf (version s) in
+    let r : k * i + k ≤ k * count s = record-within k (g .held) in
+    let a : at ≡ recordsAt (count s) + wordBytes * (k * i) = ap (λ (w : ℕ × ℕ). w .0) (g .place) in
+    let z : size ≡ wordBytes * k = ap (λ (w : ℕ × ℕ). w .1) (g .place) in
+    let l = inspected s (g .sound) .long in
+    record { inside = omega arith; wide = z; known = known-width s (library-yes s (g .sound) .0 .header) }

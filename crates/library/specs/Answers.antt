@@ -1,9 +1,9 @@
 -- What each operation answers, the refusals in their order, and what it leaves in a lent buffer.
 use mathlib.Core.Path.{_≡_}
-use mathlib.Core.Bool.{not, _||_}
+use mathlib.Core.Bool.{not, cond, _&&_, _||_}
 use mathlib.Core.List.{List, []}
 use Prim.Native.Nat.{ℕ, _+_, _*_}
-use lib.Dec.{ltb}
+use lib.Dec.{leb, ltb}
 use lib.ListN.{length, take, drop}
 use denote.Ref.{RefT, ptr, now}
 use Rattle.bytes_le.specs.Le.{wordBytes}
@@ -113,6 +113,20 @@ standing (yes p) l = (ptr l .0, p .0 + ptr l .1)
 pub record Finds (l : RefT (List ℕ)) (x : List ℕ) (r : RefT (List ℕ)) : Type 0 where
   pub bytes : now r ≡ handed (locating (now l) x) (now l)
   pub place : ptr r ≡ standing (locating (now l) x) l
+
+-- ---- what handing a record out answers
+
+-- the place and size of card k's record by the header's two numbers; no bytes, at the start, where k is none of the
+-- cards or the library ends before the record does
+unfoldable pub recordAt : List ℕ → ℕ → ℕ × ℕ
+recordAt s k =
+    let p : ℕ × ℕ = recordOf (numbersOf s) k in
+    cond (ltb k (count s) && leb (p .0 + p .1) (length s)) p (0, 0)
+
+-- handing out the record of card k of the library l: the bytes of r, and that they are the library's own
+pub record HandsOut (l : RefT (List ℕ)) (k : ℕ) (r : RefT (List ℕ)) : Type 0 where
+  pub bytes : now r ≡ handed (yes (recordAt (now l) k)) (now l)
+  pub place : ptr r ≡ standing (yes (recordAt (now l) k)) l
 
 -- ---- what writing answers
 

@@ -13,7 +13,7 @@ ghost use Rattle.bytes_le.specs.Buffer.{over};
 ghost use Rattle.library.specs.inner.Inspecting.{found, mostWords, slots, slotOf};
 ghost use Rattle.library.specs.Directory.{nameBytes, namesIn, allNamed, among, twice, placeOf};
 ghost use Rattle.library.specs.Format.{mostCards, wordsOf, writtenVersion, agree, wordsIn, bytesOfAll, headerOf};
-ghost use Rattle.library.specs.Answers.{namesJudged, libraryJudged, offerJudged, Reads, toldLocated, locating, Finds, Writes};
+ghost use Rattle.library.specs.Answers.{namesJudged, libraryJudged, offerJudged, Reads, toldLocated, locating, Finds, HandsOut, Writes};
 use bytes_le::WORD_BYTES;
 
 // The bytes of the header, and so where the directory starts.
@@ -311,6 +311,24 @@ pub fn find<'a>(library: &'a [u8], name: &[u8]) -> &'a [u8]
         Located::Record { at, size } => &library[at..at + size],
         Located::Refused(_) => &library[..0],
     }
+}
+
+// The record of card k as a part of the library, by the header alone: in a library that was read it is the record of the k-th name.
+// The empty part where k is none of the cards, or the library ends too soon.
+pub fn record_at(library: &[u8], k: usize) -> &[u8]
+    ensures { λ r. ⌜ HandsOut (library .entry) k r ⌝ }
+{
+    let words = width(bytes_le::u16_at(library, 0));
+    let cards = bytes_le::u16_at(library, 2) as usize;
+    if cards <= k {
+        return &library[..0];
+    }
+    let at = HEADER_BYTES + NAME_BYTES * cards + WORD_BYTES * (words * k);
+    let end = at + WORD_BYTES * words;
+    if library.len() < end {
+        return &library[..0];
+    }
+    &library[at..end]
 }
 
 // Puts the w lowest bytes of x at a place, the lowest first.
