@@ -1,12 +1,12 @@
 -- Each way out of reading and of locating, over plain values: the tests that lead there give the definition's verdict.
 use mathlib.Core.Path.{_≡_, refl, sym, _∙_, ap, ap₂}
-use mathlib.Core.Bool.{Bool, true, false, not, _||_}
-use mathlib.Core.List.{List}
+use mathlib.Core.Bool.{Bool, true, false, cond, not, _||_}
+use mathlib.Core.List.{List, []}
 use Prim.Native.Nat.{ℕ, _+_, _*_, _-_, _/_, _<_, _≤_}
 use native.Mathlib.Nat.{mul-le-mul-left, mul-suc}
 use native.Mathlib.Omega.{arith}
-use borrow.Author.Tests.{ltb-true, lt-ltb, le-ltb, not-false}
-use lib.Dec.{ltb}
+use borrow.Author.Tests.{leb-true, leb-false, ltb-true, lt-ltb, le-ltb, not-false}
+use lib.Dec.{leb, ltb}
 use lib.ListN.{length, take, drop, length-drop}
 use lib.Seq.{length-take-le}
 use Rattle.bytes_le.proofs.Laws.{rest}
@@ -73,6 +73,15 @@ records-words {s} {n} v = let l = v .long in rw (rest s (recordsAt n), length-dr
 
 -- ---- the ways out of reading
 
+-- the words that are handed on, all where w is room enough, have room
+pub words-room : {s : List ℕ} {n k : ℕ} → Inspected s n k → (w : ℕ) {q : List ℕ}
+    → q ≡ cond (leb (k * n) w) (recordsPart s n) [] → length q / wordBytes ≤ w
+words-room {s} {n} {k} v w e = rw e (by-test (leb (k * n) w) refl)
+  where
+    by-test : (t : Bool) → leb (k * n) w ≡ t → length (cond t (recordsPart s n) []) / wordBytes ≤ w
+    by-test true g = let i : k * n ≤ w = leb-true (k * n) w g in rw (records-words v) i
+    by-test false g = omega arith
+
 module _ (s ns ws : List ℕ) where
   reads-by : (v : Verdict ℕ) → read s (length ns) (length ws) ≡ v → (r : Reading) → verdictRead r ≡ v
       → Reads s ns ws r (left v (directory s) ns) (left v (wordsIn (records s)) ws)
@@ -100,12 +109,23 @@ module _ (s ns ws : List ℕ) where
     pub read-yes : nameBytes * n ≤ length ns → k * n ≤ length ws → read s (length ns) (length ws) ≡ yes n
     read-yes hn hw = to-five (or-false (le-ltb (length ns) (nameBytes * n) hn) ∙ le-ltb (length ws) (k * n) hw)
 
-    -- d and q are what the directory's part and the records' part left in the buffers
-    pub read-cards : nameBytes * n ≤ length ns → k * n ≤ length ws → {d q : List ℕ} → d ≡ over (directoryPart s n) ns
-        → q ≡ over (wordsIn (recordsPart s n)) ws → Reads s ns ws (Cards n) d q
-    read-cards hn hw ed eq =
-        rw (ed, eq, directory-part s (v .is-count), records-part v)
-        (reads-by (yes n) (read-yes hn hw) (Cards n) refl)
+    -- d and q are what was handed on of the directory's part and of the records' part, and d′ and q′ what that left in
+    -- the buffers
+    module _ (hn : nameBytes * n ≤ length ns) {d q d′ q′ : List ℕ}
+        (ed : d ≡ cond (leb (k * n) (length ws)) (directoryPart s n) [])
+        (eq : q ≡ cond (leb (k * n) (length ws)) (recordsPart s n) [])
+        (ed′ : d′ ≡ over d ns) (eq′ : q′ ≡ over (wordsIn q) ws) where
+      pub read-cards : leb (k * n) (length ws) ≡ true → Reads s ns ws (Cards n) d′ q′
+      read-cards h =
+          rw (ed′, eq′, ed, eq, h, directory-part s (v .is-count), records-part v)
+          (reads-by (yes n) (read-yes hn (leb-true (k * n) (length ws) h)) (Cards n) refl)
+
+      pub read-none : leb (k * n) (length ws) ≡ false → Reads s ns ws (Refused ShortOutput) d′ q′
+      read-none h =
+          rw (ed′, eq′, ed, eq, h)
+          (read-short
+          (or-false (le-ltb (length ns) (nameBytes * n) hn) ∙ lt-ltb (length ws) (k * n)
+          (leb-false (k * n) (length ws) h)))
 
 -- ---- the ways out of locating
 

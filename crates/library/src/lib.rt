@@ -1,13 +1,13 @@
 // The card library: read, written, and searched for a card by its name.
 use refusal::Refusal;
 ghost use mathlib.Core.Path.{_≡_};
-ghost use mathlib.Core.Bool.{_&&_};
-ghost use mathlib.Core.List.{_++_};
-ghost use Prim.Native.Nat.{_+_, _*_, _/_, _%_, _^_, _<_, _≤_};
+ghost use mathlib.Core.Bool.{cond, _&&_};
+ghost use mathlib.Core.List.{[], _++_};
+ghost use Prim.Native.Nat.{_+_, _*_, _/_, _%_, _<_, _≤_};
 ghost use lib.Dec.{ltb};
 ghost use lib.ListN.{length, take, drop};
 ghost use Rattle.bytes_le.specs.Le.{wordBytes, bytesOf};
-ghost use Rattle.refusal.specs.Order.{tells};
+ghost use Rattle.refusal.specs.Order.{refuseIf, tells};
 ghost use Rattle.name.specs.Name.{same};
 ghost use Rattle.bytes_le.specs.Buffer.{over};
 ghost use Rattle.library.specs.inner.Inspecting.{found, mostWords, slots, slotOf};
@@ -170,19 +170,23 @@ fn doubled(d: &[u8]) -> bool
     false
 }
 
-// What is wrong with a directory, or else the numbers that are handed in.
+// The refusal that a test draws; where it draws none, what the tests after it found.
+fn refuse_if(wrong: bool, f: Refusal, next: Inspection) -> Inspection
+    ensures { λ r. ⌜ found r ≡ refuseIf wrong f (found next) ⌝ }
+{
+    if wrong { Inspection::Refused(f) } else { next }
+}
+
+// What is wrong with a directory, 2 before 3, or else the numbers that are handed in.
 fn judge(d: &[u8], cards: usize, words: usize) -> Inspection
     ensures { λ r. ⌜ found r ≡ namesJudged (now (d .entry)) (cards, words) ⌝ }
 {
-    if all_named(d) {
-        if doubled(d) {
-            Inspection::Refused(Refusal::NameTwice)
-        } else {
-            Inspection::Numbers { cards, words }
-        }
-    } else {
-        Inspection::Refused(Refusal::BadName)
-    }
+    let malformed = !all_named(d);
+    let twice = doubled(d);
+    let bad_name = Refusal::BadName;
+    let name_twice = Refusal::NameTwice;
+    let numbers = Inspection::Numbers { cards, words };
+    refuse_if(malformed, bad_name, refuse_if(twice, name_twice, numbers))
 }
 
 // A library inspected.
@@ -232,6 +236,13 @@ fn load(src: &[u8], dst: &mut [u64])
     }
 }
 
+// The bytes where there is room for all, none of them where there is not.
+fn where_room(room: bool, bytes: &[u8]) -> &[u8]
+    ensures { λ r. ⌜ (now r ≡ cond room (now (bytes .entry)) []) × (length (now r) ≤ length (now (bytes .entry))) ⌝ }
+{
+    if room { bytes } else { &bytes[..0] }
+}
+
 // Reads a library: the names and the words go to the start of the two buffers, and a refusal changes neither.
 pub fn read(library: &[u8], names: &mut [u8], words: &mut [u64]) -> Reading
     ensures { λ r. ⌜ Reads (now (library .entry)) (now (names .entry)) (now (words .entry)) r (now (names .exit)) (now (words .exit)) ⌝ }
@@ -243,14 +254,15 @@ pub fn read(library: &[u8], names: &mut [u8], words: &mut [u64]) -> Reading
             if names.len() < a {
                 return Reading::Refused(Refusal::ShortOutput);
             }
-            if words.len() < k * cards {
-                return Reading::Refused(Refusal::ShortOutput);
-            }
             let e = HEADER_BYTES + a;
             let n = cards as u32;
-            copy(&library[HEADER_BYTES..e], names);
-            load(&library[e..], words);
-            Reading::Cards(n)
+            let room = k * cards <= words.len();
+            copy(where_room(room, &library[HEADER_BYTES..e]), names);
+            load(where_room(room, &library[e..]), words);
+            if room {
+                return Reading::Cards(n);
+            }
+            Reading::Refused(Refusal::ShortOutput)
         }
     }
 }
