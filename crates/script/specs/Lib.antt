@@ -5,5 +5,6 @@ pub mod Table
 pub mod Command
 pub mod Page
 pub mod Answers
+pub mod Unique
 pub mod inner
 pub mod laws
