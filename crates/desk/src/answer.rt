@@ -1,11 +1,11 @@
-// The answers to a line, as `script` words them.
+// The answers to a line, as `answers` words them.
 use crate::out::ROOM;
 use crate::out::part;
 use crate::out::puts;
+use answers::ANSWER_ROOM;
+use answers::Answer;
 use card::Clipping;
 use refusal::Refusal;
-use script::ANSWER_ROOM;
-use script::Answer;
 
 // Room for the answer to the longest path that an argument or a line gives.
 const PATH_ROOM: usize = 131104;
@@ -17,7 +17,7 @@ fn put_part(text: &[u8; ANSWER_ROOM], n: usize, out: &mut [u8; ROOM], at: &mut u
 
 pub fn put_answer(a: Answer, out: &mut [u8; ROOM], at: &mut usize) {
     let mut text = [0u8; ANSWER_ROOM];
-    let n = script::answer_line(a, &mut text);
+    let n = answers::answer_line(a, &mut text);
     put_part(&text, n, out, at);
 }
 
@@ -28,19 +28,19 @@ pub fn put_refused(f: Refusal, out: &mut [u8; ROOM], at: &mut usize) {
 // To a line that is no command, by its first word.
 pub fn put_error(first: &[u8], out: &mut [u8; ROOM], at: &mut usize) {
     let mut text = [0u8; ANSWER_ROOM];
-    let n = script::error_line(first, &mut text);
+    let n = answers::error_line(first, &mut text);
     put_part(&text, n, out, at);
 }
 
 pub fn put_unreadable(path: &[u8], out: &mut [u8; ROOM], at: &mut usize) {
     let mut text = [0u8; PATH_ROOM];
-    let n = script::unreadable_line(path, &mut text);
+    let n = answers::unreadable_line(path, &mut text);
     puts(part(&text, 0, n), out, at);
 }
 
 pub fn put_clipping(clipping: Clipping, out: &mut [u8; ROOM], at: &mut usize) {
     let numbers = clipping.numbers;
     let mut text = [0u8; ANSWER_ROOM];
-    let n = script::clip_line(clipping.mask, &numbers, &mut text);
+    let n = answers::clip_line(clipping.mask, &numbers, &mut text);
     put_part(&text, n, out, at);
 }

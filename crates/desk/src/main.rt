@@ -1,7 +1,7 @@
 // The desk at work: obeys the commands of standard input or, given arguments, those of each script that an argument names, one script after the other.
 mod out; // out.rt: bytes that wait to be written
 mod shelf; // shelf.rt: the library held
-mod answer; // answer.rt: the answers to a line, as `script` words them
+mod answer; // answer.rt: the answers to a line, as `answers` words them
 mod desk; // desk.rt: a line obeyed
 mod lines; // lines.rt: a script obeyed, line by line
 

@@ -7,7 +7,7 @@ use native.Mathlib.Numerals.{add-one}
 use native.Mathlib.Omega.{arith}
 use lib.IntN.{ℤ}
 use lib.ListN.{set}
-use Rattle.sheet.specs.Number.{parsedOf}
+use Rattle.spelling.specs.Number.{parsedOf}
 use Rattle.script.specs.declared.Words.{Words}
 use Rattle.script.specs.Words.{wordAt}
 use Rattle.script.specs.Command.{isNumber, valueOf, areNumbers, numbersTo}

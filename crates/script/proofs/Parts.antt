@@ -7,7 +7,7 @@ use native.Mathlib.Omega.{arith}
 use borrow.Author.Tests.{eq-eqb, ne-eqb, le-leb, lt-leb}
 use lib.ListN.{length, take, drop, getD, drop-of-length-le, List·getD-eq-default}
 use lib.Seq.{drop-cons}
-use Rattle.sheet.specs.Lines.{space}
+use Rattle.spelling.specs.Bytes.{space}
 use Rattle.script.specs.declared.Words.{Words}
 use Rattle.script.specs.Words.{span, spansFrom, noWords, withWord, withWords, wordsOf, partOf, wordAt}
 use Rattle.script.specs.inner.Passing.{outside, inside, PassesSpaces, PassesWord}

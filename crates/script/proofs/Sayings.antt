@@ -6,9 +6,9 @@ use Prim.Native.Nat.{ℕ, _-_, _<_, _≤_}
 use borrow.Author.Tests.{eq-eqb, ne-eqb, lt-ltb, le-ltb}
 use lib.Dec.{eqb}
 use lib.ListN.{length}
-use Rattle.sheet.specs.declared.Hex.{Hex}
-use Rattle.sheet.specs.declared.Hex.the-variants.{Bytes, Bad}
-use Rattle.sheet.specs.Hex.{ReadsHex}
+use Rattle.spelling.specs.declared.Hex.{Hex}
+use Rattle.spelling.specs.declared.Hex.the-variants.{Bytes, Bad}
+use Rattle.spelling.specs.Hex.{ReadsHex}
 use Rattle.script.specs.declared.Words.{Words}
 use Rattle.script.specs.declared.Command.{Command}
 use Rattle.script.specs.declared.Row.{Row}

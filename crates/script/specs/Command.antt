@@ -6,12 +6,12 @@ use Prim.Native.Nat.{ℕ, zero, suc, _-_}
 use lib.Dec.{eqb, ltb}
 use lib.IntN.{ℤ, pos}
 use lib.ListN.{length, getD, set, replicate}
-use Rattle.sheet.specs.declared.Parsed.{Parsed}
-use Rattle.sheet.specs.declared.Parsed.the-variants as parsed
-use Rattle.sheet.specs.declared.Hex.{Hex}
-use Rattle.sheet.specs.declared.Hex.the-variants.{Bytes, Bad}
-use Rattle.sheet.specs.Number.{parsedOf}
-use Rattle.sheet.specs.Hex.{spells, pairsOf, hexIf, overIf}
+use Rattle.spelling.specs.declared.Parsed.{Parsed}
+use Rattle.spelling.specs.declared.Parsed.the-variants as parsed
+use Rattle.spelling.specs.declared.Hex.{Hex}
+use Rattle.spelling.specs.declared.Hex.the-variants.{Bytes, Bad}
+use Rattle.spelling.specs.Number.{parsedOf}
+use Rattle.spelling.specs.Hex.{spells, pairsOf, hexIf, overIf}
 use Rattle.script.specs.declared.Words.{Words}
 use Rattle.script.specs.declared.Command.{Command}
 use Rattle.script.specs.declared.Row.{Row}

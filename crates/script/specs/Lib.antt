@@ -1,10 +1,7 @@
--- What a line of a script says, and what is answered to it; `laws` has what follows.
-pub mod Bytes
+-- What a line of a script says; `inner` has the words of inner contracts, `laws` what follows.
 pub mod Words
 pub mod Table
 pub mod Command
-pub mod Page
-pub mod Answers
 pub mod Unique
 pub mod inner
 pub mod laws

@@ -11,7 +11,7 @@ use Rattle.script.specs.declared.Verb.the-variants.{Move, Lift, Withdraw
 use Rattle.script.specs.declared.Wants.{Wants}
 use Rattle.script.specs.declared.Wants.the-variants.{Texts, Numbers, NameAndHex}
 use Rattle.script.specs.declared.Row.{Row}
-use Rattle.script.specs.Bytes.{bytes}
+use Rattle.spelling.specs.Bytes.{bytes}
 
 -- the first word of a line, and the row that it names
 pub record Entry : Type 0 where

@@ -1,20 +1,12 @@
 -- One input has one result: any two that a contract permits are equal.
-use mathlib.Core.Path.{_≡_, ap}
+use mathlib.Core.Path.{_≡_}
 use mathlib.Core.List.{List}
 use Prim.Native.Nat.{ℕ}
 use Rattle.refusal.specs.Unique.{unique-by-equation}
 use Rattle.script.specs.declared.Command.{Command}
 use Rattle.script.specs.Command.{Says}
-use Rattle.script.specs.Page.{Page, Writes}
 
 -- what a line says, and every byte of the buffer for what its hex digits spell
 pub unique-says : {line old : List ℕ} {r r′ : Command} {new new′ : List ℕ}
     → Says line old r new → Says line old r′ new′ → (r ≡ r′) × (new ≡ new′)
 unique-says a b = (unique-by-equation (a .command) (b .command), unique-by-equation (a .buffer) (b .buffer))
-
--- every byte of the buffer in which a line is written, and how many it has
-pub unique-writes : {l old : List ℕ} {at : ℕ} {new new′ : List ℕ} {end end′ : ℕ}
-    → Writes l old at new end → Writes l old at new′ end′ → (new ≡ new′) × (end ≡ end′)
-unique-writes a b =
-    let e = unique-by-equation (a .written) (b .written) in
-    (ap (λ (p : Page). p .bytes) e, ap (λ (p : Page). p .used) e)

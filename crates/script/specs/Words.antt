@@ -4,7 +4,7 @@ use mathlib.Core.List.{List, [], _∷_}
 use Prim.Native.Nat.{ℕ, suc, _+_, _-_}
 use lib.Dec.{eqb, leb, ltb}
 use lib.ListN.{length, take, drop, getD, set, replicate}
-use Rattle.sheet.specs.Lines.{space}
+use Rattle.spelling.specs.Bytes.{space}
 use Rattle.script.specs.declared.Words.{Words}
 
 -- the most words that a command has

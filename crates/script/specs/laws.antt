@@ -1,4 +1,3 @@
--- What follows from the definitions of lines and pages.
-pub mod PageFits
+-- What follows from the definitions of words and commands.
 pub mod Lines
 pub mod Split

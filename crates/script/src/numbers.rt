@@ -1,17 +1,17 @@
 // The numbers of a line, and whether its words are numbers.
 ghost use mathlib.Core.Path.{_≡_};
 ghost use Prim.Native.Nat.{_-_};
-ghost use Rattle.sheet.specs.Number.{parsedOf};
+ghost use Rattle.spelling.specs.Number.{parsedOf};
 ghost use Rattle.script.specs.Command.{isNumber, valueOf, areNumbers, numbersTo, mostNumbers};
 use crate::MOST_NUMBERS;
 use crate::Words;
 use crate::word;
-use sheet::Parsed;
+use spelling::Parsed;
 
 fn is_number(word: &[u8]) -> bool
     ensures { λ r. ⌜ r ≡ isNumber (parsedOf (now (word .entry))) ⌝ }
 {
-    match sheet::number(word) {
+    match spelling::number(word) {
         Parsed::Number(_) => true,
         Parsed::Nothing => false,
     }
@@ -20,7 +20,7 @@ fn is_number(word: &[u8]) -> bool
 fn value(word: &[u8]) -> i64
     ensures { λ r. ⌜ r ≡ valueOf (parsedOf (now (word .entry))) ⌝ }
 {
-    match sheet::number(word) {
+    match spelling::number(word) {
         Parsed::Number(x) => x,
         Parsed::Nothing => 0,
     }

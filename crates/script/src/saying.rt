@@ -12,7 +12,7 @@ use crate::Words;
 use crate::numbers::are_numbers;
 use crate::numbers::numbers_of;
 use crate::word;
-use sheet::Hex;
+use spelling::Hex;
 
 // Whether a line with that first word is passed over: it has no word, or a comment.
 pub(crate) fn is_passed_over(first: &[u8]) -> bool
@@ -63,7 +63,7 @@ fn said_hex(line: &[u8], words: Words, verb: Verb, bytes: &mut [u8]) -> Command
     if words.count != 3 {
         return said(line, words, Verb::Error, 0);
     }
-    match sheet::hex_bytes(word(line, words, 2), bytes) {
+    match spelling::hex_bytes(word(line, words, 2), bytes) {
         Hex::Bytes(n) => said(line, words, verb, n),
         Hex::Bad => said(line, words, Verb::Error, 0),
     }

@@ -4,7 +4,7 @@ use mathlib.Core.Bool.{true, false}
 use mathlib.Core.List.{List, _∷_}
 use Prim.Native.Nat.{ℕ, _+_, _≤_, _<_}
 use lib.ListN.{length, drop, getD}
-use Rattle.sheet.specs.Lines.{space}
+use Rattle.spelling.specs.Bytes.{space}
 use Rattle.script.specs.Words.{Span, spansFrom, span}
 
 -- the words from a place on, that place in no word

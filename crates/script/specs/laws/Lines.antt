@@ -6,11 +6,11 @@ use Prim.Native.String.{String}
 use borrow.Author.Tests.{lt-ltb}
 use lib.IntN.{pos, negsuc}
 use lib.ListN.{length}
-use Rattle.sheet.specs.Number.{parsedOf, parsedWith, allDigits, decimalFrom}
-use Rattle.sheet.specs.Hex.{spells, allPairs, pairsOf}
+use Rattle.spelling.specs.Number.{parsedOf, parsedWith, allDigits, decimalFrom}
+use Rattle.spelling.specs.Hex.{spells, allPairs, pairsOf}
 use Rattle.script.specs.declared.Verb.{Verb}
 use Rattle.script.specs.declared.Verb.the-variants.{Record, Lift, Withdraw, Sheet, Nothing, TooLong, Error}
-use Rattle.script.specs.Bytes.{bytes}
+use Rattle.spelling.specs.Bytes.{bytes}
 use Rattle.script.specs.Words.{spansFrom, withWord, withWords, wordsOf, partOf}
 use Rattle.script.specs.Table.{placeIn, rowNamed}
 use Rattle.script.specs.Command.{longestLine, areNumbers, numbersTo, said, hexOf, saidTo, commandOf}

@@ -9,7 +9,7 @@ use native.Mathlib.Omega.{arith}
 use borrow.Author.Tests.{eqb-true}
 use lib.Dec.{eqb}
 use lib.ListN.{length, length-append}
-use Rattle.sheet.specs.Lines.{space}
+use Rattle.spelling.specs.Bytes.{space}
 use Rattle.script.specs.Words.{Span, span, spansFrom, spansOf}
 
 abbrev pub spaceless : List ℕ → Bool

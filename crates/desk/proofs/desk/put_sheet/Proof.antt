@@ -1,7 +1,7 @@
 -- The loop passes the nodes one by one.
 use Prim.Native.Nat.{_≤_, _-_}
 use borrow.Author.Needs.{needs}
-use Rattle.script.specs.Answers.{sheetNodes}
+use Rattle.answers.specs.Answers.{sheetNodes}
 use Rattle.desk.proofs.desk.put_sheet.Statement.{statement}
 use Rattle.desk.proofs.desk.put_sheet.Tie as tie
 

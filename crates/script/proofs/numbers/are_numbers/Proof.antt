@@ -5,7 +5,7 @@ use mathlib.Core.List.{List}
 use Prim.Native.Nat.{ℕ, _-_}
 use native.Mathlib.Omega.{arith}
 use borrow.Author.Needs.{needs}
-use Rattle.sheet.specs.Number.{parsedOf}
+use Rattle.spelling.specs.Number.{parsedOf}
 use Rattle.script.specs.Command.{isNumber}
 use Rattle.script.proofs.Numbered.{Still, still-on, still-not, still-all}
 use Rattle.script.proofs.numbers.are_numbers.Tie as tie

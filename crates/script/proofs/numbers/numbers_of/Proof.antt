@@ -6,7 +6,7 @@ use native.Mathlib.Omega.{arith}
 use mir.Syntax.{w64}
 use mir.ValLaws.{toZ-ofZ}
 use borrow.Author.Needs.{needs}
-use Rattle.sheet.specs.Number.{parsedOf}
+use Rattle.spelling.specs.Number.{parsedOf}
 use Rattle.script.specs.Command.{mostNumbers, valueOf, numbersTo}
 use Rattle.script.proofs.Numbered.{value-more}
 use Rattle.script.proofs.numbers.numbers_of.Tie as tie
