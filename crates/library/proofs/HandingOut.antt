@@ -12,10 +12,12 @@ use denote.Ref.{RefT, ptr, now}
 use Rattle.name.proofs.Laws.{and-true, and-false}
 use Rattle.bytes_le.specs.Le.{wordBytes}
 use Rattle.refusal.specs.Order.{yes}
-use Rattle.library.specs.inner.Inspecting.{mostWords}
-use Rattle.library.specs.Format.{count, version, wordsOf}
-use Rattle.library.specs.Answers.{recordOf, recordAt, handed, standing, HandsOut, Sound, numbersOf}
-use Rattle.library.proofs.Outcomes.{inspected, record-within}
+use Rattle.directory.specs.Format.{mostWords}
+use Rattle.directory.specs.Format.{count, version, wordsOf}
+use Rattle.library.specs.Answers.{recordOf, recordAt, handed, standing, HandsOut}
+use Rattle.directory.specs.Judged.{Sound, numbersOf}
+use Rattle.directory.proofs.Inspections.{inspected}
+use Rattle.library.proofs.Outcomes.{record-within}
 
 -- a card's number is a half word, so that its place fits
 pub words-before : {w k : ℕ} → w ≤ mostWords → k ≤ 2 ^ 16 → w * k ≤ mostWords * 2 ^ 16

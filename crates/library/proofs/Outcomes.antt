@@ -12,58 +12,27 @@ use lib.Seq.{length-take-le}
 use Rattle.bytes_le.proofs.Laws.{rest}
 use Rattle.name.specs.Name.{asked, padded}
 use Rattle.refusal.specs.declared.Refusal.{Refusal}
-use Rattle.refusal.specs.declared.Refusal.the-variants.{Malformed, BadName, NameNotHeld, ShortOutput}
+use Rattle.refusal.specs.declared.Refusal.the-variants.{BadName, NameNotHeld, ShortOutput}
 use Rattle.refusal.specs.Order.{Verdict, no, yes, refuseIf, tells}
 use Rattle.library.specs.declared.Reading.{Reading}
 use Rattle.library.specs.declared.Reading.the-variants.{Cards, Refused}
-use Rattle.library.specs.Answers.{Reads, Sound, left, libraryJudged, locating, namesJudged, numbersOf, read, recordOf, verdictRead}
-use Rattle.library.specs.Directory.{among, nameBytes, namesHeld, namesIn, placeOf}
-use Rattle.library.proofs.Names.{among-place, length-pieces, or-false}
-use Rattle.library.specs.Format.{count, directory, headed, headerBytes, mostCards, records, recordsAt, version, wholeOf, wordsIn, wordsOf}
-use Rattle.library.proofs.Headers.{directory-part, directoryPart, few, known-width, narrow, sized}
-use Rattle.library.proofs.Verdicts.{library-pass, library-yes, passed, refuse-yes, then-yes}
+use Rattle.library.specs.Answers.{Reads, left, locating, read, recordOf, verdictRead}
+use Rattle.directory.specs.Judged.{Sound, libraryJudged, numbersOf}
+use Rattle.directory.specs.Directory.{among, nameBytes, namesHeld, namesIn, placeOf}
+use Rattle.library.proofs.Places.{among-place, length-pieces}
+use Rattle.directory.proofs.Names.{or-false}
+use Rattle.directory.specs.Format.{count, directory, headerBytes, records, recordsAt, version, wordsIn, wordsOf}
+use Rattle.directory.proofs.Headers.{directory-part, directoryPart, known-width}
+use Rattle.directory.proofs.Inspections.{Inspected, inspected}
+use Rattle.directory.proofs.Verdicts.{library-pass, library-yes, refuse-yes, then-yes}
 use Rattle.bytes_le.specs.Le.{wordBytes}
-use Rattle.library.specs.inner.Inspecting.{mostWords}
 use Rattle.bytes_le.specs.Buffer.{over}
 
--- ---- a library inspected
+-- ---- the records of a library
 
 -- the part of a library that is its records
 abbrev pub recordsPart : List ℕ → ℕ → List ℕ
 recordsPart s n = take (length s - recordsAt n) (drop (recordsAt n) s)
-
-pub by-header : (s : List ℕ) {n k : ℕ} → headed s ≡ true → n ≡ count s → k ≡ wordsOf (version s) → {v : Verdict (ℕ × ℕ)}
-    → v ≡ namesJudged (directoryPart s n) (n, k) → v ≡ libraryJudged s
-unfolding libraryJudged
-by-header s {n} {k} h en ek e =
-    e ∙ ap (λ (d : List ℕ). namesJudged d (n, k)) (directory-part s en)
-    ∙ ap₂ (λ (a b : ℕ). namesJudged (directory s) (a, b)) en ek ∙ sym (passed (ap not h) Malformed _)
-
--- a sound library of n cards with k words each
-pub record Inspected (s : List ℕ) (n k : ℕ) : Type 0 where
-  pub is-count : n ≡ count s
-  pub cards : n ≤ mostCards
-  pub width : k ≤ mostWords
-  pub words : k * n ≤ mostWords * mostCards
-  pub long : length s ≡ wholeOf k n
-  pub judged : libraryJudged s ≡ yes (n, k)
-
-pub inspected : (s : List ℕ) {n k : ℕ} → libraryJudged s ≡ yes (n, k) → Inspected s n k
-inspected s {n} {k} e =
-    let g = library-yes s e in
-    let z = sized s (g .0 .header) in
-    let en : n ≡ count s = sym (ap (λ (q : ℕ × ℕ). q .0) (g .1)) in
-    let ek : k ≡ wordsOf (version s) = sym (ap (λ (q : ℕ × ℕ). q .1) (g .1)) in
-    let hn : n ≤ mostCards = omega arith in
-    let hk : k ≤ mostWords = omega (arith, narrow (version s)) in
-    record {
-      is-count = en;
-      cards = hn;
-      width = hk;
-      words = few hk hn;
-      long = z .long ∙ sym (ap₂ wholeOf ek en);
-      judged = e;
-    }
 
 pub records-part : {s : List ℕ} {n k : ℕ} → Inspected s n k → recordsPart s n ≡ records s
 records-part {s} {n} v = rest s (recordsAt n) ∙ ap (λ (m : ℕ). drop (recordsAt m) s) (v .is-count)

@@ -2,12 +2,13 @@
 use mathlib.Core.Path.{sym, ap, _∙_}
 use native.Mathlib.Omega.{arith}
 use borrow.Author.Tests.{lt-ltb}
-use Rattle.library.proofs.Outcomes.{words-room, read-short, Inspected, inspected, read-cards, read-none, read-refused}
+use Rattle.library.proofs.Outcomes.{words-room, read-short, read-cards, read-none, read-refused}
+use Rattle.directory.proofs.Inspections.{Inspected, inspected}
 use borrow.Author.Needs.{needs}
 use Rattle.library.proofs.read.Statement.{statement}
 use Rattle.library.proofs.read.Tie as tie
-use Rattle.library.proofs.Names.{or-true}
-use Rattle.library.specs.inner.Inspecting.{found}
+use Rattle.directory.proofs.Names.{or-true}
+use Rattle.directory.specs.Judged.{found}
 
 abbrev start-before-cards : tie.After-cards → tie.Start
 start-before-cards c = c .before .before .before .before .before .before

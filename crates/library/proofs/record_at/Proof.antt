@@ -2,8 +2,8 @@
 use mathlib.Core.Path.{_≡_, refl, _∙_, ap}
 use Prim.Native.Nat.{_*_, _≤_, _^_}
 use native.Mathlib.Omega.{arith}
-use Rattle.library.specs.inner.Inspecting.{mostWords}
-use Rattle.library.specs.Format.{version, wordsOf}
+use Rattle.directory.specs.Format.{mostWords}
+use Rattle.directory.specs.Format.{version, wordsOf}
 use Rattle.library.proofs.HandingOut.{words-before, hands-none, hands-short, hands-record}
 use borrow.Author.Needs.{needs}
 use Rattle.library.proofs.record_at.Statement.{statement}
