@@ -1,15 +1,15 @@
 -- What each operation answers, the refusals in their order, and what it leaves in a lent buffer.
 use mathlib.Core.Path.{_≡_}
-use mathlib.Core.Bool.{not, _||_}
+use mathlib.Core.Bool.{not, cond, _&&_, _||_}
 use mathlib.Core.List.{List, []}
 use Prim.Native.Nat.{ℕ, _+_, _*_}
-use lib.Dec.{ltb}
+use lib.Dec.{leb, ltb}
 use lib.ListN.{length, take, drop}
 use denote.Ref.{RefT, ptr, now}
 use Rattle.bytes_le.specs.Le.{wordBytes}
 use Rattle.bytes_le.specs.Buffer.{over}
 use Rattle.name.specs.Name.{asked, padded}
-use Rattle.refusal.specs.declared.Refusal.the-variants.{Malformed, BadName, NameTwice, NameNotHeld, ShortOutput}
+use Rattle.refusal.specs.declared.Refusal.the-variants.{BadName, NameNotHeld, ShortOutput}
 use Rattle.refusal.specs.Order.{Verdict, no, yes, refuseIf, andThen, Answer, tells}
 use Rattle.library.specs.declared.Reading.{Reading}
 use Rattle.library.specs.declared.Reading.the-variants as reading
@@ -17,36 +17,9 @@ use Rattle.library.specs.declared.Located.{Located}
 use Rattle.library.specs.declared.Located.the-variants as located
 use Rattle.library.specs.declared.Writing.{Writing}
 use Rattle.library.specs.declared.Writing.the-variants as writing
-use Rattle.library.specs.Directory.{nameBytes, namesIn, namesHeld, allNamed, among, twice, placeOf}
-use Rattle.library.specs.Format.{wordsOf, recordsAt, wholeOf, version, count, headed, directory, records, wordsIn, libraryOf, offered}
-
--- ---- 1, 2, 3
-
--- 2 for a malformed name anywhere in a directory, then 3 for a name that stands twice; else a
-unfoldable pub namesJudged : {A : Type 0} → List ℕ → A → Verdict A
-namesJudged d a =
-    refuseIf (not (allNamed (namesIn d))) BadName
-    (refuseIf (twice (namesIn d)) NameTwice (yes a))
-
--- the count of a library's cards, and the words of a record
-abbrev pub numbersOf : List ℕ → ℕ × ℕ
-numbersOf s = (count s, wordsOf (version s))
-
--- 1 of a library, then 2 and 3 of its names; else its two numbers
-unfoldable pub libraryJudged : List ℕ → Verdict (ℕ × ℕ)
-libraryJudged s =
-    refuseIf (not (headed s)) Malformed
-    (namesJudged (directory s) (numbersOf s))
-
--- a library to which none of 1, 2, 3 is given
-abbrev pub Sound : List ℕ → Type 0
-Sound s = libraryJudged s ≡ yes (numbersOf s)
-
--- 1 of names and words that are to become a library of version v, then 2 and 3 of the names; else its two numbers
-unfoldable pub offerJudged : ℕ → List ℕ → List ℕ → Verdict (ℕ × ℕ)
-offerJudged v ns ws =
-    refuseIf (not (offered v ns ws)) Malformed
-    (namesJudged ns (namesHeld ns, wordsOf v))
+use Rattle.directory.specs.Directory.{nameBytes, namesIn, among, placeOf}
+use Rattle.directory.specs.Judged.{numbersOf, libraryJudged, offerJudged}
+use Rattle.directory.specs.Format.{recordsAt, wholeOf, count, directory, records, wordsIn, libraryOf}
 
 -- ---- what is left of a lent buffer
 
@@ -113,6 +86,20 @@ standing (yes p) l = (ptr l .0, p .0 + ptr l .1)
 pub record Finds (l : RefT (List ℕ)) (x : List ℕ) (r : RefT (List ℕ)) : Type 0 where
   pub bytes : now r ≡ handed (locating (now l) x) (now l)
   pub place : ptr r ≡ standing (locating (now l) x) l
+
+-- ---- what handing a record out answers
+
+-- the place and size of card k's record by the header's two numbers; no bytes, at the start, where k is none of the
+-- cards or the library ends before the record does
+unfoldable pub recordAt : List ℕ → ℕ → ℕ × ℕ
+recordAt s k =
+    let p : ℕ × ℕ = recordOf (numbersOf s) k in
+    cond (ltb k (count s) && leb (p .0 + p .1) (length s)) p (0, 0)
+
+-- handing out the record of card k of the library l: the bytes of r, and that they are the library's own
+pub record HandsOut (l : RefT (List ℕ)) (k : ℕ) (r : RefT (List ℕ)) : Type 0 where
+  pub bytes : now r ≡ handed (yes (recordAt (now l) k)) (now l)
+  pub place : ptr r ≡ standing (yes (recordAt (now l) k)) l
 
 -- ---- what writing answers
 

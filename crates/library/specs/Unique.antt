@@ -12,7 +12,7 @@ use Rattle.library.specs.declared.Located.{Located}
 use Rattle.library.specs.declared.Located.the-variants as located
 use Rattle.library.specs.declared.Writing.{Writing}
 use Rattle.library.specs.declared.Writing.the-variants as writing
-use Rattle.library.specs.Answers.{toldRead, read, Reads, toldLocated, locating, Finds, toldWritten, written, Writes}
+use Rattle.library.specs.Answers.{toldRead, read, Reads, toldLocated, locating, Finds, HandsOut, toldWritten, written, Writes}
 
 -- the answer that a verdict is: one whatever tells it
 
@@ -57,6 +57,10 @@ unique-locate s x r r′ a b =
 pub unique-find : {l : RefT (List ℕ)} {x : List ℕ} {r r′ : RefT (List ℕ)}
     → Finds l x r → Finds l x r′ → (now r ≡ now r′) × (ptr r ≡ ptr r′)
 unique-find a b = (unique-by-equation (a .bytes) (b .bytes), unique-by-equation (a .place) (b .place))
+
+pub unique-record-at : {l : RefT (List ℕ)} {k : ℕ} {r r′ : RefT (List ℕ)}
+    → HandsOut l k r → HandsOut l k r′ → (now r ≡ now r′) × (ptr r ≡ ptr r′)
+unique-record-at a b = (unique-by-equation (a .bytes) (b .bytes), unique-by-equation (a .place) (b .place))
 
 pub unique-write : {v : ℕ} {ns ws l : List ℕ} {r r′ : Writing} {m m′ : List ℕ}
     → Writes v ns ws l r m → Writes v ns ws l r′ m′ → (r ≡ r′) × (m ≡ m′)

@@ -3,13 +3,14 @@ use mathlib.Core.Path.{_≡_, sym, ap, _∙_}
 use mathlib.Core.Bool.{true}
 use native.Mathlib.Omega.{arith}
 use Rattle.name.specs.Name.{asked}
-use Rattle.library.proofs.Outcomes.{record-within, locate-name, locate-none, locate-at, Inspected, inspected, locate-refused}
+use Rattle.library.proofs.Outcomes.{record-within, locate-name, locate-none, locate-at, locate-refused}
+use Rattle.directory.proofs.Inspections.{Inspected, inspected}
 use borrow.Author.Needs.{needs}
 use borrow.Author.Tests.{not-true, not-false}
 use Rattle.library.proofs.locate.Statement.{statement}
 use Rattle.library.proofs.locate.Tie as tie
 use Rattle.refusal.specs.Order.{tells}
-use Rattle.library.specs.inner.Inspecting.{found}
+use Rattle.directory.specs.Judged.{found}
 
 abbrev cards-before-pad : tie.After-pad → tie.After-cards
 cards-before-pad c = c .before .before .before .before

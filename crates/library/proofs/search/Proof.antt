@@ -2,7 +2,8 @@
 use mathlib.Core.Path.{sym, _∙_}
 use native.Mathlib.Omega.{arith}
 use lib.ListN.{length}
-use Rattle.library.proofs.Names.{shorter, Placed, place-end, place-here, place-on}
+use Rattle.directory.proofs.Names.{shorter}
+use Rattle.library.proofs.Places.{Placed, place-end, place-here, place-on}
 use borrow.Author.Needs.{needs}
 use Rattle.library.proofs.search.Statement.{statement}
 use Rattle.library.proofs.search.Tie as tie

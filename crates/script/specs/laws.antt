@@ -1,0 +1,3 @@
+-- What follows from the definitions of words and commands.
+pub mod Lines
+pub mod Split
