@@ -1,3 +1,3 @@
--- Words of inner contracts: what looking through the places and placing's tests give.
+-- Words of inner contracts: what looking through the places, their sets and placing's tests give.
 pub mod Parts
 pub mod Placing

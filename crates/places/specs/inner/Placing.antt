@@ -11,8 +11,8 @@ use Rattle.branch.specs.Rows.{C1, C4, roleIndex}
 use Rattle.places.specs.declared.Way.{Way}
 use Rattle.places.specs.declared.Way.the-variants.{Go, Stop}
 use Rattle.totals.specs.Gives.{nodesMost}
-use Rattle.places.specs.Arguments.{Found, known}
-use Rattle.places.specs.Finding.{anyOf}
+use Rattle.given.specs.Lists.{anyOf}
+use Rattle.given.specs.Arguments.{Found, known}
 
 -- C4 stands on another node than C1
 abbrev pub apartOn : List ℕ → Bool

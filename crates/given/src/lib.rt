@@ -1,12 +1,14 @@
 // Numbers of the caller, each an i64, as the board holds them. Every number has an answer.
 ghost use mathlib.Core.Path.{_≡_};
 ghost use mathlib.Core.List.{map};
-ghost use Rattle.places.specs.Arguments.{issueOf};
-ghost use Rattle.places.specs.inner.Parts.{nodeOf};
-use crate::ISSUES;
+ghost use Rattle.given.specs.Arguments.{issueOf};
+ghost use Rattle.given.specs.inner.Nodes.{nodeOf};
 use branch::ROLES;
 use totals::NODES;
 use whole::Int;
+
+// The last issue number.
+pub const ISSUES: u32 = 65535;
 
 // An issue number; 0, which is never given, for any number that is none.
 pub fn issue_of(n: i64) -> u32

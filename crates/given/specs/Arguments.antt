@@ -2,7 +2,7 @@
 use mathlib.Core.Bool.{Bool, false, cond, _||_, not}
 use mathlib.Core.List.{List, [], _∷_}
 use Prim.Native.Nat.{ℕ}
-use lib.Dec.{eqb, leb}
+use lib.Dec.{eqb, leb, ltb}
 use lib.ListN.{getD}
 use lib.IntN.{ℤ, pos, negsuc, natAbs}
 use lib.Signed.{leZ, ltZ}
@@ -10,7 +10,14 @@ use Rattle.refusal.specs.declared.Refusal.the-variants.{Unknown}
 use Rattle.refusal.specs.Order.{Verdict, no, yes}
 use Rattle.branch.specs.Rows.{C1, C4, roleIndex}
 use Rattle.totals.specs.Gives.{nodesMost}
-use Rattle.places.specs.Counts.{issuesMost}
+
+-- the last issue number
+abbrev pub issuesMost : ℕ
+issuesMost = 65535
+
+-- all numbers are given
+abbrev pub usedUp : ℕ → Bool
+usedUp next = ltb issuesMost next
 
 -- what was looked for, if it is there
 pub data Found (A : Type 0) : Type 0 where
