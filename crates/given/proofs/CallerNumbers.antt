@@ -4,9 +4,8 @@ use Prim.Native.Nat.{ℕ, _-_, _≤_, _<_, zero-le}
 use lib.IntN.{ℤ, pos, negsuc}
 use borrow.Author.Tests.{le-leb, lt-leb, le-ltb}
 use Rattle.totals.specs.Gives.{nodesMost}
-use Rattle.places.specs.Counts.{issuesMost}
-use Rattle.places.specs.Arguments.{issueOf}
-use Rattle.places.specs.inner.Parts.{nodeOf}
+use Rattle.given.specs.Arguments.{issuesMost, issueOf}
+use Rattle.given.specs.inner.Nodes.{nodeOf}
 
 pub issue-is : (k : ℕ) (z : ℤ) → pos k ≡ z → k ≤ issuesMost → k ≡ issueOf z
 issue-is k z e h = rw (← e, le-leb k issuesMost h)

@@ -5,9 +5,9 @@ use mir.Syntax.{w64}
 use mir.ValLaws.{toZ-ofZ}
 use borrow.Author.Needs.{needs}
 use Rattle.whole.specs.Signed.{opened}
-use Rattle.places.proofs.CallerNumbers.{issue-is, issue-above, issue-below}
-use Rattle.places.proofs.given.issue_of.Statement.{statement}
-use Rattle.places.proofs.given.issue_of.Tie as tie
+use Rattle.given.proofs.CallerNumbers.{issue-is, issue-above, issue-below}
+use Rattle.given.proofs.issue_of.Statement.{statement}
+use Rattle.given.proofs.issue_of.Tie as tie
 
 -- the number that `open` gave is the caller's
 is-up : (c : tie.After-known-told) → pos (c .before .i .given .0 .0) ≡ c .before .before .before .before .args .n
