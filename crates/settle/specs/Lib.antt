@@ -1,0 +1,3 @@
+pub mod Change
+pub mod First
+pub mod inner
