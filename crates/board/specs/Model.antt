@@ -165,11 +165,11 @@ leveled b levels =
 unfoldable pub freshBoard : Board
 freshBoard =
     record {
-      numbers = replicate (cardsMost * numbersEach) 0;
-      powers = replicate (cardsMost * powersEach) 0;
-      ticks = replicate (cardsMost * ticksEach) 0;
-      switches = replicate (cardsMost * switchesEach) false;
-      names = replicate (cardsMost * nameLength) 0;
+      numbers = replicate (numbersEach * cardsMost) 0;
+      powers = replicate (powersEach * cardsMost) 0;
+      ticks = replicate (ticksEach * cardsMost) 0;
+      switches = replicate (switchesEach * cardsMost) false;
+      names = replicate (nameLength * cardsMost) 0;
       held = replicate cardsMost 0;
       next = 1;
       volts = replicate nodesMost (keptAs (pos 0));
@@ -177,7 +177,7 @@ freshBoard =
       issues = replicate transistorsMost 0;
       cards = replicate transistorsMost 0;
       seats = replicate transistorsMost 0;
-      nodes = replicate (transistorsMost * roles) 0;
+      nodes = replicate (roles * transistorsMost) 0;
     }
 
 abbrev pub refuse : Board → Refusal → Answered
@@ -216,7 +216,7 @@ placed b nodes (yes i) =
 
 abbrev pub mayPlace : Board → ℤ → List ℤ → Verdict ℕ
 mayPlace b card nodes =
-    placeVerdict (cardPlace (issueOf card) (cardsOf b)) (workedAt (cardsOf b))
+    placeVerdict (cardPlace (issueOf card) (cardsOf b)) (λ (i : ℕ). workedAt (cardsOf b) i .«rcbli_zero»)
     (λ (i : ℕ). overloads (workedAt (cardsOf b) i) (map natAbs nodes) (voltsOf b)) nodes
     (leb transistorsMost (freeTransistor (transistorsOf b))) (usedUp (b .next))
 

@@ -1,0 +1,2 @@
+-- What follows from the first that overloads.
+pub mod Firsts
