@@ -1,13 +1,14 @@
 -- How a card made ready is laid out: which of its numbers stand where in the stretch that its place has of each array.
+use mathlib.Core.Path.{_≡_}
 use mathlib.Core.Bool.{Bool, false}
 use mathlib.Core.List.{List, [], _∷_}
-use Prim.Native.Nat.{ℕ, _*_}
+use Prim.Native.Nat.{ℕ, _+_, _*_}
 use lib.ListN.{getD}
 use Rattle.float.specs.declared.Split.{Split}
 use Rattle.octave.specs.declared.Reciprocal.{Reciprocal}
 use Rattle.card.specs.declared.WorkedCard.{WorkedCard}
 use Rattle.branch.specs.declared.Ready.{Ready}
-use Rattle.deck.specs.Stretch.{stretch}
+use Rattle.deck.specs.Stretch.{stretch, written}
 
 -- the places
 abbrev pub cardsMost : ℕ
@@ -31,21 +32,20 @@ switchesEach = 2
 abbrev pub numbersOf : Ready → List ℕ
 numbersOf r =
     r .card .sn .a ∷ r .card .bulk .a ∷ r .card .side .a ∷ r .card .nonideal .a ∷ r .card .ex .a ∷ r .card .sub .a
-    ∷ r .card .sf .a ∷ r .card .rex .a ∷ r .card .rsub .a ∷ r .card .octave ∷ r .card .second
-    ∷ r .plain .w ∷ r .plain .high ∷ r .plain .low ∷ r .plain .base
-    ∷ r .second .w ∷ r .second .high ∷ r .second .low ∷ r .second .base ∷ []
+    ∷ r .card .sf .a ∷ r .card .rex .a ∷ r .card .rsub .a ∷ r .card .octave ∷ r .card .second ∷ r .plain .w
+    ∷ r .plain .high ∷ r .plain .low ∷ r .plain .base ∷ r .second .w ∷ r .second .high ∷ r .second .low
+    ∷ r .second .base ∷ []
 
-abbrev pub powersOf : Ready → List ℕ
-powersOf r =
-    r .card .sn .down ∷ r .card .bulk .down ∷ r .card .side .down ∷ r .card .nonideal .down ∷ r .card .ex .down
-    ∷ r .card .sub .down ∷ r .card .sf .down ∷ r .card .rex .down ∷ r .card .rsub .down ∷ []
+abbrev pub powersOf : WorkedCard → List ℕ
+powersOf c =
+    c .sn .down ∷ c .bulk .down ∷ c .side .down ∷ c .nonideal .down ∷ c .ex .down ∷ c .sub .down ∷ c .sf .down
+    ∷ c .rex .down ∷ c .rsub .down ∷ []
 
 abbrev pub ticksOf : Ready → List ℕ
-ticksOf r =
-    r .plain .add ∷ r .second .add ∷ r .bulk ∷ r .side ∷ r .nonideal ∷ r .ex ∷ r .sub ∷ r .sf ∷ []
+ticksOf r = r .plain .add ∷ r .second .add ∷ r .bulk ∷ r .side ∷ r .nonideal ∷ r .ex ∷ r .sub ∷ r .sf ∷ []
 
-abbrev pub switchesOf : Ready → List Bool
-switchesOf r = r .card .exsub ∷ r .card .«rcbli_zero» ∷ []
+abbrev pub switchesOf : WorkedCard → List Bool
+switchesOf c = c .exsub ∷ c .«rcbli_zero» ∷ []
 
 -- ---- and back: the card of such numbers
 
@@ -70,26 +70,22 @@ workedFrom numbers powers switches =
       «rcbli_zero» = getD switches 1 false;
     }
 
+abbrev pub reciprocalFrom : List ℕ → List ℕ → ℕ → ℕ → Reciprocal
+reciprocalFrom numbers ticks k t =
+    record {
+      w = getD numbers k 0;
+      high = getD numbers (k + 1) 0;
+      low = getD numbers (k + 2) 0;
+      base = getD numbers (k + 3) 0;
+      add = getD ticks t 0;
+    }
+
 abbrev pub readyFrom : List ℕ → List ℕ → List ℕ → List Bool → Ready
 readyFrom numbers powers ticks switches =
     record {
       card = workedFrom numbers powers switches;
-      plain =
-          record {
-            w = getD numbers 11 0;
-            high = getD numbers 12 0;
-            low = getD numbers 13 0;
-            base = getD numbers 14 0;
-            add = getD ticks 0 0;
-          };
-      second =
-          record {
-            w = getD numbers 15 0;
-            high = getD numbers 16 0;
-            low = getD numbers 17 0;
-            base = getD numbers 18 0;
-            add = getD ticks 1 0;
-          };
+      plain = reciprocalFrom numbers ticks 11 0;
+      second = reciprocalFrom numbers ticks 15 1;
       bulk = getD ticks 2 0;
       side = getD ticks 3 0;
       nonideal = getD ticks 4 0;
@@ -98,8 +94,28 @@ readyFrom numbers powers ticks switches =
       sf = getD ticks 7 0;
     }
 
--- the card at place i of the four arrays
+-- ---- the stretches of place i, and the card there
+
+abbrev pub numbersAt : List ℕ → ℕ → List ℕ
+numbersAt numbers i = stretch 0 numbers (numbersEach * i) numbersEach
+
+abbrev pub powersAt : List ℕ → ℕ → List ℕ
+powersAt powers i = stretch 0 powers (powersEach * i) powersEach
+
+abbrev pub ticksAt : List ℕ → ℕ → List ℕ
+ticksAt ticks i = stretch 0 ticks (ticksEach * i) ticksEach
+
+abbrev pub switchesAt : List Bool → ℕ → List Bool
+switchesAt switches i = stretch false switches (switchesEach * i) switchesEach
+
 unfoldable pub readyAt : List ℕ → List ℕ → List ℕ → List Bool → ℕ → Ready
 readyAt numbers powers ticks switches i =
-    readyFrom (stretch 0 numbers (numbersEach * i) numbersEach) (stretch 0 powers (powersEach * i) powersEach)
-    (stretch 0 ticks (ticksEach * i) ticksEach) (stretch false switches (switchesEach * i) switchesEach)
+    readyFrom (numbersAt numbers i) (powersAt powers i) (ticksAt ticks i) (switchesAt switches i)
+
+-- the card r written at place i of the four arrays, and nothing else
+pub record Laid (i : ℕ) (r : Ready) (numbers powers ticks : List ℕ) (switches : List Bool)
+    (numbers′ powers′ ticks′ : List ℕ) (switches′ : List Bool) : Type 0 where
+  pub numbers-laid : numbers′ ≡ written 0 numbers (numbersEach * i) (numbersOf r) numbersEach
+  pub powers-laid : powers′ ≡ written 0 powers (powersEach * i) (powersOf (r .card)) powersEach
+  pub ticks-laid : ticks′ ≡ written 0 ticks (ticksEach * i) (ticksOf r) ticksEach
+  pub switches-laid : switches′ ≡ written false switches (switchesEach * i) (switchesOf (r .card)) switchesEach

@@ -1,6 +1,6 @@
 -- A caller's number in its two halves: what issue number or node it is.
 use mathlib.Core.Path.{_≡_}
-use Prim.Native.Nat.{ℕ, _-_, _≤_, _<_, zero-le}
+use Prim.Native.Nat.{ℕ, _≤_, _<_, zero-le}
 use lib.IntN.{ℤ, pos, negsuc}
 use borrow.Author.Tests.{le-leb, lt-leb, le-ltb}
 use Rattle.totals.specs.Gives.{nodesMost}
