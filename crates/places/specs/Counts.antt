@@ -1,4 +1,4 @@
--- How many places there are, and how long the flat arrays are.
+-- How many places there are.
 pub use Rattle.deck.specs.Layout.{cardsMost}
 use Prim.Native.Nat.{ℕ}
 

@@ -45,10 +45,14 @@ onCard n issue card = cond (eqb issue 0) false (eqb card n)
 abbrev pub standsOn : ℕ → Transistor → Bool
 standsOn n t = onCard n (t .issue) (t .card)
 
+-- an issue number where the name is the one asked for, else 0
+abbrev pub issueIf : List ℕ → ℕ → List ℕ → ℕ
+issueIf asked issue name = cond (same name asked) issue 0
+
 -- the highest issue among the places that hold a card of the name
 unfoldable pub highestAt : List ℕ → List Card → ℕ
-highestAt name [] = 0
-highestAt name (c ∷ cs) = larger (cond (same (c .name) name) (c .issue) 0) (highestAt name cs)
+highestAt asked [] = 0
+highestAt asked (c ∷ cs) = larger (issueIf asked (c .issue) (c .name)) (highestAt asked cs)
 
 -- one of the nodes is n
 abbrev pub names : ℕ → List ℕ → Bool

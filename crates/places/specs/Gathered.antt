@@ -25,28 +25,30 @@ pub record Transistor : Type 0 where
   pub seat : ℕ
   pub nodes : List ℕ
 
--- the cards: their issue numbers, names and the deck's four arrays
-unfoldable pub cardsIn : List ℕ → List ℕ → List ℕ → List ℕ → List ℕ → List Bool → List Card
-unfolding listUp
-cardsIn held names numbers powers ticks switches =
-    listUp
-    (λ (i : ℕ). record {
+-- the card at place i: its issue number, its name, and what the deck's four arrays hold
+abbrev pub cardIn : List ℕ → List ℕ → List ℕ → List ℕ → List ℕ → List Bool → ℕ → Card
+cardIn held names numbers powers ticks switches i =
+    record {
       issue = getD held i 0;
       name = stretch 0 names (nameLength * i) nameLength;
       ready = readyAt numbers powers ticks switches i;
-    }) cardsMost 0
+    }
 
--- the transistors: their issue numbers, their cards', the places of these, and seven nodes each
-unfoldable pub transistorsIn : List ℕ → List ℕ → List ℕ → List ℕ → List Transistor
-unfolding listUp
-transistorsIn issues cards seats nodes =
-    listUp
-    (λ (i : ℕ). record {
+unfoldable pub cardsIn : List ℕ → List ℕ → List ℕ → List ℕ → List ℕ → List Bool → List Card
+cardsIn held names numbers powers ticks switches = listUp (cardIn held names numbers powers ticks switches) cardsMost 0
+
+-- the transistor at place i: its issue number, its card's, the place of that, and its nodes
+abbrev pub transistorIn : List ℕ → List ℕ → List ℕ → List ℕ → ℕ → Transistor
+transistorIn issues cards seats nodes i =
+    record {
       issue = getD issues i 0;
       card = getD cards i 0;
       seat = getD seats i 0;
       nodes = stretch 0 nodes (roles * i) roles;
-    }) transistorsMost 0
+    }
+
+unfoldable pub transistorsIn : List ℕ → List ℕ → List ℕ → List ℕ → List Transistor
+transistorsIn issues cards seats nodes = listUp (transistorIn issues cards seats nodes) transistorsMost 0
 
 -- what an empty place holds, and what is read past the last place
 abbrev pub emptyCard : Card

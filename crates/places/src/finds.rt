@@ -1,8 +1,19 @@
 // Looking through the places of cards and transistors. A place whose issue is 0 is empty.
+ghost use mathlib.Core.Path.{_≡_};
+ghost use Prim.Native.Nat.{_*_, _<_};
+ghost use Rattle.name.specs.Name.{nameLength};
+ghost use Rattle.deck.specs.Stretch.{stretch};
+ghost use Rattle.given.specs.Lists.{larger};
+ghost use Rattle.places.specs.Counts.{cardsMost, transistorsMost};
+ghost use Rattle.places.specs.Finding.{onCard, issueIf};
+ghost use Rattle.places.specs.inner.Parts.{placeOr};
+ghost use Rattle.places.specs.inner.Flat.{firstAt, numberPlace, anyOn, highestIn};
+use crate::ALL_NAMES;
 use crate::CARDS;
 use crate::TRANSISTORS;
 
 pub fn find_card(held: &[u32; CARDS], n: u32) -> usize
+    ensures { λ r. ⌜ r ≡ firstAt cardsMost n (now (held .entry)) ⌝ }
 {
     for i in 0..CARDS {
         if held[i] == n {
@@ -13,6 +24,7 @@ pub fn find_card(held: &[u32; CARDS], n: u32) -> usize
 }
 
 pub(crate) fn find_transistor(issues: &[u32; TRANSISTORS], n: u32) -> usize
+    ensures { λ r. ⌜ r ≡ firstAt transistorsMost n (now (issues .entry)) ⌝ }
 {
     for i in 0..TRANSISTORS {
         if issues[i] == n {
@@ -22,7 +34,9 @@ pub(crate) fn find_transistor(issues: &[u32; TRANSISTORS], n: u32) -> usize
     TRANSISTORS
 }
 
+// The place of an issue number, or the number of places.
 pub fn card_at(held: &[u32; CARDS], n: u32) -> usize
+    ensures { λ r. ⌜ r ≡ placeOr cardsMost (numberPlace cardsMost n (now (held .entry))) ⌝ }
 {
     if n == 0 {
         return CARDS;
@@ -31,6 +45,7 @@ pub fn card_at(held: &[u32; CARDS], n: u32) -> usize
 }
 
 pub fn transistor_at(issues: &[u32; TRANSISTORS], n: u32) -> usize
+    ensures { λ r. ⌜ r ≡ placeOr transistorsMost (numberPlace transistorsMost n (now (issues .entry))) ⌝ }
 {
     if n == 0 {
         return TRANSISTORS;
@@ -38,37 +53,66 @@ pub fn transistor_at(issues: &[u32; TRANSISTORS], n: u32) -> usize
     find_transistor(issues, n)
 }
 
+// Whether a transistor stands on the card.
+fn is_on(issue: u32, card: u32, n: u32) -> bool
+    ensures { λ r. ⌜ r ≡ onCard n issue card ⌝ }
+{
+    if issue == 0 {
+        return false;
+    }
+    card == n
+}
+
 pub fn any_on(issues: &[u32; TRANSISTORS], cards: &[u32; TRANSISTORS], n: u32) -> bool
+    ensures { λ r. ⌜ r ≡ anyOn n (now (issues .entry)) (now (cards .entry)) ⌝ }
 {
     for i in 0..TRANSISTORS {
-        if issues[i] != 0 {
-            if cards[i] == n { return true; }
+        if is_on(issues[i], cards[i], n) {
+            return true;
         }
     }
     false
 }
 
-fn name_at(names: &[u8; 256], i: usize) -> [u8; name::LENGTH] {
+fn name_at(names: &[u8; ALL_NAMES], i: usize) -> [u8; name::LENGTH]
+    requires { ⌜ i < cardsMost ⌝ }
+    ensures { λ r. ⌜ r ≡ stretch 0 (now (names .entry)) (nameLength * i) nameLength ⌝ }
+{
     let mut own = [0u8; name::LENGTH];
+    let at = name::LENGTH * i;
     for k in 0..name::LENGTH {
-        own[k] = names[16 * i + k];
+        own[k] = names[at + k];
     }
     own
 }
 
 fn larger_of(a: u32, b: u32) -> u32
+    ensures { λ r. ⌜ r ≡ larger a b ⌝ }
 {
     if a < b { b } else { a }
 }
 
-pub fn highest(held: &[u32; CARDS], names: &[u8; 256], name: &[u8; name::LENGTH]) -> u32
+// The best issue so far, or this one where it has the name and is higher.
+fn better_of(issue: u32, own: &[u8; name::LENGTH], asked: &[u8; name::LENGTH], best: u32) -> u32
+    ensures { λ r. ⌜ r ≡ larger (issueIf (now (asked .entry)) issue (now (own .entry))) best ⌝ }
+{
+    if name::is_same(own, asked) {
+        return larger_of(issue, best);
+    }
+    best
+}
+
+// The highest issue among the cards of a name.
+pub fn highest(held: &[u32; CARDS], names: &[u8; ALL_NAMES], asked: &[u8; name::LENGTH]) -> u32
+    ensures { λ r. ⌜ r ≡ highestIn (now (asked .entry)) (now (held .entry)) (now (names .entry)) ⌝ }
 {
     let mut best: u32 = 0;
-    for i in 0..CARDS {
+    let mut i = CARDS;
+    while 0 < i {
+        i -= 1;
         let own = name_at(names, i);
-        if name::is_same(&own, name) {
-            best = larger_of(held[i], best);
-        }
+        let m = better_of(held[i], &own, asked, best);
+        best = m;
     }
     best
 }

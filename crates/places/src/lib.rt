@@ -2,8 +2,9 @@
 
 mod finds; // finds.rt: looking through the places
 mod rules; // rules.rt: placing's tests
-mod sets; // sets.rt: which transistors name a node
+mod sets; // sets.rt: nodes and names by place, and which transistors name a node
 
+use branch::ROLES;
 pub use finds::any_on;
 pub use finds::card_at;
 pub use finds::find_card;
@@ -14,16 +15,20 @@ pub use rules::may_place;
 pub use sets::naming;
 pub use sets::next_in;
 pub use sets::nodes_at;
-pub use sets::put_nodes;
 pub use sets::put_name;
+pub use sets::put_nodes;
 
 pub const CARDS: usize = deck::CARDS;
 
 pub const TRANSISTORS: usize = 64;
+
+// How long the arrays of names and of nodes are.
+pub const ALL_NAMES: usize = name::LENGTH * CARDS;
+
+pub const ALL_NODES: usize = ROLES * TRANSISTORS;
 
 // The places of the card and of the transistor to be, or the refusal.
 pub enum Way {
     Go(usize, usize),
     Stop(Refusal),
 }
-

@@ -1,3 +1,14 @@
+// Placing's tests in their order, up to the last, which needs the currents.
+ghost use mathlib.Core.Path.{_≡_};
+ghost use mathlib.Core.Bool.{_&&_};
+ghost use Prim.Native.Nat.{_<_};
+ghost use lib.Dec.{leb};
+ghost use Rattle.totals.specs.Gives.{nodesMost};
+ghost use Rattle.given.specs.Lists.{anyOf};
+ghost use Rattle.given.specs.Arguments.{usedUp};
+ghost use Rattle.places.specs.Counts.{cardsMost, transistorsMost};
+ghost use Rattle.places.specs.inner.Flat.{numberPlace, freePlace, joinedAt};
+ghost use Rattle.places.specs.inner.Placing.{apartOn, placing, wayOf};
 use crate::CARDS;
 use crate::TRANSISTORS;
 use crate::Way;
@@ -5,11 +16,15 @@ use crate::finds;
 use branch::C1;
 use branch::C4;
 use branch::ROLES;
+use deck::ALL_SWITCHES;
+use deck::SWITCHES;
 use given::ISSUES;
 use refusal::Refusal;
 use totals::NODES;
 
-fn any_off(on: &[u8; ROLES]) -> bool
+// Whether a node is none of the board's.
+fn any_off(on: [u8; ROLES]) -> bool
+    ensures { λ r. ⌜ r ≡ anyOf (leb nodesMost) on ⌝ }
 {
     for k in 0..ROLES {
         let n = on[k] as usize;
@@ -20,9 +35,12 @@ fn any_off(on: &[u8; ROLES]) -> bool
     false
 }
 
-fn is_split(switches: &[bool; 32], i: usize, on: &[u8; ROLES]) -> bool
+// Whether C4 stands apart from C1 on a card that joins them.
+fn is_split(switches: &[bool; ALL_SWITCHES], i: usize, on: &[u8; ROLES]) -> bool
+    requires { ⌜ i < cardsMost ⌝ }
+    ensures { λ r. ⌜ r ≡ (joinedAt (now (switches .entry)) i && apartOn (now (on .entry))) ⌝ }
 {
-    if switches[2 * i + 1] {
+    if switches[SWITCHES * i + 1] {
         on[C4] != on[C1]
     } else {
         false
@@ -31,18 +49,20 @@ fn is_split(switches: &[bool; 32], i: usize, on: &[u8; ROLES]) -> bool
 
 pub fn may_place(
     held: &[u32; CARDS],
-    switches: &[bool; 32],
+    switches: &[bool; ALL_SWITCHES],
     issues: &[u32; TRANSISTORS],
     next: u32,
     n: u32,
     on: &[u8; ROLES],
 ) -> Way
+    ensures { λ r. ⌜ r ≡ wayOf (freePlace (now (issues .entry))) (placing (numberPlace cardsMost n (now (held .entry))) (joinedAt (now (switches .entry))) (now (on .entry)) (leb transistorsMost (freePlace (now (issues .entry)))) (usedUp next)) ⌝ }
 {
     let i = finds::card_at(held, n);
     if CARDS <= i {
         return Way::Stop(Refusal::Unknown);
     }
-    if any_off(on) {
+    let own = *on;
+    if any_off(own) {
         return Way::Stop(Refusal::OutOfRange);
     }
     if is_split(switches, i, on) {

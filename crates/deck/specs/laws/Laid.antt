@@ -2,9 +2,9 @@
 use mathlib.Core.Path.{_≡_, refl}
 use mathlib.Core.Bool.{Bool, false}
 use mathlib.Core.List.{List}
-use Prim.Native.Nat.{ℕ, _*_, _<_}
+use Prim.Native.Nat.{ℕ, _+_, _*_, _<_}
 use native.Mathlib.Omega.{arith}
-use lib.ListN.{length, replicate}
+use lib.ListN.{length, getD, replicate}
 use Rattle.branch.specs.declared.Ready.{Ready}
 use Rattle.branch.specs.inner.Ready.{noReady}
 use Rattle.deck.specs.Stretch.{written}
@@ -20,7 +20,7 @@ use Rattle.deck.specs.Layout.{
   switchesOf,
   readyAt,
 }
-use Rattle.deck.specs.laws.Stretches.{stretch-written, stretch-apart, stretch-none}
+use Rattle.deck.specs.laws.Stretches.{getD-stretch, stretch-written, stretch-apart, stretch-none}
 
 module _ (numbers powers ticks : List ℕ) (switches : List Bool) (i : ℕ) (r : Ready) where
   pub ready-put : i < cardsMost → length numbers ≡ numbersEach * cardsMost → length powers ≡ powersEach * cardsMost →
@@ -52,6 +52,13 @@ module _ (numbers powers ticks : List ℕ) (switches : List Bool) (i : ℕ) (r :
         stretch-apart 0 ticks (ticksOf r) ticksEach i j e,
         stretch-apart false switches (switchesOf (r .card)) switchesEach i j e,
       )
+
+-- R_Cbli is 0
+pub ready-joined : (numbers powers ticks : List ℕ) (switches : List Bool) (i : ℕ) →
+    readyAt numbers powers ticks switches i .card .«rcbli_zero» ≡ getD switches (switchesEach * i + 1) false
+unfolding readyAt
+ready-joined numbers powers ticks switches i =
+    getD-stretch false switches (switchesEach * i) switchesEach 1 (omega arith)
 
 pub ready-fresh : (n p t s i : ℕ) →
     readyAt (replicate n 0) (replicate p 0) (replicate t 0) (replicate s false) i ≡ noReady

@@ -86,12 +86,12 @@ module _ {A : Type 0} (d : A) where
           let o : j < i = omega arith in
           let m = mul-le-mul-left w o in omega arith
 
-  -- a stretch of a list of nothing but d
+  -- a list of nothing but d, and a stretch of it
+  pub getD-none : (n i : ℕ) → getD (replicate n d) i d ≡ d
+  getD-none zero i = refl
+  getD-none (suc n) zero = refl
+  getD-none (suc n) (suc i) = getD-none n i
+
   pub stretch-none : (m at n : ℕ) → stretch d (replicate m d) at n ≡ replicate n d
   unfolding stretch
-  stretch-none m at n = up-all _ d n at (none m)
-    where
-      none : (k i : ℕ) → getD (replicate k d) i d ≡ d
-      none zero i = refl
-      none (suc k) zero = refl
-      none (suc k) (suc i) = none k i
+  stretch-none m at n = up-all _ d n at (getD-none m)

@@ -1,16 +1,12 @@
 -- A place found, or none, as a number: it tells whether there was one.
 use mathlib.Core.Path.{_≡_, refl}
 use mathlib.Core.Bool.{Bool, true, false, cond}
-use mathlib.Core.List.{List}
 use Prim.Native.Nat.{ℕ, _≤_, _<_}
 use native.Mathlib.Omega.{arith}
-use lib.Dec.{eqb, ltb}
+use lib.Dec.{ltb}
 use borrow.Author.Tests.{ltb-true}
-use Rattle.places.specs.declared.Card.{Card}
-use Rattle.places.specs.declared.Transistor.{Transistor}
-use Rattle.places.specs.Counts.{cardsMost, transistorsMost}
-use Rattle.places.specs.Arguments.{Found, none, some}
-use Rattle.places.specs.Finding.{first, isCard, isTransistor, cardPlace, transistorPlace, foundAt}
+use Rattle.given.specs.Arguments.{Found, none, some}
+use Rattle.places.specs.Finding.{foundAt}
 use Rattle.places.specs.inner.Parts.{placeOr}
 
 -- a place found lies below the number of places
@@ -27,21 +23,13 @@ below most i false = go (ltb i most) refl
     go false e = tt
 
 -- so that its number tells whether there was one
-not-there : (most i : ℕ) (t : Bool) → most ≤ placeOr most (cond t none (foundAt most i)) →
+pub not-there : (most i : ℕ) (t : Bool) → most ≤ placeOr most (cond t none (foundAt most i)) →
     cond t none (foundAt most i) ≡ none
 not-there most i t h = go (cond t none (foundAt most i)) (below most i t) h
   where
     go : (f : Found ℕ) → Below most f → most ≤ placeOr most f → f ≡ none
     go none b k = refl
     go (some j) b k = absurd (omega arith)
-
-pub no-card-there : (n : ℕ) (cards : List Card) → cardsMost ≤ placeOr cardsMost (cardPlace n cards) →
-    cardPlace n cards ≡ none
-no-card-there n cards h = not-there cardsMost (first (isCard n) cards) (eqb n 0) h
-
-pub no-transistor-there : (n : ℕ) (ts : List Transistor) →
-    transistorsMost ≤ placeOr transistorsMost (transistorPlace n ts) → transistorPlace n ts ≡ none
-no-transistor-there n ts h = not-there transistorsMost (first (isTransistor n) ts) (eqb n 0) h
 
 pub is-there : (most : ℕ) (f : Found ℕ) → placeOr most f < most → f ≡ some (placeOr most f)
 is-there most none h = absurd (omega arith)
