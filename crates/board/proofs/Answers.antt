@@ -4,7 +4,7 @@ use mathlib.Core.Bool.{Bool, true, false, cond}
 use mathlib.Core.List.{List}
 use Prim.Native.Nat.{ℕ, _+_, _≤_, _<_}
 use native.Mathlib.Omega.{arith}
-use lib.ListN.{getD, set}
+use lib.ListN.{getD}
 use lib.IntN.{ℤ, pos, natAbs}
 use borrow.Author.Tests.{ne-eqb, le-leb, lt-leb, lt-ltb, le-ltb}
 use Rattle.refusal.specs.declared.Refusal.{Refusal}
@@ -18,16 +18,16 @@ use Rattle.card.specs.Judge.{judgeOf}
 use Rattle.card.specs.Record.{rightLength}
 use Rattle.branch.specs.declared.Ready.{Ready}
 use Rattle.branch.specs.inner.Ready.{readyOf}
+use Rattle.given.specs.Lists.{anyOf}
+use Rattle.given.specs.Arguments.{none, some, issueOf, issuesMost, offNode}
+use Rattle.given.specs.inner.Nodes.{nodeOf}
+use Rattle.places.specs.Gathered.{emptyCard}
+use Rattle.places.specs.Finding.{cardPlace, freeCard, standsOn, highestAt}
 use Rattle.board.specs.declared.Board.{Board}
 use Rattle.board.specs.declared.Answer.the-variants.{Issue, Done, Node}
-use Rattle.board.specs.Counts.{nodesMost, cardsMost, issuesMost}
-use Rattle.places.specs.Arguments.{none, some, issueOf, offNode}
+use Rattle.board.specs.Counts.{nodesMost, cardsMost}
 use Rattle.board.specs.Verdict.{loadVerdict, withdrawVerdict, lookVerdict, nodeVerdict}
-use Rattle.board.specs.Desk.{anyOf}
-use Rattle.board.specs.Model.{cardPlace, emptyCard}
-use Rattle.board.specs.Model.{refuse, freeCard, withCards, loadedOf, withdrawnOf, standsOn, highestAt, lookedOf}
-use Rattle.board.specs.Model.{showedOf}
-use Rattle.places.specs.inner.Parts.{nodeOf}
+use Rattle.board.specs.Model.{cardsOf, transistorsOf, holding, refuse, loadedOf, withdrawnOf, lookedOf, showedOf}
 use Rattle.board.proofs.Verdicts.{on-node}
 
 -- ---- nodes as numbers
@@ -69,12 +69,12 @@ module _ (b : Board) (name : List ℕ) where
   unfolding lookedOf lookVerdict
   look-malformed e = rw e
 
-  pub look-not-held : asked name ≡ true → highestAt (padded name) (b .cards) ≡ 0 →
+  pub look-not-held : asked name ≡ true → highestAt (padded name) (cardsOf b) ≡ 0 →
       refuse b NameNotHeld ≡ lookedOf b name
   unfolding lookedOf lookVerdict
   look-not-held e h = rw (e, h)
 
-  pub looks-up : (n : ℕ) → asked name ≡ true → n ≡ highestAt (padded name) (b .cards) → (n ≡ 0 → ⊥) →
+  pub looks-up : (n : ℕ) → asked name ≡ true → n ≡ highestAt (padded name) (cardsOf b) → (n ≡ 0 → ⊥) →
       record { board = b; answer = Issue n } ≡ lookedOf b name
   unfolding lookedOf lookVerdict
   looks-up n e h z = rw (e, ← h, ne-eqb n 0 z)
@@ -82,18 +82,18 @@ module _ (b : Board) (name : List ℕ) where
 -- ---- withdrawing a card
 
 module _ (b : Board) (z : ℤ) where
-  pub withdraw-unknown : cardPlace (issueOf z) (b .cards) ≡ none → refuse b Unknown ≡ withdrawnOf b z
+  pub withdraw-unknown : cardPlace (issueOf z) (cardsOf b) ≡ none → refuse b Unknown ≡ withdrawnOf b z
   unfolding withdrawnOf withdrawVerdict
   withdraw-unknown e = rw e
 
-  pub withdraw-in-use : (i : ℕ) → cardPlace (issueOf z) (b .cards) ≡ some i →
-      anyOf (standsOn (issueOf z)) (b .transistors) ≡ true → refuse b CardInUse ≡ withdrawnOf b z
+  pub withdraw-in-use : (i : ℕ) → cardPlace (issueOf z) (cardsOf b) ≡ some i →
+      anyOf (standsOn (issueOf z)) (transistorsOf b) ≡ true → refuse b CardInUse ≡ withdrawnOf b z
   unfolding withdrawnOf withdrawVerdict
   withdraw-in-use i e u = rw (e, u)
 
-  pub withdraws-it : (i : ℕ) → cardPlace (issueOf z) (b .cards) ≡ some i →
-      anyOf (standsOn (issueOf z)) (b .transistors) ≡ false →
-      record { board = withCards b (set (b .cards) i emptyCard) (b .next); answer = Done } ≡ withdrawnOf b z
+  pub withdraws-it : (i : ℕ) → cardPlace (issueOf z) (cardsOf b) ≡ some i →
+      anyOf (standsOn (issueOf z)) (transistorsOf b) ≡ false →
+      record { board = holding b i emptyCard (b .next); answer = Done } ≡ withdrawnOf b z
   unfolding withdrawnOf withdrawVerdict
   withdraws-it i e u = rw (e, u)
 
@@ -115,18 +115,18 @@ module _ (b : Board) (name bytes : List ℕ) where
       load-judged f j = rw (l, e, j)
 
       module _ (w : WorkedCard) (j : judgeOf bytes ≡ yes w) where
-        pub load-no-room : cardsMost ≤ freeCard (b .cards) → refuse b NoRoom ≡ loadedOf b name bytes
+        pub load-no-room : cardsMost ≤ freeCard (cardsOf b) → refuse b NoRoom ≡ loadedOf b name bytes
         unfolding loadedOf loadVerdict
         load-no-room h = rw (l, e, j, le-leb _ _ h)
 
-        pub load-used-up : freeCard (b .cards) < cardsMost → issuesMost < b .next →
+        pub load-used-up : freeCard (cardsOf b) < cardsMost → issuesMost < b .next →
             refuse b NumbersUsedUp ≡ loadedOf b name bytes
         unfolding loadedOf loadVerdict
         load-used-up h k = rw (l, e, j, lt-leb _ _ h, lt-ltb _ _ k)
 
-        pub loads-it : (i : ℕ) (held : List ℕ) (ready : Ready) → i ≡ freeCard (b .cards) → i < cardsMost →
+        pub loads-it : (i : ℕ) (held : List ℕ) (ready : Ready) → i ≡ freeCard (cardsOf b) → i < cardsMost →
             b .next ≤ issuesMost → held ≡ padded name → ready ≡ readyOf w →
-            record { board = withCards b (set (b .cards) i (record { issue = b .next; name = held; ready = ready })) (b .next + 1); answer = Issue (b .next) }
+            record { board = holding b i (record { issue = b .next; name = held; ready = ready }) (b .next + 1); answer = Issue (b .next) }
             ≡ loadedOf b name bytes
         unfolding loadedOf loadVerdict
         loads-it i held ready p h k q r = rw (l, e, j, ← p, lt-leb _ _ h, le-ltb _ _ k, q, r) (rw p)

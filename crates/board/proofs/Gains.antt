@@ -9,6 +9,7 @@ use native.Mathlib.Omega.{arith}
 use lib.Dec.{eqb}
 use lib.ListN.{length, getD, set}
 use lib.IntN.{ℤ, pos, natAbs, negℤ, _+ℤ_, +ℤ-idr, +ℤ-idl, +ℤ-assoc, +ℤ-comm, +ℤ-invr, +ℤ-invl}
+use lib.Seq.{ext-getD}
 use borrow.Author.Tests.{eqb-true, eqb-false, ne-eqb, eq-eqb}
 use Rattle.refusal.specs.Clash.{clash}
 use Rattle.volts.specs.Volts.{givenBack, keptAs}
@@ -36,6 +37,14 @@ pub more-at : (l : List ℤ) (f : ℕ → ℤ) (n : ℕ) → n < nodesMost →
     getD (withMore l f) n (pos 0) ≡ getD l n (pos 0) +ℤ f n
 unfolding withMore
 more-at l f n h = up-at (λ (m : ℕ). getD l m (pos 0) +ℤ f m) nodesMost n (pos 0) h
+
+-- what has so much more at each node is the totals with that more
+pub more-is : {l₀ l : List ℤ} {f : ℕ → ℤ} (g : ℕ → ℤ) → More nodesMost l₀ l f → ((n : ℕ) → n < nodesMost → f n ≡ g n) →
+    l ≡ withMore l₀ g
+more-is {l₀} {l} g more same =
+    ext-getD (pos 0) l (withMore l₀ g) (more .long ∙ sym (more-long l₀ g))
+    (λ n q. let b = subst (λ (k : ℕ). n < k) (more .long) q in
+    more .at n b ∙ ap (λ (z : ℤ). getD l₀ n (pos 0) +ℤ z) (same n b) ∙ sym (more-at l₀ g n b))
 
 -- ---- voltages of roles that no moved node has
 

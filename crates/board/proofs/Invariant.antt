@@ -29,7 +29,7 @@ use Rattle.deck.specs.laws.Ups.{up-all, up-same}
 use Rattle.places.specs.Gathered.{Card, Transistor, emptyCard, emptyTransistor, noCard, noTransistor, workedAt}
 use Rattle.places.specs.Finding.{first, foundAt, isCard, isTransistor, cardPlace, transistorPlace, freeCard}
 use Rattle.places.specs.Finding.{freeTransistor, standsOn}
-use Rattle.places.specs.laws.Temp.{cards-set, cards-fresh, transistors-set, transistors-fresh}
+use Rattle.places.specs.laws.Change.{cards-set, cards-fresh, transistors-set, transistors-fresh}
 use Rattle.settle.specs.Change.{changes}
 use Rattle.settle.specs.laws.Firsts.{first-quiet}
 use Rattle.board.specs.declared.Board.{Board}
@@ -165,11 +165,14 @@ holds-fresh =
 
 pub fresh-cards : cardsOf freshBoard ≡ replicate cardsMost emptyCard
 unfolding cardsOf freshBoard
-fresh-cards = cards-fresh
+fresh-cards =
+    cards-fresh cardsMost (nameLength * cardsMost) (numbersEach * cardsMost) (powersEach * cardsMost)
+    (ticksEach * cardsMost) (switchesEach * cardsMost)
 
 pub fresh-transistors : transistorsOf freshBoard ≡ replicate transistorsMost emptyTransistor
 unfolding transistorsOf freshBoard
-fresh-transistors = transistors-fresh
+fresh-transistors =
+    transistors-fresh transistorsMost transistorsMost transistorsMost (roles * transistorsMost)
 
 invariant-fresh : Invariant freshBoard
 unfolding freshBoard
@@ -198,8 +201,8 @@ module _ (b : Board) (z : Sized b) (p : ℕ) (c : Card) (next : ℕ) where
       cardsOf (holding b p c next) ≡ set (cardsOf b) p c
   unfolding cardsOf
   cards-holding h l =
-      cards-set (b .held) (b .names) (b .numbers) (b .powers) (b .ticks) (b .switches) p c h (z .held) (z .names)
-      (z .numbers) (z .powers) (z .ticks) (z .switches) l
+      cards-set (b .held) (b .names) (b .numbers) (b .powers) (b .ticks) (b .switches) p c h l (z .held) (z .names)
+      (z .numbers) (z .powers) (z .ticks) (z .switches)
 
   pub transistors-holding : transistorsOf (holding b p c next) ≡ transistorsOf b
   unfolding transistorsOf
@@ -230,7 +233,7 @@ module _ (b : Board) (z : Sized b) (p : ℕ) (t : Transistor) (levels : Levels) 
       transistorsOf (standing b p t levels next) ≡ set (transistorsOf b) p t
   unfolding transistorsOf
   transistors-standing h l =
-      transistors-set (b .issues) (b .cards) (b .seats) (b .nodes) p t h (z .issues) (z .cards) (z .seats) (z .nodes) l
+      transistors-set (b .issues) (b .cards) (b .seats) (b .nodes) p t h l (z .issues) (z .cards) (z .seats) (z .nodes)
 
 -- ---- the places of cards
 

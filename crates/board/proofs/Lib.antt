@@ -3,3 +3,9 @@ pub mod Lists
 pub mod NodeSums
 pub mod Gains
 pub mod Invariant
+pub mod Lent
+pub mod Answers
+pub mod PlacingTests
+pub mod Reaches
+pub mod Moving
+pub mod Placing

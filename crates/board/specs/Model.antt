@@ -109,9 +109,9 @@ abbrev pub holding : Board → ℕ → Card → ℕ → Board
 holding b i c next =
     record {
       numbers = written 0 (b .numbers) (numbersEach * i) (numbersOf (c .ready)) numbersEach;
-      powers = written 0 (b .powers) (powersEach * i) (powersOf (c .ready)) powersEach;
+      powers = written 0 (b .powers) (powersEach * i) (powersOf (c .ready .card)) powersEach;
       ticks = written 0 (b .ticks) (ticksEach * i) (ticksOf (c .ready)) ticksEach;
-      switches = written false (b .switches) (switchesEach * i) (switchesOf (c .ready)) switchesEach;
+      switches = written false (b .switches) (switchesEach * i) (switchesOf (c .ready .card)) switchesEach;
       names = written 0 (b .names) (nameLength * i) (c .name) nameLength;
       held = set (b .held) i (c .issue);
       next = next;

@@ -1,82 +1,43 @@
+// Placing, moving and lifting on a board's arrays, lent one by one: each tests, works, and writes at the end, so that a refusal leaves them as they were.
+ghost use Rattle.board.specs.declared.Board.{Board};
+ghost use Rattle.board.specs.Model.{placedOf, movedOf, liftedOf, Reached};
+ghost use Rattle.board.specs.inner.Lent.{Lends, LeavesLevels, LeavesPlaces};
+ghost use mathlib.Core.Path.{_≡_};
 use crate::Answer;
+use crate::Board;
 use branch::ROLES;
-use card::Judged;
 use places::Way;
-use given::ISSUES;
 use refusal::Refusal;
 use volts::Voltage;
 
-pub(crate) fn after(next: u32, answer: Answer) -> u32 {
-    match answer {
-        Answer::Issue(n) => n + 1,
-        _ => next,
-    }
-}
-
-pub(crate) fn load(numbers: &mut [u32; 304], powers: &mut [u16; 144], ticks: &mut [u64; 128], switches: &mut [bool; 32], names: &mut [u8; 256], held: &mut [u32; 16], next: u32, name: &[u8], bytes: &[u8]) -> Answer {
-    if !card::right_length(bytes) {
-        return Answer::Refused(Refusal::Malformed);
-    }
-    if !name::is_asked(name) {
-        return Answer::Refused(Refusal::BadName);
-    }
-    let judged = card::judge(bytes);
-    match judged {
-        Judged::Refused(f) => Answer::Refused(f),
-        Judged::Card(worked) => {
-            let i = places::find_card(held, 0);
-            if 16 <= i {
-                return Answer::Refused(Refusal::NoRoom);
-            }
-            if ISSUES < next {
-                return Answer::Refused(Refusal::NumbersUsedUp);
-            }
-            let own = name::pad(name);
-            places::put_name(names, i, &own);
-            let ready = branch::prepare(worked);
-            deck::put_ready(numbers, powers, ticks, switches, i, ready);
-            held[i] = next;
-            Answer::Issue(next)
-        }
-    }
-}
-
-pub(crate) fn place(issues: &mut [u32; 64], cards: &mut [u32; 64], seats: &mut [u8; 64], nodes: &mut [u8; 448], totals: &mut [i64; 32],
-    numbers: &[u32; 304], powers: &[u16; 144], ticks: &[u64; 128], switches: &[bool; 32], held: &[u32; 16], volts: &[u32; 32], next: u32, card: i64, on: [i64; 7]) -> Answer {
-    let n = given::issue_of(card);
-    let on = given::nodes_of(on);
-    match places::may_place(held, switches, issues, next, n, &on) {
-        Way::Stop(f) => Answer::Refused(f),
-        Way::Go(at, free) => {
-            let table = octave::table();
-            let mut l = *totals;
-            let over = settle::put_in(&mut l, &table, numbers, powers, ticks, switches, at, &on, volts);
-            if settle::is_over(over) {
-                return Answer::Refused(Refusal::Overload);
-            }
-            *totals = l;
-            issues[free] = next;
-            cards[free] = n;
-            seats[free] = at as u8;
-            places::put_nodes(nodes, free, &on);
-            Answer::Issue(next)
-        }
-    }
-}
-
-pub(crate) fn move_to(volts: &mut [u32; 32], totals: &mut [i64; 32], numbers: &[u32; 304], powers: &[u16; 144], ticks: &[u64; 128], switches: &[bool; 32], issues: &[u32; 64], seats: &[u8; 64], nodes: &[u8; 448], node: i64, uv: i64) -> u32 {
+pub(crate) fn move_to(
+    volts: &mut [u32; Board::NODES],
+    totals: &mut [i64; Board::NODES],
+    numbers: &[u32; deck::ALL_NUMBERS],
+    powers: &[u16; deck::ALL_POWERS],
+    ticks: &[u64; deck::ALL_TICKS],
+    switches: &[bool; deck::ALL_SWITCHES],
+    issues: &[u32; Board::TRANSISTORS],
+    seats: &[u8; Board::TRANSISTORS],
+    nodes: &[u8; places::ALL_NODES],
+    node: i64,
+    microvolts: i64,
+) -> Answer
+    requires { ⌜ (b : Board) × Reached b × Lends b (now numbers) (now powers) (now ticks) (now switches) (now issues) (now seats) (now nodes) (now volts) (now totals) ⌝ }
+    ensures { λ r. ⌜ (b : Board) → Reached b → Lends b (now (numbers .entry)) (now (powers .entry)) (now (ticks .entry)) (now (switches .entry)) (now (issues .entry)) (now (seats .entry)) (now (nodes .entry)) (now (volts .entry)) (now (totals .entry)) → LeavesLevels (movedOf b node microvolts) r (now (volts .exit)) (now (totals .exit)) ⌝ }
+{
     let k = given::node_of(node);
     let n = k as usize;
-    if 32 <= n {
-        return 13;
+    if Board::NODES <= n {
+        return Answer::Refused(Refusal::OutOfRange);
     }
-    let Voltage::Kept(v) = volts::keep(uv) else {
-        return 13;
+    let Voltage::Kept(v) = volts::keep(microvolts) else {
+        return Answer::Refused(Refusal::OutOfRange);
     };
     let set = places::naming(issues, nodes, k);
     if set == 0 {
         volts[n] = v;
-        return 0;
+        return Answer::Done;
     }
     let was = *volts;
     let mut will = was;
@@ -85,67 +46,9 @@ pub(crate) fn move_to(volts: &mut [u32; 32], totals: &mut [i64; 32], numbers: &[
     let first = settle::settle(&mut l, numbers, powers, ticks, switches, issues, seats, nodes, &was, &will, set);
     let over = first.over;
     if settle::is_over(over) {
-        return 15;
+        return Answer::Refused(Refusal::Overload);
     }
     *volts = will;
     *totals = l;
-    0
-}
-
-pub(crate) fn moved(said: u32) -> Answer {
-    if said == 0 { return Answer::Done; }
-    if said == 13 { return Answer::Refused(Refusal::OutOfRange); }
-    Answer::Refused(Refusal::Overload)
-}
-
-pub(crate) fn lift(issues: &mut [u32; 64], cards: &mut [u32; 64], seats: &mut [u8; 64], nodes: &mut [u8; 448], totals: &mut [i64; 32],
-    numbers: &[u32; 304], powers: &[u16; 144], ticks: &[u64; 128], switches: &[bool; 32], volts: &[u32; 32], transistor: i64) -> Answer {
-    let n = given::issue_of(transistor);
-    let at = places::transistor_at(issues, n);
-    if 64 <= at { return Answer::Refused(Refusal::Unknown); }
-    let s = seats[at] as usize;
-    let table = octave::table();
-    let on = places::nodes_at(nodes, at);
-    settle::take_out(totals, &table, numbers, powers, ticks, switches, s, &on, volts);
-    issues[at] = 0;
-    cards[at] = 0;
-    seats[at] = 0;
-    places::put_nodes(nodes, at, &[0, 0, 0, 0, 0, 0, 0]);
     Answer::Done
-}
-
-pub(crate) fn withdraw(numbers: &mut [u32; 304], powers: &mut [u16; 144], ticks: &mut [u64; 128], switches: &mut [bool; 32], names: &mut [u8; 256], held: &mut [u32; 16], issues: &[u32; 64], cards: &[u32; 64], card: i64) -> Answer {
-    let n = given::issue_of(card);
-    let i = places::card_at(held, n);
-    if 16 <= i {
-        return Answer::Refused(Refusal::Unknown);
-    }
-    if places::any_on(issues, cards, n) {
-        return Answer::Refused(Refusal::CardInUse);
-    }
-    let none = branch::no_ready();
-    deck::put_ready(numbers, powers, ticks, switches, i, none);
-    places::put_name(names, i, &[0, 0, 0, 0, 0, 0, 0, 0, 0, 0, 0, 0, 0, 0, 0, 0]);
-    held[i] = 0;
-    Answer::Done
-}
-
-pub(crate) fn look_up(held: &[u32; 16], names: &[u8; 256], name: &[u8]) -> Answer {
-    if !name::is_asked(name) {
-        return Answer::Refused(Refusal::BadName);
-    }
-    let asked = name::pad(name);
-    let n = places::highest(held, names, &asked);
-    if n == 0 {
-        return Answer::Refused(Refusal::NameNotHeld);
-    }
-    Answer::Issue(n)
-}
-
-pub(crate) fn read_node(volts: &[u32; 32], totals: &[i64; 32], node: i64) -> Answer {
-    let n = given::node_of(node) as usize;
-    if 32 <= n {
-        return Answer::Refused(Refusal::OutOfRange);
-    }
-    Answer::Node(volts::give_back(volts[n]), totals[n])
 }

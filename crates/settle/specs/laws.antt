@@ -1,2 +1,3 @@
--- What follows from the first that overloads.
+-- What follows from the first that overloads, and from what totals gain.
 pub mod Firsts
+pub mod Changes

@@ -84,5 +84,5 @@ pub record Settling (d : Deck) (seats nodes : List ℕ) (set : ℕ) (was will : 
   pub will-are : Volts will
   pub able : (i : ℕ) → i < transistorsMost → member set i ≡ true → Able d (getD seats i 0) (nodesAt nodes i)
   pub long : length totals ≡ nodesMost
-  pub room : (k n : ℕ) → k ≤ transistorsMost →
+  pub room : (k n : ℕ) → k ≤ transistorsMost → n < nodesMost →
       natAbs (getD totals n (pos 0) +ℤ gained d seats nodes set was will k n) ≤ totalMost

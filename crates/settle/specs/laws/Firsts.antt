@@ -82,3 +82,19 @@ module _ (worked : ℕ → Bool) (issue : ℕ → ℕ) (over : ℕ → Over) whe
       go true p f before =
           ⊎-elim (λ q. later (before q)) (λ q. (k, omega arith, p, q)) (earlier-over (firstBelow worked issue over k) (issue k) (over k) f)
       go false p f before = later (before f)
+
+-- the same places worked, each with the same number and the same overload, have the same first
+pub first-same : (p q : ℕ → Bool) (a b : ℕ → ℕ) (o u : ℕ → Over) (k : ℕ) → ((i : ℕ) → i < k → p i ≡ q i) →
+    ((i : ℕ) → i < k → q i ≡ true → a i ≡ b i) → ((i : ℕ) → i < k → q i ≡ true → o i ≡ u i) →
+    firstBelow p a o k ≡ firstBelow q b u k
+unfolding firstBelow
+first-same p q a b o u zero s t w = refl
+first-same p q a b o u (suc k) s t w =
+    go (q k) refl
+    (first-same p q a b o u k (λ i h. s i (omega arith)) (λ i h. t i (omega arith)) (λ i h. w i (omega arith)))
+  where
+    go : (x : Bool) → q k ≡ x → firstBelow p a o k ≡ firstBelow q b u k →
+        cond (p k) (earlier (firstBelow p a o k) (a k) (o k)) (firstBelow p a o k)
+        ≡ cond (q k) (earlier (firstBelow q b u k) (b k) (u k)) (firstBelow q b u k)
+    go true e before = rw (s k (omega arith), e, t k (omega arith) e, w k (omega arith) e, before)
+    go false e before = rw (s k (omega arith), e, before)

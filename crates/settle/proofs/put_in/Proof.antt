@@ -1,15 +1,15 @@
--- `put_in` gives the currents, and tells whether they are within their limits.
-use mathlib.Core.Path.{sym, subst, _∙_}
+-- `put_in` gives the currents, and tells by what the transistor overloads.
+use mathlib.Core.Path.{sym, subst}
 use borrow.Author.Needs.{needs}
 use Rattle.branch.specs.declared.Outcome.{Outcome}
 use Rattle.branch.specs.Outcome.{tickLimit}
 use Rattle.totals.specs.inner.Sums.{Within}
-use Rattle.board.proofs.Currents.{ticks-within, over-told, gives-flow}
-use Rattle.board.proofs.worker.put_in.Statement.{statement}
-use Rattle.board.proofs.worker.put_in.Tie as tie
+use Rattle.settle.proofs.Currents.{ticks-within, over-told, gives-flow}
+use Rattle.settle.proofs.put_in.Statement.{statement}
+use Rattle.settle.proofs.put_in.Tie as tie
 
 -- earlier places, from later ones
-abbrev start : tie.After-ticks2 → tie.Start
+abbrev start : tie.After-given2 → tie.Start
 start c = c .before .before .before .before
 
 abbrev after-work : tie.After-put → tie.After-work
@@ -18,7 +18,7 @@ after-work c = c .before .before .before .before
 put-requires : tie.Need-put-requires
 put-requires c κs =
     record {
-      wired = record { wired = start c .pre .0 .wired };
+      wired = record { wired = start c .pre .0 .able .wired };
       room = start c .pre .1;
       within =
           subst (λ (o : Outcome). Within tickLimit (o .ticks)) (sym (c .before .before .before .work .ensures))
@@ -27,8 +27,7 @@ put-requires c κs =
 
 returns : tie.Need-returns
 returns c =
-    let o = (after-work (c .before) .work .ensures) in
-    (c .is-over .ensures ∙ over-told _ _ _ o, gives-flow _ _ _ (rw o at (c .before .put .ensures)))
+    let o = after-work c .work .ensures in (over-told _ _ _ o, gives-flow _ _ _ (rw o at (c .put .ensures)))
 
 pub put-in-spec : {M : Type 1} → statement M
-put-in-spec = tie.close (tie.spec (λ c κs. search needs) put-requires (λ c κs. search needs) returns)
+put-in-spec = tie.close (tie.spec (λ c κs. search needs) put-requires returns)

@@ -4,21 +4,21 @@ use borrow.Author.Needs.{needs}
 use Rattle.branch.specs.declared.Outcome.{Outcome}
 use Rattle.branch.specs.Outcome.{tickLimit}
 use Rattle.totals.specs.inner.Sums.{Within}
-use Rattle.board.proofs.Currents.{ticks-within, takes-flow}
-use Rattle.board.proofs.worker.take_out.Statement.{statement}
-use Rattle.board.proofs.worker.take_out.Tie as tie
+use Rattle.settle.proofs.Currents.{ticks-within, takes-flow}
+use Rattle.settle.proofs.take_out.Statement.{statement}
+use Rattle.settle.proofs.take_out.Tie as tie
 
 -- earlier places, from later ones
 abbrev after-work : tie.After-take → tie.After-work
 after-work c = c .before .before .before .before
 
-abbrev start : tie.After-ticks2 → tie.Start
+abbrev start : tie.After-given2 → tie.Start
 start c = c .before .before .before .before
 
 take-requires : tie.Need-take-requires
 take-requires c κs =
     record {
-      wired = record { wired = start c .pre .0 .wired };
+      wired = record { wired = start c .pre .0 .able .wired };
       room = start c .pre .1;
       within =
           subst (λ (o : Outcome). Within tickLimit (o .ticks)) (sym (c .before .before .before .work .ensures))

@@ -5,15 +5,15 @@ use lib.ListN.{getD}
 use borrow.Author.Needs.{needs}
 use Rattle.branch.specs.Rows.{roles}
 use Rattle.branch.specs.laws.Filled.{Filled, filled-none, filled-more}
-use Rattle.places.proofs.Scans.{filled-map}
-use Rattle.board.proofs.worker.role_volts.Statement.{statement}
-use Rattle.board.proofs.worker.role_volts.Tie as tie
+use Rattle.totals.proofs.Lists.{filled-map}
+use Rattle.settle.proofs.role_volts.Statement.{statement}
+use Rattle.settle.proofs.role_volts.Tie as tie
 
 abbrev Inv-loop : tie.InvT-loop
-Inv-loop volts nodes v₀ k₀ v k = (k ≤ roles) × Filled 0 roles (λ (i : ℕ). getD volts (getD nodes i 0) 0) k v
+Inv-loop volts on v₀ k₀ v k = (k ≤ roles) × Filled 0 roles (λ (i : ℕ). getD volts (getD on i 0) 0) k v
 
 abbrev μ-loop : tie.MeasureT-loop
-μ-loop volts nodes v₀ k₀ v k = roles - k
+μ-loop volts on v₀ k₀ v k = roles - k
 
 loop-holds : tie.Need-loop-holds Inv-loop μ-loop
 loop-holds c = (search needs, filled-none (search needs))
@@ -28,7 +28,7 @@ loop-again c =
 returns : tie.Need-returns Inv-loop μ-loop
 returns c =
     let s = c .before .before in
-    filled-map (λ (n : ℕ). getD (s .args .volts .now) n 0) 0 (s .args .nodes .now) (s .pre .1) (omega arith)
+    filled-map (λ (n : ℕ). getD (s .args .volts .now) n 0) 0 (s .args .on .now) (s .pre .1) (omega arith)
     (c .before .loop .inv .1)
 
 pub role-volts-spec : {M : Type 1} → statement M
