@@ -26,8 +26,8 @@ use Rattle.deck.specs.Stretch.{written}
 use Rattle.places.specs.declared.Way.{Way}
 use Rattle.places.specs.declared.Way.the-variants.{Go, Stop}
 use Rattle.places.specs.Gathered.{Transistor, emptyTransistor, noCard, workedAt}
-use Rattle.places.specs.Finding.{first, cardPlace, transistorPlace, freeTransistor}
-use Rattle.places.specs.inner.Flat.{isNumber, numberPlace, joinedAt}
+use Rattle.places.specs.Finding.{cardPlace, transistorPlace, freeTransistor}
+use Rattle.places.specs.inner.Flat.{freePlace, numberPlace, joinedAt}
 use Rattle.places.specs.inner.Placing.{placing, wayOf}
 use Rattle.places.specs.laws.Gather.{card-place, joined-flat, first-transistor, transistor-place}
 use Rattle.places.specs.laws.Ways.{stopped, went}
@@ -67,9 +67,9 @@ places-stay a e =
 -- the way by the lent arrays
 abbrev pub wayOn : Board → ℕ → List ℕ → Way
 wayOn b n on =
-    wayOf (first (isNumber 0) (b .issues))
+    wayOf (freePlace (b .issues))
     (placing (numberPlace cardsMost n (b .held)) (joinedAt (b .switches)) on
-    (leb transistorsMost (first (isNumber 0) (b .issues))) (usedUp (b .next)))
+    (leb transistorsMost (freePlace (b .issues))) (usedUp (b .next)))
 
 module _ (b : Board) (k : Reached b) (card : ℤ) (nodes : List ℤ) (long : length nodes ≡ roles) {on : List ℕ}
     (on-are : on ≡ map nodeOf nodes) {w : Way} (way-is : w ≡ wayOn b (issueOf card) on) where
@@ -91,16 +91,16 @@ module _ (b : Board) (k : Reached b) (card : ℤ) (nodes : List ℤ) (long : len
   same-place : place ≡ numberPlace cardsMost (issueOf card) (b .held)
   unfolding cardsOf
   same-place =
-      card-place (b .held) (b .names) (b .numbers) (b .powers) (b .ticks) (b .switches) (issueOf card) (g .sized .held)
+      card-place (b .held) (b .names) (b .numbers) (b .powers) (b .ticks) (b .switches) (issueOf card)
 
   same-joins : joins ≡ joinedAt (b .switches)
   unfolding cardsOf
   same-joins =
       λ j i. joined-flat (b .held) (b .names) (b .numbers) (b .powers) (b .ticks) (b .switches) i (g .sized .switches) j
 
-  same-free : freeTransistor (transistorsOf b) ≡ first (isNumber 0) (b .issues)
+  same-free : freeTransistor (transistorsOf b) ≡ freePlace (b .issues)
   unfolding transistorsOf
-  same-free = first-transistor (b .issues) (b .cards) (b .seats) (b .nodes) 0 (g .sized .issues)
+  same-free = first-transistor (b .issues) (b .cards) (b .seats) (b .nodes) 0
 
   verdict-is : w ≡ wayOf (freeTransistor (transistorsOf b)) verdict
   verdict-is = way-is ∙ rw (same-place, same-joins, same-free, on-are)
@@ -199,7 +199,7 @@ module _ (b : Board) (k : Reached b) (z : ℤ) where
       transistorPlace (issueOf z) (transistorsOf b) ≡ numberPlace transistorsMost (issueOf z) (b .issues)
   unfolding transistorsOf
   same-transistor =
-      transistor-place (b .issues) (b .cards) (b .seats) (b .nodes) (issueOf z) (invariant k .sized .issues)
+      transistor-place (b .issues) (b .cards) (b .seats) (b .nodes) (issueOf z)
 
   pub lift-unknown : numberPlace transistorsMost (issueOf z) (b .issues) ≡ none →
       LeavesPlaces (liftedOf b z) (Refused Unknown) (b .issues) (b .cards) (b .seats) (b .nodes) (b .totals) (b .next)

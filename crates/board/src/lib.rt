@@ -1,24 +1,31 @@
-// proto
-mod calls;
+// The board: cards and transistors in places, voltages and node totals, handed from call to call by value.
+// Each method asks that calls from a fresh board left the board as it is, and gives the answer with the next board, which is such a board again.
+ghost use mathlib.Core.Path.{_≡_};
+ghost use Rattle.board.specs.Model.{freshBoard, refuse, loadedOf, placedOf, movedOf, liftedOf, withdrawnOf, lookedOf, showedOf, Reached};
+
+mod calls; // calls.rt: placing, moving and lifting on lent arrays
 
 use branch::ROLES;
 use card::Judged;
+use given::ISSUES;
 use refusal::Refusal;
 
+// Flat arrays of numbers, so that each can be lent. The first six hold the cards by their places, the last four the transistors.
 pub struct Board {
-    pub numbers: [u32; 304],
-    pub powers: [u16; 144],
-    pub ticks: [u64; 128],
-    pub switches: [bool; 32],
-    pub names: [u8; 256],
-    pub held: [u32; 16],
+    pub numbers: [u32; deck::ALL_NUMBERS],
+    pub powers: [u16; deck::ALL_POWERS],
+    pub ticks: [u64; deck::ALL_TICKS],
+    pub switches: [bool; deck::ALL_SWITCHES],
+    pub names: [u8; places::ALL_NAMES],
+    pub held: [u32; Board::CARDS],
     pub next: u32,
+    // as `volts` keeps them
     pub volts: [u32; Board::NODES],
     pub totals: [i64; Board::NODES],
-    pub issues: [u32; 64],
-    pub cards: [u32; 64],
-    pub seats: [u8; 64],
-    pub nodes: [u8; 448],
+    pub issues: [u32; Board::TRANSISTORS],
+    pub cards: [u32; Board::TRANSISTORS],
+    pub seats: [u8; Board::TRANSISTORS],
+    pub nodes: [u8; places::ALL_NODES],
 }
 
 pub enum Answer {
@@ -33,6 +40,16 @@ pub struct Answered {
     pub answer: Answer,
 }
 
+// The board as it was.
+fn refused(b: Board, f: Refusal) -> Answered
+    ensures { λ r. ⌜ r ≡ refuse b f ⌝ }
+{
+    Answered {
+        board: b,
+        answer: Answer::Refused(f),
+    }
+}
+
 impl Board {
     pub const NODES: usize = totals::NODES;
 
@@ -40,71 +57,129 @@ impl Board {
 
     pub const TRANSISTORS: usize = places::TRANSISTORS;
 
+    // No cards, no transistors, and every voltage and total 0.
     pub fn fresh() -> Board
+        ensures { λ r. ⌜ r ≡ freshBoard ⌝ }
+        ensures { λ r. ⌜ Reached r ⌝ }
     {
         Board {
-            numbers: [0u32; 304],
-            powers: [0u16; 144],
-            ticks: [0u64; 128],
-            switches: [false; 32],
-            names: [0u8; 256],
-            held: [0u32; 16],
+            numbers: [0u32; deck::ALL_NUMBERS],
+            powers: [0u16; deck::ALL_POWERS],
+            ticks: [0u64; deck::ALL_TICKS],
+            switches: [false; deck::ALL_SWITCHES],
+            names: [0u8; places::ALL_NAMES],
+            held: [0u32; Board::CARDS],
             next: 1,
             volts: [volts::ZERO; Board::NODES],
             totals: [0i64; Board::NODES],
-            issues: [0u32; 64],
-            cards: [0u32; 64],
-            seats: [0u8; 64],
-            nodes: [0u8; 448],
+            issues: [0u32; Board::TRANSISTORS],
+            cards: [0u32; Board::TRANSISTORS],
+            seats: [0u8; Board::TRANSISTORS],
+            nodes: [0u8; places::ALL_NODES],
         }
     }
 
+    // A card under a name: 1, 2, 6 to 10, 11, 17. It gets the next issue number.
     pub fn load(mut self, name: &[u8], bytes: &[u8]) -> Answered
+        requires { ⌜ Reached self ⌝ }
+        ensures { λ r. ⌜ r ≡ loadedOf self (now (name .entry)) (now (bytes .entry)) ⌝ }
+        ensures { λ r. ⌜ Reached (r .board) ⌝ }
     {
-        let mut numbers = self.numbers;
-        let mut powers = self.powers;
-        let mut ticks = self.ticks;
-        let mut switches = self.switches;
-        let mut names = self.names;
-        let mut held = self.held;
-        let next = self.next;
-        let answer = calls::load(&mut numbers, &mut powers, &mut ticks, &mut switches, &mut names, &mut held, next, name, bytes);
-        self.numbers = numbers;
-        self.powers = powers;
-        self.ticks = ticks;
-        self.switches = switches;
-        self.names = names;
-        self.held = held;
-        self.next = calls::after(next, answer);
-        Answered { board: self, answer }
+        if !card::right_length(bytes) {
+            return refused(self, Refusal::Malformed);
+        }
+        if !name::is_asked(name) {
+            return refused(self, Refusal::BadName);
+        }
+        let judged = card::judge(bytes);
+        match judged {
+            Judged::Refused(f) => refused(self, f),
+            Judged::Card(worked) => {
+                let mut held = self.held;
+                let i = places::find_card(&held, 0);
+                if Board::CARDS <= i {
+                    return refused(self, Refusal::NoRoom);
+                }
+                let issue = self.next;
+                if ISSUES < issue {
+                    return refused(self, Refusal::NumbersUsedUp);
+                }
+                let own = name::pad(name);
+                let mut names = self.names;
+                places::put_name(&mut names, i, &own);
+                let ready = branch::prepare(worked);
+                let mut numbers = self.numbers;
+                let mut powers = self.powers;
+                let mut ticks = self.ticks;
+                let mut switches = self.switches;
+                deck::put_ready(&mut numbers, &mut powers, &mut ticks, &mut switches, i, ready);
+                held[i] = issue;
+                self.numbers = numbers;
+                self.powers = powers;
+                self.ticks = ticks;
+                self.switches = switches;
+                self.names = names;
+                self.held = held;
+                self.next = issue + 1;
+                Answered {
+                    board: self,
+                    answer: Answer::Issue(issue),
+                }
+            }
+        }
     }
 
-    pub fn place(mut self, card: i64, on: [i64; ROLES]) -> Answered
+    // A transistor on a card, by its issue number, and on the nodes of its roles: 12, 13, 14, 11, 17, 15.
+    pub fn place(mut self, card: i64, nodes: [i64; ROLES]) -> Answered
+        requires { ⌜ Reached self ⌝ }
+        ensures { λ r. ⌜ r ≡ placedOf self card nodes ⌝ }
+        ensures { λ r. ⌜ Reached (r .board) ⌝ }
     {
         let numbers = self.numbers;
         let powers = self.powers;
         let ticks = self.ticks;
         let switches = self.switches;
         let held = self.held;
+        let volts = self.volts;
+        let mut next = self.next;
+        let mut totals = self.totals;
         let mut issues = self.issues;
         let mut cards = self.cards;
         let mut seats = self.seats;
-        let mut nodes = self.nodes;
-        let volts = self.volts;
-        let mut totals = self.totals;
-        let next = self.next;
-        let answer = calls::place(&mut issues, &mut cards, &mut seats, &mut nodes, &mut totals, &numbers, &powers, &ticks, &switches, &held, &volts, next, card, on);
+        let mut on = self.nodes;
+        let answer = calls::place(
+            &mut issues,
+            &mut cards,
+            &mut seats,
+            &mut on,
+            &mut totals,
+            &mut next,
+            &numbers,
+            &powers,
+            &ticks,
+            &switches,
+            &held,
+            &volts,
+            card,
+            nodes,
+        );
+        self.next = next;
+        self.totals = totals;
         self.issues = issues;
         self.cards = cards;
         self.seats = seats;
-        self.nodes = nodes;
-        self.volts = volts;
-        self.totals = totals;
-        self.next = calls::after(next, answer);
-        Answered { board: self, answer }
+        self.nodes = on;
+        Answered {
+            board: self,
+            answer,
+        }
     }
 
+    // A node's voltage: 13, then 15 where some transistor would overload.
     pub fn move_to(mut self, node: i64, microvolts: i64) -> Answered
+        requires { ⌜ Reached self ⌝ }
+        ensures { λ r. ⌜ r ≡ movedOf self node microvolts ⌝ }
+        ensures { λ r. ⌜ Reached (r .board) ⌝ }
     {
         let numbers = self.numbers;
         let powers = self.powers;
@@ -115,68 +190,146 @@ impl Board {
         let nodes = self.nodes;
         let mut volts = self.volts;
         let mut totals = self.totals;
-        let said = calls::move_to(&mut volts, &mut totals, &numbers, &powers, &ticks, &switches, &issues, &seats, &nodes, node, microvolts);
+        let answer = calls::move_to(
+            &mut volts,
+            &mut totals,
+            &numbers,
+            &powers,
+            &ticks,
+            &switches,
+            &issues,
+            &seats,
+            &nodes,
+            node,
+            microvolts,
+        );
         self.volts = volts;
         self.totals = totals;
-        let answer = calls::moved(said);
-        Answered { board: self, answer }
+        Answered {
+            board: self,
+            answer,
+        }
     }
 
+    // A transistor taken off, by its issue number: 12.
     pub fn lift(mut self, transistor: i64) -> Answered
+        requires { ⌜ Reached self ⌝ }
+        ensures { λ r. ⌜ r ≡ liftedOf self transistor ⌝ }
+        ensures { λ r. ⌜ Reached (r .board) ⌝ }
     {
         let numbers = self.numbers;
         let powers = self.powers;
         let ticks = self.ticks;
         let switches = self.switches;
+        let volts = self.volts;
+        let mut totals = self.totals;
         let mut issues = self.issues;
         let mut cards = self.cards;
         let mut seats = self.seats;
         let mut nodes = self.nodes;
-        let volts = self.volts;
-        let mut totals = self.totals;
-        let answer = calls::lift(&mut issues, &mut cards, &mut seats, &mut nodes, &mut totals, &numbers, &powers, &ticks, &switches, &volts, transistor);
+        let answer = calls::lift(
+            &mut issues,
+            &mut cards,
+            &mut seats,
+            &mut nodes,
+            &mut totals,
+            &numbers,
+            &powers,
+            &ticks,
+            &switches,
+            &volts,
+            transistor,
+        );
+        self.totals = totals;
         self.issues = issues;
         self.cards = cards;
         self.seats = seats;
         self.nodes = nodes;
-        self.volts = volts;
-        self.totals = totals;
-        Answered { board: self, answer }
+        Answered {
+            board: self,
+            answer,
+        }
     }
 
+    // A card given back, by its issue number: 12, 16.
     pub fn withdraw(mut self, card: i64) -> Answered
+        requires { ⌜ Reached self ⌝ }
+        ensures { λ r. ⌜ r ≡ withdrawnOf self card ⌝ }
+        ensures { λ r. ⌜ Reached (r .board) ⌝ }
     {
+        let n = given::issue_of(card);
+        let mut held = self.held;
+        let i = places::card_at(&held, n);
+        if Board::CARDS <= i {
+            return refused(self, Refusal::Unknown);
+        }
+        let issues = self.issues;
+        let cards = self.cards;
+        if places::any_on(&issues, &cards, n) {
+            return refused(self, Refusal::CardInUse);
+        }
+        let mut names = self.names;
+        let blank = [0u8; name::LENGTH];
+        places::put_name(&mut names, i, &blank);
+        let none = branch::no_ready();
         let mut numbers = self.numbers;
         let mut powers = self.powers;
         let mut ticks = self.ticks;
         let mut switches = self.switches;
-        let mut names = self.names;
-        let mut held = self.held;
-        let issues = self.issues;
-        let cards = self.cards;
-        let answer = calls::withdraw(&mut numbers, &mut powers, &mut ticks, &mut switches, &mut names, &mut held, &issues, &cards, card);
+        deck::put_ready(&mut numbers, &mut powers, &mut ticks, &mut switches, i, none);
+        held[i] = 0;
         self.numbers = numbers;
         self.powers = powers;
         self.ticks = ticks;
         self.switches = switches;
         self.names = names;
         self.held = held;
-        Answered { board: self, answer }
+        Answered {
+            board: self,
+            answer: Answer::Done,
+        }
     }
 
+    // The highest issue number among the cards of a name: 2, 4.
     pub fn look_up(self, name: &[u8]) -> Answered
+        requires { ⌜ Reached self ⌝ }
+        ensures { λ r. ⌜ r ≡ lookedOf self (now (name .entry)) ⌝ }
+        ensures { λ r. ⌜ Reached (r .board) ⌝ }
     {
+        if !name::is_asked(name) {
+            return refused(self, Refusal::BadName);
+        }
+        let asked = name::pad(name);
         let held = self.held;
         let names = self.names;
-        let answer = calls::look_up(&held, &names, name);
-        Answered { board: self, answer }
+        let n = places::highest(&held, &names, &asked);
+        if n == 0 {
+            return refused(self, Refusal::NameNotHeld);
+        }
+        Answered {
+            board: self,
+            answer: Answer::Issue(n),
+        }
     }
 
+    // A node's voltage in microvolts, and its total in ticks: 13.
     pub fn read_node(self, node: i64) -> Answered
+        requires { ⌜ Reached self ⌝ }
+        ensures { λ r. ⌜ r ≡ showedOf self node ⌝ }
+        ensures { λ r. ⌜ Reached (r .board) ⌝ }
     {
-        let volts = self.volts;
+        let n = given::node_of(node) as usize;
+        if Board::NODES <= n {
+            return refused(self, Refusal::OutOfRange);
+        }
+        let kept = self.volts;
         let totals = self.totals;
-        let answer = calls::read_node(&volts, &totals, node);
-        Answered { board: self, answer }
+        let v = kept[n];
+        let t = totals[n];
+        let volts = volts::give_back(v);
+        Answered {
+            board: self,
+            answer: Answer::Node(volts, t),
+        }
     }
 }

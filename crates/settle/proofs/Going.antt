@@ -48,6 +48,14 @@ first-past worked issue over from (suc k) h =
     rw (e, h (from + k) (omega arith) (omega arith))
     (first-past worked issue over from k (λ j p q. h j p (omega arith)))
 
+-- the next place is a later one
+pub next-later : {places i next : ℕ} → i < transistorsMost → NextIn places (i + 1) next → i < next
+next-later {i = i} {next = next} h n = go (below-or-not next transistorsMost)
+  where
+    go : (next < transistorsMost) ⊎ (transistorsMost ≤ next) → i < next
+    go (inl b) = let l = n .later b in omega arith
+    go (inr b) = omega arith
+
 -- ---- the places below i are passed, and i is one of the set or none is left
 
 module _ (d : Deck) (issues seats nodes : List ℕ) (set : ℕ) (was will : List ℕ) (l₀ : List ℤ) where

@@ -21,6 +21,14 @@ pub record Lends (b : Board) (numbers powers ticks : List ℕ) (switches : List 
   pub volts-are : volts ≡ b .volts
   pub totals-are : totals ≡ b .totals
 
+-- and what placing reads besides: the cards' issue numbers, each transistor's card, and the next number
+pub record LendsPlaces (b : Board) (numbers powers ticks : List ℕ) (switches : List Bool) (held issues cards seats nodes
+    volts : List ℕ) (totals : List ℤ) (next : ℕ) : Type 0 where
+  pub lends : Lends b numbers powers ticks switches issues seats nodes volts totals
+  pub held-are : held ≡ b .held
+  pub cards-are : cards ≡ b .cards
+  pub next-is : next ≡ b .next
+
 -- what a move leaves: an answer, voltages and totals
 pub record LeavesLevels (a : Answered) (answer : Answer) (volts : List ℕ) (totals : List ℤ) : Type 0 where
   pub answer-is : answer ≡ a .answer

@@ -1,16 +1,15 @@
 -- `nodes_of` has taken the first k numbers.
 use mathlib.Core.Path.{_≡_, ap, _∙_}
-use mathlib.Core.List.{List, map}
 use Prim.Native.Nat.{ℕ, _≤_, _-_}
-use native.Mathlib.Nat.{zero-add}
 use native.Mathlib.Omega.{arith}
 use lib.ListN.{length, getD}
 use lib.IntN.{pos}
 use borrow.Author.Needs.{needs}
 use Rattle.branch.specs.Rows.{roles}
-use Rattle.branch.specs.laws.Filled.{Filled, filled-none, filled-more, filled-all, up-map}
+use Rattle.branch.specs.laws.Filled.{Filled, filled-none, filled-more}
 use Rattle.given.specs.inner.Nodes.{nodeOf}
 use Rattle.totals.proofs.Integers.{held}
+use Rattle.totals.proofs.Lists.{filled-map}
 use Rattle.given.proofs.nodes_of.Statement.{statement}
 use Rattle.given.proofs.nodes_of.Tie as tie
 
@@ -19,11 +18,6 @@ Inv-loop nodes on₀ k₀ on k = (k ≤ roles) × Filled 0 roles (λ (i : ℕ). 
 
 abbrev μ-loop : tie.MeasureT-loop
 μ-loop nodes on₀ k₀ on k = roles - k
-
--- a list filled from its start with what a function makes of another
-filled-map : {A B : Type 0} (g : A → B) (a : A) (l : List A) {d : B} {n k : ℕ} {r : List B} → length l ≡ n →
-    n ≤ k → Filled d n (λ (i : ℕ). g (getD l i a)) k r → r ≡ map g l
-filled-map g a l h m s = filled-all m s ∙ rw (← h) (up-map g a l l 0 (λ i. ap (λ (j : ℕ). getD l j a) (zero-add i)))
 
 long : (c : tie.Start Inv-loop μ-loop) → length (c .args .t1) ≡ roles
 long c = search needs
