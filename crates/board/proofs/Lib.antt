@@ -9,3 +9,4 @@ pub mod PlacingTests
 pub mod Reaches
 pub mod Moving
 pub mod Placing
+pub mod Whole
