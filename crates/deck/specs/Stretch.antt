@@ -6,7 +6,6 @@ use Rattle.branch.specs.inner.Terms.{listUp}
 
 -- the n elements of l from the place `at` on; d is read past the end
 unfoldable pub stretch : {A : Type 0} → A → List A → ℕ → ℕ → List A
-unfolding listUp
 stretch d l at n = listUp (λ (k : ℕ). getD l k d) n at
 
 -- l with the first n of xs written from the place `at` on

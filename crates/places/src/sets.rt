@@ -1,7 +1,8 @@
 // Nodes and names by place; and sets of places, one bit each: which transistors name a node.
 ghost use mathlib.Core.Path.{_≡_};
 ghost use mathlib.Core.Bool.{cond};
-ghost use Prim.Native.Nat.{_+_, _*_, _^_, _<_};
+ghost use Prim.Native.Nat.{_+_, _*_, _^_, _≤_, _<_};
+ghost use lib.Count.{trailingZeros};
 ghost use Rattle.name.specs.Name.{nameLength};
 ghost use Rattle.branch.specs.Rows.{roles};
 ghost use Rattle.deck.specs.Stretch.{stretch, written};
@@ -95,6 +96,13 @@ pub fn naming(issues: &[u32; TRANSISTORS], nodes: &[u8; ALL_NODES], n: u8) -> u6
     set
 }
 
+// How many zeros stand below the lowest digit that is set.
+fn zeros_below(rest: u64) -> usize
+    ensures { λ r. ⌜ (r ≡ trailingZeros 64 rest) × (r ≤ 64) ⌝ }
+{
+    u64::trailing_zeros(rest) as usize
+}
+
 // The first place of the set at or after `from`.
 pub fn next_in(set: u64, from: usize) -> usize
     ensures { λ r. ⌜ NextIn set from r ⌝ }
@@ -106,5 +114,5 @@ pub fn next_in(set: u64, from: usize) -> usize
     if rest == 0 {
         return TRANSISTORS;
     }
-    from + u64::trailing_zeros(rest) as usize
+    from + zeros_below(rest)
 }

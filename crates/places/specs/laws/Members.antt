@@ -17,9 +17,11 @@ module _ (p : ℕ → Bool) where
   unfolding setOf
   set-none = refl
 
-  pub set-more : (k : ℕ) → setOf p (k + 1) ≡ setOf p k + cond (p k) (2 ^ k) 0
+  -- one place more, as a loop goes through them
+  pub set-more : (k : ℕ) {s r : ℕ} {b : Bool} → s ≡ setOf p k → b ≡ p k → r ≡ s + cond b (2 ^ k) 0 →
+      r ≡ setOf p (k + 1)
   unfolding setOf
-  set-more k = rw add-one
+  set-more k e q h = rw add-one (h ∙ (λ j. e j + cond (q j) (2 ^ k) 0))
 
   pub set-below : (k : ℕ) → setOf p k < 2 ^ k
   unfolding setOf

@@ -1,5 +1,5 @@
 -- `highest` goes from the last place to the first; what it has is the highest of those behind it.
-use mathlib.Core.Path.{_≡_, sym, ap, ap₂, _∙_}
+use mathlib.Core.Path.{_≡_, sym, ap, _∙_}
 use mathlib.Core.List.{List}
 use Prim.Native.Nat.{ℕ, _*_, _-_, _≤_, _<_}
 use native.Mathlib.Nat.{zero-add}
@@ -29,16 +29,16 @@ abbrev μ-loop : tie.MeasureT-loop
 μ-loop held names asked best₀ i₀ best i = i
 
 -- one place further on
-further : (asked held names own : List ℕ) (best k : ℕ) → 0 < k → k ≤ cardsMost →
+further : (asked held names : List ℕ) (k : ℕ) {own : List ℕ} {best r : ℕ} → 0 < k → k ≤ cardsMost →
     own ≡ stretch 0 names (nameLength * (k - 1)) nameLength → best ≡ largest (drop k (named asked held names)) →
-    larger (issueIf asked (getD held (k - 1) 0) own) best ≡ largest (drop (k - 1) (named asked held names))
-further asked held names own best k z h o b =
+    r ≡ larger (issueIf asked (getD held (k - 1) 0) own) best → r ≡ largest (drop (k - 1) (named asked held names))
+further asked held names k z h o b e =
     let l = length-up (issueIfAt asked held names) cardsMost 0 in
     let here = getD-up (issueIfAt asked held names) cardsMost 0 (k - 1) 0 (omega arith) in
-    ap₂ (λ (x : List ℕ) (y : ℕ). larger (issueIf asked (getD held (k - 1) 0) x) y) o b
-    ∙ sym (largest-more (named asked held names) k z (omega arith)
-    ∙ ap (λ (x : ℕ). larger x (largest (drop k (named asked held names))))
-    (here ∙ ap (issueIfAt asked held names) (zero-add (k - 1))))
+    let more = largest-more (named asked held names) k z (omega arith) in
+    let this = here ∙ ap (issueIfAt asked held names) (zero-add (k - 1)) in
+    e ∙ (λ j. larger (issueIf asked (getD held (k - 1) 0) (o j)) (b j))
+    ∙ sym (more ∙ (λ j. larger (this j) (largest (drop k (named asked held names)))))
 
 loop-holds : tie.Need-loop-holds Inv-loop μ-loop
 loop-holds c =
@@ -52,9 +52,8 @@ loop-again c =
     let l = at .before .before in
     let a = l .before .args in (
       omega arith,
-      c .better-of .ensures
-          ∙ further (a .asked .now) (a .held .now) (a .names .now) (at .name-at .result) (l .loop .best) (l .loop .i)
-          (omega arith) (omega arith) (at .name-at .ensures) (l .loop .inv .1),
+      further (a .asked .now) (a .held .now) (a .names .now) (l .loop .i) (omega arith) (omega arith)
+          (at .name-at .ensures) (l .loop .inv .1) (c .better-of .ensures),
     )
 
 returns : tie.Need-returns Inv-loop μ-loop

@@ -1,7 +1,7 @@
 -- `naming` has the set of the first i places.
-use mathlib.Core.Path.{_≡_, sym, ap₂, _∙_}
-use mathlib.Core.Bool.{Bool, cond}
-use Prim.Native.Nat.{ℕ, _+_, _-_, _^_, _≤_}
+use mathlib.Core.Path.{_≡_}
+use mathlib.Core.Bool.{Bool}
+use Prim.Native.Nat.{ℕ, _-_, _≤_}
 use native.Mathlib.Omega.{arith}
 use borrow.Author.Needs.{needs}
 use Rattle.places.specs.Counts.{transistorsMost}
@@ -33,12 +33,7 @@ with-requires c κs =
 loop-again : tie.Need-loop-again Inv-loop μ-loop
 loop-again c =
     let l = c .before .before .before in
-    let i = l .loop .i in (
-      omega arith,
-      c .with .ensures
-          ∙ ap₂ (λ (s : ℕ) (b : Bool). s + cond b (2 ^ i) 0) (l .loop .inv .1) (c .before .is-at .ensures)
-          ∙ sym (set-more (test l) i),
-    )
+    (omega arith, set-more (test l) (l .loop .i) (l .loop .inv .1) (c .before .is-at .ensures) (c .with .ensures))
 
 returns : tie.Need-returns Inv-loop μ-loop
 returns c = let e : c .before .loop .i ≡ transistorsMost = omega arith in rw e at (c .before .loop .inv .1)
