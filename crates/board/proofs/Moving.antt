@@ -25,7 +25,7 @@ use Rattle.places.specs.laws.Members.{member-set}
 use Rattle.settle.specs.declared.First.{First}
 use Rattle.settle.specs.Change.{changes}
 use Rattle.settle.specs.First.{firstBelow}
-use Rattle.settle.specs.inner.Working.{Settling, Able, gained, overOf, totalMost, cardAt, nodesAt}
+use Rattle.settle.specs.inner.Working.{deckOf, Settling, gained, overOf, cardAt, nodesAt}
 use Rattle.settle.specs.laws.Firsts.{first-same}
 use Rattle.settle.specs.laws.Changes.{changes-same}
 use Rattle.board.specs.declared.Board.{Board}
@@ -35,7 +35,7 @@ use Rattle.board.specs.Counts.{nodesMost, transistorsMost}
 use Rattle.board.specs.Verdict.{moveVerdict}
 use Rattle.board.specs.Model.{cardsOf, transistorsOf, transistorAt, workedOn, Shift, shifted, touched, oneShift}
 use Rattle.board.specs.Model.{firstOver, gains, voltsOf, refuse, movedOf, Reached}
-use Rattle.board.specs.inner.Lent.{LeavesLevels}
+use Rattle.board.specs.inner.Lent.{Lends, LeavesLevels}
 use Rattle.board.proofs.Answers.{off-board, on-board}
 use Rattle.board.proofs.Gains.{more-is, touched-stands, gains-small}
 use Rattle.board.proofs.Invariant.{Invariant, invariant, totals-long}
@@ -160,3 +160,51 @@ module _ (b : Board) (k : Reached b) (z v : ℤ) (n x : ℕ) (ne : n ≡ nodeOf 
           volts-are = will-is;
           totals-are = more-is (gains b shifts) more (λ m h. gained-is m transistorsMost (omega arith));
         })
+
+-- ---- the same of arrays that are the board's
+
+module _ {b : Board} {numbers powers ticks : List ℕ} {switches : List Bool} {issues seats nodes volts : List ℕ}
+    {totals : List ℤ} (l : Lends b numbers powers ticks switches issues seats nodes volts totals) (z v : ℤ) where
+  pub lent-off-node : nodesMost ≤ nodeOf z → LeavesLevels (movedOf b z v) (Refused OutOfRange) volts totals
+  lent-off-node h = rw (l .volts-are, l .totals-are) (move-off-node b z v h)
+
+  pub lent-too-far : nodeOf z < nodesMost → offVolts v ≡ true →
+      LeavesLevels (movedOf b z v) (Refused OutOfRange) volts totals
+  lent-too-far h k = rw (l .volts-are, l .totals-are) (move-too-far b z v h k)
+
+  module _ (r : Reached b) (n x : ℕ) (ne : n ≡ nodeOf z) (below : n < nodesMost) (level : KeptIs v x) (places : ℕ)
+      (pe : places ≡ namingIn n issues nodes) where
+    naming-is : places ≡ namingIn n (b .issues) (b .nodes)
+    naming-is = rw (← (l .issues-are), ← (l .nodes-are)) pe
+
+    pub lent-settling : Settling (deckOf numbers powers ticks switches) seats nodes places volts (set volts n x) totals
+    lent-settling =
+        rw (l .numbers-are, l .powers-are, l .ticks-are, l .switches-are, l .seats-are, l .nodes-are, l .volts-are,
+        l .totals-are)
+        (settling-move b r z v n x ne below level places naming-is)
+
+    module _ {first : First} {t : List ℤ}
+        (fe : first ≡ firstBelow (member places) (λ (i : ℕ). getD issues i 0)
+        (overOf (deckOf numbers powers ticks switches) seats nodes (set volts n x)) transistorsMost)
+        (more : More nodesMost totals t
+        (gained (deckOf numbers powers ticks switches) seats nodes places volts (set volts n x) transistorsMost)) where
+      own-first : first ≡ firstBelow (member places) (λ (i : ℕ). getD (b .issues) i 0)
+          (overOf (deckIn b) (b .seats) (b .nodes) (set (b .volts) n x)) transistorsMost
+      own-first =
+          rw (← (l .numbers-are), ← (l .powers-are), ← (l .ticks-are), ← (l .switches-are), ← (l .issues-are),
+          ← (l .seats-are), ← (l .nodes-are), ← (l .volts-are)) fe
+
+      own-more : More nodesMost (b .totals) t
+          (gained (deckIn b) (b .seats) (b .nodes) places (b .volts) (set (b .volts) n x) transistorsMost)
+      own-more =
+          rw (← (l .numbers-are), ← (l .powers-are), ← (l .ticks-are), ← (l .switches-are), ← (l .seats-are),
+          ← (l .nodes-are), ← (l .volts-are), ← (l .totals-are)) more
+
+      pub lent-over : isOver (first .over) ≡ true → LeavesLevels (movedOf b z v) (Refused Overload) volts totals
+      lent-over o =
+          rw (l .volts-are, l .totals-are)
+          (move-over b r z v n x ne below level places naming-is own-first own-more o)
+
+      pub lent-moves : isOver (first .over) ≡ false → LeavesLevels (movedOf b z v) Done (set volts n x) t
+      lent-moves o =
+          rw (l .volts-are) (moves-it b r z v n x ne below level places naming-is own-first own-more o)

@@ -4,7 +4,7 @@ use mathlib.Core.Bool.{Bool, true, false}
 use mathlib.Core.List.{List, map}
 use Prim.Native.Nat.{ℕ, _+_, _*_, _≤_, _<_}
 use native.Mathlib.Omega.{arith}
-use lib.Dec.{leb}
+use lib.Dec.{eqb, leb}
 use lib.ListN.{length, getD, set, replicate, length-map}
 use lib.IntN.{ℤ, natAbs}
 use borrow.Author.Tests.{leb-false, ltb-false}
@@ -12,6 +12,7 @@ use Rattle.refusal.specs.declared.Refusal.{Refusal}
 use Rattle.refusal.specs.declared.Refusal.the-variants.{Unknown, Overload}
 use Rattle.refusal.specs.Order.{Verdict, yes}
 use Rattle.card.specs.declared.WorkedCard.{WorkedCard}
+use Rattle.volts.specs.Volts.{givenBack}
 use Rattle.octave.specs.Table.{entries}
 use Rattle.branch.specs.declared.Over.{Over}
 use Rattle.branch.specs.declared.Ready.{Ready}
@@ -27,12 +28,14 @@ use Rattle.places.specs.declared.Way.{Way}
 use Rattle.places.specs.declared.Way.the-variants.{Go, Stop}
 use Rattle.places.specs.Gathered.{Transistor, emptyTransistor, noCard, workedAt}
 use Rattle.places.specs.Finding.{cardPlace, transistorPlace, freeTransistor}
-use Rattle.places.specs.inner.Flat.{freePlace, numberPlace, joinedAt}
+use Rattle.places.specs.inner.Flat.{firstAt, freePlace, numberPlace, joinedAt}
+use Rattle.places.specs.inner.Parts.{placeOr}
 use Rattle.places.specs.inner.Placing.{placing, wayOf}
 use Rattle.places.specs.laws.Gather.{card-place, joined-flat, first-transistor, transistor-place}
+use Rattle.places.specs.laws.Founds.{not-there}
 use Rattle.places.specs.laws.Ways.{stopped, went}
 use Rattle.settle.specs.Change.{backFlow}
-use Rattle.settle.specs.inner.Working.{Workable, cardOf, nodesAt}
+use Rattle.settle.specs.inner.Working.{deckOf, Workable, cardOf, nodesAt}
 use Rattle.board.specs.declared.Board.{Board}
 use Rattle.board.specs.declared.Answer.the-variants.{Issue, Done, Refused}
 use Rattle.board.specs.declared.Answered.{Answered}
@@ -40,7 +43,7 @@ use Rattle.board.specs.Counts.{nodesMost, cardsMost, transistorsMost}
 use Rattle.board.specs.Verdict.{liftVerdict}
 use Rattle.board.specs.Model.{cardsOf, transistorsOf, transistorAt, workedOn, voltsOf, refuse, placedOf, mayPlace}
 use Rattle.board.specs.Model.{liftedOf, Reached}
-use Rattle.board.specs.inner.Lent.{LeavesPlaces}
+use Rattle.board.specs.inner.Lent.{Lends, LendsPlaces, LeavesPlaces}
 use Rattle.board.proofs.Verdicts.{Places, places}
 use Rattle.board.proofs.PlacingTests.{lastly, on-same, then-lastly}
 use Rattle.board.proofs.Gains.{more-is}
@@ -249,3 +252,100 @@ module _ (b : Board) (k : Reached b) (z : ℤ) where
               worked-there b (invariant k) i lift-there leaver-stands));
           next-is = refl;
         })
+
+-- ---- the same of arrays that are the board's
+
+module _ {b : Board} {numbers powers ticks : List ℕ} {switches : List Bool} {held issues cards seats nodes volts : List ℕ}
+    {totals : List ℤ} {next : ℕ}
+    (l : LendsPlaces b numbers powers ticks switches held issues cards seats nodes volts totals next) (r : Reached b)
+    (card : ℤ) (given : List ℤ) (long : length given ≡ roles) {on : List ℕ} (on-are : on ≡ map nodeOf given) {w : Way}
+    (way-is : w ≡ wayOf (freePlace issues)
+    (placing (numberPlace cardsMost (issueOf card) held) (joinedAt switches) on (leb transistorsMost (freePlace issues))
+    (usedUp next))) where
+  own-way : w ≡ wayOn b (issueOf card) on
+  own-way =
+      rw (← (l .lends .switches-are), ← (l .lends .issues-are), ← (l .held-are), ← (l .next-is)) way-is
+
+  pub lent-stops : (f : Refusal) → w ≡ Stop f →
+      LeavesPlaces (placedOf b card given) (Refused f) issues cards seats nodes totals next
+  lent-stops f e =
+      rw (l .lends .issues-are, l .cards-are, l .lends .seats-are, l .lends .nodes-are, l .lends .totals-are, l .next-is)
+      (place-stops b r card given long on-are own-way f e)
+
+  module _ {i free : ℕ} (e : w ≡ Go i free) where
+    pub lent-free : free < transistorsMost
+    lent-free = free-there b r card given long on-are own-way e
+
+    pub lent-number : next ≤ issuesMost
+    lent-number = rw (l .next-is) (number-there b r card given long on-are own-way e)
+
+    pub lent-card : i < cardsMost
+    lent-card = place-there b r card given long on-are own-way e
+
+    pub lent-works : (table : List ℕ) → table ≡ entries →
+        Workable table (deckOf numbers powers ticks switches) i on volts × Room nodesMost roomMost totals
+    lent-works table h =
+        rw (l .lends .numbers-are, l .lends .powers-are, l .lends .ticks-are, l .lends .switches-are, l .lends .volts-are,
+        l .lends .totals-are)
+        (place-works b r card given long on-are own-way e table h)
+
+    module _ {over : Over}
+        (oe : over ≡ overAt (cardOf (deckOf numbers powers ticks switches) i) on (map givenBack volts)) where
+      own-over : over ≡ overAt (cardOf (deckIn b) i) on (voltsOf b)
+      own-over =
+          rw (← (l .lends .numbers-are), ← (l .lends .powers-are), ← (l .lends .ticks-are), ← (l .lends .switches-are),
+          ← (l .lends .volts-are)) oe
+
+      pub lent-over : isOver over ≡ true →
+          LeavesPlaces (placedOf b card given) (Refused Overload) issues cards seats nodes totals next
+      lent-over o =
+          rw (l .lends .issues-are, l .cards-are, l .lends .seats-are, l .lends .nodes-are, l .lends .totals-are, l .next-is)
+          (place-over b r card given long on-are own-way e own-over o)
+
+      pub lent-places : isOver over ≡ false → {t : List ℤ} →
+          More nodesMost totals t
+          (flow (cardOf (deckOf numbers powers ticks switches) i) on (map givenBack volts)) →
+          LeavesPlaces (placedOf b card given) (Issue next) (set issues free next) (set cards free (getD held i 0))
+          (set seats free i) (written 0 nodes (roles * free) on roles) t (next + 1)
+      lent-places o {t} more =
+          let own : More nodesMost (b .totals) t (flow (cardOf (deckIn b) i) on (voltsOf b)) =
+          rw (← (l .lends .numbers-are), ← (l .lends .powers-are), ← (l .lends .ticks-are), ← (l .lends .switches-are),
+          ← (l .lends .volts-are), ← (l .lends .totals-are)) more in
+          rw (l .lends .issues-are, l .cards-are, l .lends .seats-are, l .lends .nodes-are, l .held-are, l .next-is)
+          (places-it b r card given long on-are own-way e own-over o own)
+
+module _ {b : Board} {numbers powers ticks : List ℕ} {switches : List Bool} {issues seats nodes volts : List ℕ}
+    {totals : List ℤ} (l : Lends b numbers powers ticks switches issues seats nodes volts totals) (r : Reached b)
+    (z : ℤ) where
+  pub lent-unknown : {cards : List ℕ} → cards ≡ b .cards →
+      transistorsMost ≤ placeOr transistorsMost (numberPlace transistorsMost (issueOf z) issues) →
+      LeavesPlaces (liftedOf b z) (Refused Unknown) issues cards seats nodes totals (b .next)
+  lent-unknown c h =
+      rw (l .issues-are, c, l .seats-are, l .nodes-are, l .totals-are)
+      (lift-unknown b r z (rw (← (l .issues-are)) (not-there transistorsMost (firstAt transistorsMost (issueOf z) issues) (eqb (issueOf z) 0) h)))
+
+  module _ (i : ℕ) (e : numberPlace transistorsMost (issueOf z) issues ≡ some i) where
+    own-place : numberPlace transistorsMost (issueOf z) (b .issues) ≡ some i
+    own-place = rw (← (l .issues-are)) e
+
+    pub leaver-there : i < transistorsMost
+    leaver-there = lift-there b r z i own-place
+
+    pub leaver-works : (table on : List ℕ) (s : ℕ) → table ≡ entries → on ≡ nodesAt nodes i → s ≡ getD seats i 0 →
+        Workable table (deckOf numbers powers ticks switches) s on volts × Room nodesMost roomMost totals
+    leaver-works table on s t o p =
+        rw (l .numbers-are, l .powers-are, l .ticks-are, l .switches-are, l .volts-are, l .totals-are)
+        (lift-works b r z i own-place table on s t (rw (← (l .nodes-are)) o) (rw (← (l .seats-are)) p))
+
+    pub lent-lifts : {cards : List ℕ} → cards ≡ b .cards → {on : List ℕ} {s : ℕ} → on ≡ nodesAt nodes i →
+        s ≡ getD seats i 0 → {t : List ℤ} →
+        More nodesMost totals t
+        (backFlow (cardOf (deckOf numbers powers ticks switches) s) on (map givenBack volts)) →
+        LeavesPlaces (liftedOf b z) Done (set issues i 0) (set cards i 0) (set seats i 0)
+        (written 0 nodes (roles * i) (replicate roles 0) roles) t (b .next)
+    lent-lifts c {on} {s} o p {t} more =
+        let own : More nodesMost (b .totals) t (backFlow (cardOf (deckIn b) s) on (voltsOf b)) =
+        rw (← (l .numbers-are), ← (l .powers-are), ← (l .ticks-are), ← (l .switches-are), ← (l .volts-are),
+        ← (l .totals-are)) more in
+        rw (l .issues-are, c, l .seats-are, l .nodes-are)
+        (lifts-it b r z i own-place (rw (← (l .nodes-are)) o) (rw (← (l .seats-are)) p) own)

@@ -9,7 +9,28 @@ use Rattle.board.specs.declared.Answer.{Answer}
 use Rattle.board.specs.declared.Answered.{Answered}
 use Rattle.board.specs.Model.{leveled, placed, placedOf, mayPlace, moved, movedOf, mayMove, lifted, liftedOf}
 use Rattle.board.specs.Model.{mayLift}
-use Rattle.board.specs.inner.Lent.{LeavesLevels, LeavesPlaces}
+use Rattle.board.specs.inner.Lent.{Lends, LendsPlaces, LeavesLevels, LeavesPlaces}
+
+-- a board lends its own arrays
+pub own-lends : (b : Board) →
+    Lends b (b .numbers) (b .powers) (b .ticks) (b .switches) (b .issues) (b .seats) (b .nodes) (b .volts) (b .totals)
+own-lends b =
+    record {
+      numbers-are = refl;
+      powers-are = refl;
+      ticks-are = refl;
+      switches-are = refl;
+      issues-are = refl;
+      seats-are = refl;
+      nodes-are = refl;
+      volts-are = refl;
+      totals-are = refl;
+    }
+
+pub own-lends-places : (b : Board) →
+    LendsPlaces b (b .numbers) (b .powers) (b .ticks) (b .switches) (b .held) (b .issues) (b .cards) (b .seats) (b .nodes)
+    (b .volts) (b .totals) (b .next)
+own-lends-places b = record { lends = own-lends b; held-are = refl; cards-are = refl; next-is = refl }
 
 -- b with other places of transistors, other totals and another next number
 abbrev pub withPlaces : Board → List ℕ → List ℕ → List ℕ → List ℕ → List ℤ → ℕ → Board
@@ -64,23 +85,23 @@ move-only b n v = go (mayMove b n v)
 
 -- ---- so that what was left is the answer, whole
 
-places-whole : {b : Board} {a : Answered} {answer : Answer} {issues cards seats nodes : List ℕ} {totals : List ℤ}
+places-whole : (b : Board) {a : Answered} {answer : Answer} {issues cards seats nodes : List ℕ} {totals : List ℤ}
     {next : ℕ} → OnlyPlaces b (a .board) → LeavesPlaces a answer issues cards seats nodes totals next →
     record { board = withPlaces b issues cards seats nodes totals next; answer = answer } ≡ a
-places-whole {b} {a} only l =
+places-whole b {a} only l =
     rw (l .issues-are, l .cards-are, l .seats-are, l .nodes-are, l .totals-are, l .next-is, l .answer-is, ← only)
 
-pub placed-whole : {b : Board} {card : ℤ} {on : List ℤ} {answer : Answer} {issues cards seats nodes : List ℕ}
+pub placed-whole : (b : Board) (card : ℤ) (on : List ℤ) {answer : Answer} {issues cards seats nodes : List ℕ}
     {totals : List ℤ} {next : ℕ} → LeavesPlaces (placedOf b card on) answer issues cards seats nodes totals next →
     record { board = withPlaces b issues cards seats nodes totals next; answer = answer } ≡ placedOf b card on
-placed-whole {b} {card} {on} l = places-whole (place-only b card on) l
+placed-whole b card on l = places-whole b (place-only b card on) l
 
-pub lifted-whole : {b : Board} {n : ℤ} {answer : Answer} {issues cards seats nodes : List ℕ} {totals : List ℤ} →
+pub lifted-whole : (b : Board) (n : ℤ) {answer : Answer} {issues cards seats nodes : List ℕ} {totals : List ℤ} →
     LeavesPlaces (liftedOf b n) answer issues cards seats nodes totals (b .next) →
     record { board = withPlaces b issues cards seats nodes totals (b .next); answer = answer } ≡ liftedOf b n
-lifted-whole {b} {n} l = places-whole (lift-only b n) l
+lifted-whole b n l = places-whole b (lift-only b n) l
 
-pub moved-whole : {b : Board} {n v : ℤ} {answer : Answer} {volts : List ℕ} {totals : List ℤ} →
+pub moved-whole : (b : Board) (n v : ℤ) {answer : Answer} {volts : List ℕ} {totals : List ℤ} →
     LeavesLevels (movedOf b n v) answer volts totals →
     record { board = leveled b (record { volts = volts; totals = totals }); answer = answer } ≡ movedOf b n v
-moved-whole {b} {n} {v} l = rw (l .volts-are, l .totals-are, l .answer-is, ← (move-only b n v))
+moved-whole b n v l = rw (l .volts-are, l .totals-are, l .answer-is, ← (move-only b n v))
