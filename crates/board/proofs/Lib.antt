@@ -1,11 +1,12 @@
 pub mod Verdicts
 pub mod Lists
 pub mod NodeSums
+pub mod Gains
 pub mod Invariant
-pub mod Reaches
+pub mod Lent
 pub mod Answers
-pub mod Currents
-pub mod Midway
 pub mod PlacingTests
-pub mod WorkerCalls
-pub mod Changes
+pub mod Reaches
+pub mod Moving
+pub mod Placing
+pub mod Whole

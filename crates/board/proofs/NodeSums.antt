@@ -1,29 +1,30 @@
--- Sums over the places and tables of them: their laws, what a place gives to a node at most, and the totals worked
+-- Sums over the places: their laws, what a place gives to a node at most, and the totals worked
 -- anew, node by node.
 use mathlib.Core.Path.{_≡_, refl, sym, ap, _∙_, subst}
 use mathlib.Core.Bool.{Bool, true, false, cond}
 use mathlib.Core.Logic.{_⊎_, inl, inr}
 use mathlib.Core.List.{List, [], _∷_}
 use Prim.Native.Nat.{ℕ, zero, suc, _*_, _≤_, _<_, zero-le}
-use native.Mathlib.Nat.{suc-mul}
+use native.Mathlib.Nat.{suc-mul, zero-add}
 use native.Mathlib.Omega.{arith}
 use lib.Dec.{eqb}
-use lib.ListN.{length, getD, replicate, List·getD-eq-default}
+use lib.ListN.{length, getD, List·getD-eq-default}
 use lib.Seq.{ext-getD}
 use lib.IntN.{ℤ, pos, natAbs}
 use Rattle.whole.specs.laws.Biased.{below-or-not}
 use Rattle.card.specs.declared.WorkedCard.{WorkedCard}
 use Rattle.terms.specs.Rows.{rowsFor}
+use Rattle.branch.specs.inner.FromTerms.{listUp}
 use Rattle.branch.specs.Outcome.{tickLimit, outcomeOf}
 use Rattle.branch.proofs.Laws.{ticks-small}
-use Rattle.places.specs.declared.Card.{Card}
-use Rattle.places.specs.declared.Transistor.{Transistor}
 use Rattle.board.specs.Counts.{nodesMost, transistorsMost}
-use Rattle.board.specs.Desk.{rolesAt, flow, sumOver}
-use Rattle.board.specs.Model.{workedAt, placeGives, tabulate, totalsOf}
+use Rattle.totals.specs.Flow.{rolesAt, flow, sumOver}
+use Rattle.places.specs.Gathered.{Card, Transistor, workedAt}
+use Rattle.settle.specs.inner.Working.{totalMost}
+use Rattle.board.specs.inner.Sums.{placeGives, totalsOf}
 use Rattle.totals.specs.inner.Sums.{Room}
 use Rattle.totals.specs.inner.Sizes.{flowMost}
-use Rattle.board.specs.inner.Sizes.{totalMost}
+use Rattle.deck.specs.laws.Ups.{length-up, getD-up}
 use Rattle.totals.proofs.Integers.{abs-add}
 use Rattle.totals.proofs.Amounts.{small-rows}
 
@@ -35,30 +36,9 @@ unfolding sumOver
 sum-same f g d [] h = refl
 sum-same f g d (a ∷ rest) h = rw (h 0 (omega arith), sum-same f g d rest (λ i k. h (suc i) (omega arith)))
 
-pub tabulate-same : {A : Type 0} (f g : ℕ → A) (n : ℕ) → ((i : ℕ) → i < n → f i ≡ g i) → tabulate f n ≡ tabulate g n
-unfolding tabulate
-tabulate-same f g zero h = refl
-tabulate-same f g (suc n) h =
-    rw
-    (h 0 (omega arith), tabulate-same (λ (i : ℕ). f (suc i)) (λ (i : ℕ). g (suc i)) n (λ i k. h (suc i) (omega arith)))
-
-pub tabulate-at : {A : Type 0} (f : ℕ → A) (n i : ℕ) (d : A) → i < n → getD (tabulate f n) i d ≡ f i
-unfolding tabulate
-tabulate-at f zero i d h = absurd (omega arith)
-tabulate-at f (suc n) zero d h = refl
-tabulate-at f (suc n) (suc i) d h = tabulate-at (λ (j : ℕ). f (suc j)) n i d (omega arith)
-
-pub tabulate-long : {A : Type 0} (f : ℕ → A) (n : ℕ) → length (tabulate f n) ≡ n
-unfolding tabulate
-tabulate-long f zero = refl
-tabulate-long f (suc n) = ap suc (tabulate-long (λ (j : ℕ). f (suc j)) n)
-
-pub tabulate-none : {A : Type 0} (f : ℕ → A) (a : A) (n : ℕ) → ((i : ℕ) → i < n → f i ≡ a) →
-    replicate n a ≡ tabulate f n
-unfolding tabulate
-tabulate-none f a zero h = refl
-tabulate-none f a (suc n) h =
-    rw (h 0 (omega arith), ← (tabulate-none (λ (i : ℕ). f (suc i)) a n (λ i k. h (suc i) (omega arith))))
+-- what stands at a place of a list counted up from 0
+pub up-at : {A : Type 0} (f : ℕ → A) (n i : ℕ) (d : A) → i < n → getD (listUp f n 0) i d ≡ f i
+up-at f n i d h = getD-up f n 0 i d h ∙ ap f (zero-add i)
 
 -- ---- sizes
 
@@ -73,9 +53,9 @@ pub small-place : (cards : List Card) (volts : List ℤ) (n : ℕ) (t : Transist
 unfolding placeGives
 small-place cards volts n t = go (eqb (t .issue) 0)
   where
-    go : (u : Bool) → natAbs (cond u (pos 0) (flow (workedAt cards (t .«card_place»)) (t .nodes) volts n)) ≤ flowMost
+    go : (u : Bool) → natAbs (cond u (pos 0) (flow (workedAt cards (t .seat)) (t .nodes) volts n)) ≤ flowMost
     go true = zero-le
-    go false = small-flow (workedAt cards (t .«card_place»)) (t .nodes) volts n
+    go false = small-flow (workedAt cards (t .seat)) (t .nodes) volts n
 
 pub small-sum : {A : Type 0} (f : A → ℤ) (most : ℕ) → ((a : A) → natAbs (f a) ≤ most) → (l : List A) →
     natAbs (sumOver f l) ≤ length l * most
@@ -92,12 +72,12 @@ small-sum f most h (a ∷ rest) =
 pub totals-at : (cards : List Card) (ts : List Transistor) (volts : List ℤ) (n : ℕ) → n < nodesMost →
     getD (totalsOf cards ts volts) n (pos 0) ≡ sumOver (placeGives cards volts n) ts
 unfolding totalsOf
-totals-at cards ts volts n h = tabulate-at (λ (m : ℕ). sumOver (placeGives cards volts m) ts) nodesMost n (pos 0) h
+totals-at cards ts volts n h = up-at (λ (m : ℕ). sumOver (placeGives cards volts m) ts) nodesMost n (pos 0) h
 
 pub totals-count : (cards : List Card) (ts : List Transistor) (volts : List ℤ) →
     length (totalsOf cards ts volts) ≡ nodesMost
 unfolding totalsOf
-totals-count cards ts volts = tabulate-long _ nodesMost
+totals-count cards ts volts = length-up (λ (n : ℕ). sumOver (placeGives cards volts n) ts) nodesMost 0
 
 -- a list with these sums is the totals
 pub are-totals : (cards : List Card) (ts : List Transistor) (volts : List ℤ) (l : List ℤ) → length l ≡ nodesMost →

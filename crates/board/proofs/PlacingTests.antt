@@ -11,13 +11,12 @@ use Rattle.refusal.specs.declared.Refusal.the-variants.{NoRoom, OutOfRange, Spl
 use Rattle.refusal.specs.declared.Refusal.the-variants.{NumbersUsedUp}
 use Rattle.refusal.specs.Order.{Verdict, no, yes, refuseIf}
 use Rattle.refusal.specs.Clash.{clash}
-use Rattle.card.specs.declared.WorkedCard.{WorkedCard}
 use Rattle.terms.specs.Rows.{C1, C4, roleIndex}
 use Rattle.board.specs.Counts.{nodesMost}
-use Rattle.places.specs.Arguments.{Found, none, some, offNode, someNodeOff, apart}
+use Rattle.given.specs.Arguments.{Found, none, some, offNode, someNodeOff, apart}
 use Rattle.board.specs.Verdict.{placeVerdict}
-use Rattle.board.specs.Desk.{anyOf}
-use Rattle.places.specs.inner.Parts.{nodeOf}
+use Rattle.given.specs.Lists.{anyOf}
+use Rattle.given.specs.inner.Nodes.{nodeOf}
 use Rattle.places.specs.inner.Placing.{apartOn, placing}
 use Rattle.board.proofs.Verdicts.{on-node}
 
@@ -52,11 +51,11 @@ size-at (z ∷ nodes) zero = refl
 size-at (z ∷ nodes) (suc k) = size-at nodes k
 
 pub then-lastly :
-    {A : Type 0} (found : Found A) (worked : A → WorkedCard) (over : A → Bool) (nodes : List ℤ) (noRoom used : Bool) →
-    placeVerdict found worked over nodes noRoom used ≡ lastly (placing found worked (map nodeOf nodes) noRoom used) over
+    {A : Type 0} (found : Found A) (joins over : A → Bool) (nodes : List ℤ) (noRoom used : Bool) →
+    placeVerdict found joins over nodes noRoom used ≡ lastly (placing found joins (map nodeOf nodes) noRoom used) over
 unfolding placeVerdict placing
-then-lastly none worked over nodes noRoom used = refl
-then-lastly (some a) worked over nodes noRoom used = rw (off-same nodes) (go (someNodeOff nodes) refl)
+then-lastly none joins over nodes noRoom used = refl
+then-lastly (some a) joins over nodes noRoom used = rw (off-same nodes) (go (someNodeOff nodes) refl)
   where
     chain : (s r u : Bool) →
         refuseIf s SplitCollector (refuseIf r NoRoom (refuseIf u NumbersUsedUp (refuseIf (over a) Overload (yes a))))
@@ -68,12 +67,12 @@ then-lastly (some a) worked over nodes noRoom used = rw (off-same nodes) (go (so
 
     go : (t : Bool) → someNodeOff nodes ≡ t →
         refuseIf t OutOfRange
-        (refuseIf (worked a .«rcbli_zero» && apart nodes) SplitCollector
+        (refuseIf (joins a && apart nodes) SplitCollector
         (refuseIf noRoom NoRoom (refuseIf used NumbersUsedUp (refuseIf (over a) Overload (yes a))))) ≡ lastly
         (refuseIf t OutOfRange
-        (refuseIf (worked a .«rcbli_zero» && apartOn (map nodeOf nodes)) SplitCollector
+        (refuseIf (joins a && apartOn (map nodeOf nodes)) SplitCollector
         (refuseIf noRoom NoRoom (refuseIf used NumbersUsedUp (yes a))))) over
     go true e = refl
     go false e =
         rw (on-same nodes e, size-at nodes (roleIndex C4), size-at nodes (roleIndex C1))
-        (chain (worked a .«rcbli_zero» && apart nodes) noRoom used)
+        (chain (joins a && apart nodes) noRoom used)

@@ -12,7 +12,7 @@ use Rattle.name.specs.Name.{asked}
 use lib.Dec.{leb, ltb}
 use borrow.Author.Tests.{leb-false}
 use Rattle.board.specs.Counts.{nodesMost}
-use Rattle.places.specs.Arguments.{Found, none, some, offNode, someNodeOff, apart}
+use Rattle.given.specs.Arguments.{Found, none, some, offNode, someNodeOff, apart}
 use Rattle.board.specs.Verdict.{loadVerdict, placeVerdict, moveVerdict, liftVerdict, withdrawVerdict, nodeVerdict}
 use Rattle.refusal.specs.Order.{Verdict, no, yes, refuseIf, andThen, passes-if}
 use Rattle.volts.specs.Volts.{offVolts}
@@ -39,24 +39,24 @@ loads name {bytes} {noRoom} {used} {c} e =
         let s = passes-if used _ _ _ (r .1) in
         let same : d ≡ c = cc in record { judged = j ∙ ap yes same; room = r .0; number = s .0 }
 
-pub record Places {A : Type 0} (found : Found A) (worked : A → WorkedCard) (over : A → Bool) (nodes : List ℤ)
+pub record Places {A : Type 0} (found : Found A) (joins over : A → Bool) (nodes : List ℤ)
     (noRoom used : Bool) (a : A) : Type 0 where
   pub there : found ≡ some a
   pub on : someNodeOff nodes ≡ false
-  pub joined : worked a .«rcbli_zero» && apart nodes ≡ false
+  pub joined : joins a && apart nodes ≡ false
   pub room : noRoom ≡ false
   pub number : used ≡ false
   pub quiet : over a ≡ false
 
 pub places :
-    {A : Type 0} (found : Found A) {worked : A → WorkedCard} {over : A → Bool} {nodes : List ℤ} {noRoom used : Bool}
+    {A : Type 0} (found : Found A) {joins over : A → Bool} {nodes : List ℤ} {noRoom used : Bool}
     {a : A} →
-    placeVerdict found worked over nodes noRoom used ≡ yes a → Places found worked over nodes noRoom used a
+    placeVerdict found joins over nodes noRoom used ≡ yes a → Places found joins over nodes noRoom used a
 unfolding placeVerdict
 places none e = clash cc
-places (some b) {worked} {over} {nodes} {noRoom} {used} {a} e =
+places (some b) {joins} {over} {nodes} {noRoom} {used} {a} e =
     let p = passes-if (someNodeOff nodes) _ _ _ e in
-    let q = passes-if (worked b .«rcbli_zero» && apart nodes) _ _ _ (p .1) in
+    let q = passes-if (joins b && apart nodes) _ _ _ (p .1) in
     let r = passes-if noRoom _ _ _ (q .1) in
     let s = passes-if used _ _ _ (r .1) in
     let t = passes-if (over b) _ _ _ (s .1) in

@@ -7,7 +7,7 @@ use mathlib.Core.List.{List, [], _∷_, map}
 use Prim.Native.Nat.{ℕ, suc, _+_}
 use lib.Dec.{eqb, leb}
 use lib.ListN.{getD, set, replicate, length}
-use lib.IntN.{ℤ, pos, natAbs, _+ℤ_}
+use lib.IntN.{ℤ, pos, natAbs}
 use Rattle.refusal.specs.declared.Refusal.{Refusal}
 use Rattle.refusal.specs.declared.Refusal.the-variants.{Malformed, BadName, NameNotHeld, NoRoom, OutOfRange}
 use Rattle.refusal.specs.declared.Refusal.the-variants.{SplitCollector, Overload, CardInUse, NumbersUsedUp}
@@ -17,13 +17,11 @@ use Rattle.volts.specs.Volts.{offVolts}
 use Rattle.card.specs.Judge.{judgeOf}
 use Rattle.clip.specs.Record.{rightLength}
 use Rattle.card.specs.declared.WorkedCard.{WorkedCard}
-use Rattle.terms.specs.Rows.{rowsFor, roles}
-use Rattle.branch.specs.Outcome.{isOver, outcomeOf}
-use Rattle.totals.specs.Gives.{rowsGive}
-unfoldable pub use Rattle.places.specs.Finding.{anyOf}
-pub use Rattle.places.specs.Finding.{larger, usedUp}
-use Rattle.places.specs.Arguments.{Found, none, some, issueOf, offNode, someNodeOff, apart, known}
-use Rattle.board.specs.Counts.{nodesMost, cardsMost, transistorsMost, issuesMost}
+use Rattle.terms.specs.Rows.{roles}
+use Rattle.totals.specs.Flow.{overloads, flow, sumOver}
+use Rattle.given.specs.Lists.{anyOf, larger}
+use Rattle.given.specs.Arguments.{Found, none, some, issueOf, offNode, someNodeOff, apart, known, usedUp}
+use Rattle.board.specs.Counts.{nodesMost, cardsMost, transistorsMost}
 
 pub record Held : Type 0 where
   pub issue : ℕ
@@ -61,23 +59,7 @@ pub record Step : Type 0 where
   pub reply : Reply
   pub desk : Desk
 
--- ---- what a transistor does at given voltages
-
--- the voltages of its roles
-abbrev pub rolesAt : List ℤ → List ℕ → List ℤ
-rolesAt volts nodes = map (λ (n : ℕ). getD volts n (pos 0)) nodes
-
-unfoldable pub overloads : WorkedCard → List ℕ → List ℤ → Bool
-overloads c nodes volts = isOver (outcomeOf c (rolesAt volts nodes) .over)
-
--- what a transistor adds to node n
-unfoldable pub flow : WorkedCard → List ℕ → List ℤ → ℕ → ℤ
-unfolding rowsGive
-flow c nodes volts n = rowsGive (rowsFor (c .exsub)) nodes (outcomeOf c (rolesAt volts nodes) .ticks) n
-
-unfoldable pub sumOver : {A : Type 0} → (A → ℤ) → List A → ℤ
-sumOver f [] = pos 0
-sumOver f (a ∷ rest) = f a +ℤ sumOver f rest
+-- ---- totals
 
 -- a node's total: the sum over the transistors standing
 unfoldable pub total : Desk → ℕ → ℤ

@@ -13,7 +13,7 @@ use Rattle.volts.specs.Volts.{offVolts}
 use Rattle.card.specs.declared.WorkedCard.{WorkedCard}
 use Rattle.card.specs.Judge.{judgeOf}
 use Rattle.clip.specs.Record.{rightLength}
-use Rattle.places.specs.Arguments.{Found, known, offNode, someNodeOff, apart}
+use Rattle.given.specs.Arguments.{Found, known, offNode, someNodeOff, apart}
 
 -- Loading: 1, 2, 6 to 10, 11, 17, from what the record is judged to be
 abbrev pub loadOrder : List ℕ → List ℕ → Verdict WorkedCard → Bool → Bool → Verdict WorkedCard
@@ -27,12 +27,12 @@ loadOrder name bytes judged noRoom usedUp =
 unfoldable pub loadVerdict : List ℕ → List ℕ → Bool → Bool → Verdict WorkedCard
 loadVerdict name bytes noRoom usedUp = loadOrder name bytes (judgeOf bytes) noRoom usedUp
 
--- Placing: 12, 13, 14, 11, 17, 15
-unfoldable pub placeVerdict : {A : Type 0} → Found A → (A → WorkedCard) → (A → Bool) → List ℤ → Bool → Bool → Verdict A
-placeVerdict {A} found worked over nodes noRoom usedUp =
+-- Placing: 12, 13, 14, 11, 17, 15; C4 and C1 are joined where R_Cbli is 0
+unfoldable pub placeVerdict : {A : Type 0} → Found A → (A → Bool) → (A → Bool) → List ℤ → Bool → Bool → Verdict A
+placeVerdict {A} found joined over nodes noRoom usedUp =
     andThen (known found)
     (λ (a : A). refuseIf (someNodeOff nodes) OutOfRange
-    (refuseIf (worked a .«rcbli_zero» && apart nodes) SplitCollector
+    (refuseIf (joined a && apart nodes) SplitCollector
     (refuseIf noRoom NoRoom
     (refuseIf usedUp NumbersUsedUp
     (refuseIf (over a) Overload (yes a))))))

@@ -1,5 +1,4 @@
--- Words of inner contracts: what the board's own functions ask and give. No promise to a caller of the board names
--- them.
-pub mod Sizes
-pub mod Parts
-pub mod Settle
+-- Words of inner contracts and of what holds of every board: totals worked anew, and arrays of the right lengths.
+pub mod Sums
+pub mod Sized
+pub mod Lent

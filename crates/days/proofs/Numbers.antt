@@ -15,13 +15,15 @@ use Rattle.refusal.specs.Clash.{clash}
 use Rattle.card.specs.declared.WorkedCard.{WorkedCard}
 use Rattle.terms.specs.Rows.{roles}
 use Rattle.board.specs.declared.Board.{Board}
+use Rattle.board.specs.Model.{cardsOf}
 use Rattle.board.specs.declared.Answer.the-variants.{Issue}
-use Rattle.board.specs.Counts.{issuesMost}
-use Rattle.places.specs.Arguments.{issueOf}
+use Rattle.given.specs.Arguments.{issuesMost}
+use Rattle.given.specs.Arguments.{issueOf}
 use Rattle.board.specs.Verdict.{nodeVerdict}
 use Rattle.board.specs.Desk as desk
 use Rattle.board.specs.Desk.{Held, Standing, Desk, Call, load, place, move, lift, withdraw, lookUp, node}
 use Rattle.board.specs.Desk.{firstWith, without, keepIf, total, step, after}
+use Rattle.places.specs.Finding.{cardPlace}
 use Rattle.board.specs.Model as board
 use Rattle.board.specs.Model.{loadedOf, placedOf, movedOf, liftedOf, withdrawnOf, lookedOf, showedOf, answered}
 use Rattle.board.specs.Model.{boardAfter}
@@ -60,7 +62,7 @@ module _ (b : Board) (l : List ℕ) (begun : 1 ≤ b .next) (f : Falls (b .next)
       go : (v : Verdict ℕ) → board.mayPlace b card nodes ≡ v →
           Falls (board.placed b nodes v .board .next) (withNumber (board.placed b nodes v .answer) l)
       go (no g) e = f
-      go (yes i) e = one-more begun (places (board.cardPlace (issueOf card) (b .cards)) e .number) f
+      go (yes i) e = one-more begun (places (cardPlace (issueOf card) (cardsOf b)) e .number) f
 
   falls-call : (c : Call) → Falls (answered b c .board .next) (gives c (answered b c .answer) l)
   unfolding answered movedOf liftedOf withdrawnOf lookedOf showedOf
@@ -97,7 +99,7 @@ pub issues-never-twice : (calls : List Call) → Falls (boardAfter calls .next) 
 unfolding givenBy boardAfter
 issues-never-twice [] = end
 issues-never-twice (c ∷ cs) =
-    falls-call (boardAfter cs) (givenBy cs) (invariant-after cs .begun) (issues-never-twice cs) c
+    falls-call (boardAfter cs) (givenBy cs) (invariant-after cs .holds .begun) (issues-never-twice cs) c
 
 -- ---- lifting the one just placed
 

@@ -9,9 +9,11 @@ use lib.Dec.{T, eqb, leb, ltb, leb·suc-suc}
 use lib.ListN.{length, getD, set}
 use lib.IntN.{ℤ, pos, _+ℤ_, +ℤ-idl}
 use borrow.Author.Tests.{eqb-true, eqb-false, eq-eqb, ne-eqb, lt-leb, lt-ltb}
-use Rattle.board.specs.Desk.{sumOver, anyOf, firstWith, without, keepIf}
-use Rattle.places.specs.Arguments.{none, some}
-use Rattle.board.specs.Model.{first, foundAt}
+use Rattle.totals.specs.Flow.{sumOver}
+use Rattle.given.specs.Lists.{anyOf}
+use Rattle.board.specs.Desk.{firstWith, without, keepIf}
+use Rattle.given.specs.Arguments.{none, some}
+use Rattle.places.specs.Finding.{first, foundAt}
 use Rattle.days.specs.Stands.{occupied, mapFound}
 use Rattle.days.specs.Perm.{Perm, keep, swap, then}
 use Rattle.days.proofs.Perms.{count, more, perm-self}

@@ -5,8 +5,8 @@ use Prim.Native.Nat.{ℕ, _≤_, _<_}
 use lib.Dec.{eqb}
 use Rattle.board.specs.declared.Answer.{Answer}
 use Rattle.board.specs.declared.Answer.the-variants.{Issue, Done, Node, Refused}
-use Rattle.board.specs.Counts.{issuesMost}
-use Rattle.places.specs.Arguments.{issueOf}
+use Rattle.given.specs.Arguments.{issuesMost}
+use Rattle.given.specs.Arguments.{issueOf}
 use Rattle.board.specs.Desk.{Call, load, place, move, lift, withdraw, lookUp, node}
 use Rattle.board.specs.Model.{answered, boardAfter}
 

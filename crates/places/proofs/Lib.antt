@@ -1,4 +1,3 @@
 pub mod Scans
-pub mod CallerNumbers
-pub mod Founds
 pub mod Ways
+pub mod Digits

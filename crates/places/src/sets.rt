@@ -1,29 +1,118 @@
-// Which transistors name a node.
+// Nodes and names by place; and sets of places, one bit each: which transistors name a node.
 ghost use mathlib.Core.Path.{_≡_};
-ghost use Rattle.places.specs.inner.Parts.{names, standsAt};
-use crate::Transistor;
+ghost use mathlib.Core.Bool.{cond};
+ghost use Prim.Native.Nat.{_+_, _*_, _^_, _≤_, _<_};
+ghost use lib.Count.{trailingZeros};
+ghost use Rattle.name.specs.Name.{nameLength};
+ghost use Rattle.terms.specs.Rows.{roles};
+ghost use Rattle.deck.specs.Stretch.{stretch, written};
+ghost use Rattle.places.specs.Counts.{cardsMost, transistorsMost};
+ghost use Rattle.places.specs.Finding.{names};
+ghost use Rattle.places.specs.inner.Parts.{NextIn};
+ghost use Rattle.places.specs.inner.Flat.{standsAtIn, namingIn};
+use crate::ALL_NAMES;
+use crate::ALL_NODES;
+use crate::TRANSISTORS;
 use branch::ROLES;
 
-// Whether one of the nodes is n.
-fn has(nodes: [u8; ROLES], n: u8) -> bool
-    ensures { λ r. ⌜ r ≡ names n nodes ⌝ }
+pub fn nodes_at(nodes: &[u8; ALL_NODES], i: usize) -> [u8; ROLES]
+    requires { ⌜ i < transistorsMost ⌝ }
+    ensures { λ r. ⌜ r ≡ stretch 0 (now (nodes .entry)) (roles * i) roles ⌝ }
 {
+    let mut on = [0u8; ROLES];
+    let at = ROLES * i;
     for k in 0..ROLES {
-        let m = nodes[k];
-        if m == n {
+        on[k] = nodes[at + k];
+    }
+    on
+}
+
+pub fn put_nodes(nodes: &mut [u8; ALL_NODES], i: usize, on: &[u8; ROLES])
+    requires { ⌜ i < transistorsMost ⌝ }
+    ensures { λ _. ⌜ now (nodes .exit) ≡ written 0 (now (nodes .entry)) (roles * i) (now (on .entry)) roles ⌝ }
+{
+    let at = ROLES * i;
+    for k in 0..ROLES {
+        nodes[at + k] = on[k];
+    }
+}
+
+pub fn put_name(names: &mut [u8; ALL_NAMES], i: usize, own: &[u8; name::LENGTH])
+    requires { ⌜ i < cardsMost ⌝ }
+    ensures { λ _. ⌜ now (names .exit) ≡ written 0 (now (names .entry)) (nameLength * i) (now (own .entry)) nameLength ⌝ }
+{
+    let at = name::LENGTH * i;
+    for k in 0..name::LENGTH {
+        names[at + k] = own[k];
+    }
+}
+
+// Whether one of the nodes at a place is n.
+fn has(nodes: &[u8; ALL_NODES], i: usize, n: u8) -> bool
+    requires { ⌜ i < transistorsMost ⌝ }
+    ensures { λ r. ⌜ r ≡ names n (stretch 0 (now (nodes .entry)) (roles * i) roles) ⌝ }
+{
+    let at = ROLES * i;
+    for k in 0..ROLES {
+        if nodes[at + k] == n {
             return true;
         }
     }
     false
 }
 
-// Whether a transistor stands there and names the node n.
-pub fn is_at(t: Transistor, n: u8) -> bool
-    ensures { λ r. ⌜ r ≡ standsAt n t ⌝ }
+// Whether a transistor stands at a place and names the node.
+fn is_at(issues: &[u32; TRANSISTORS], nodes: &[u8; ALL_NODES], i: usize, n: u8) -> bool
+    requires { ⌜ i < transistorsMost ⌝ }
+    ensures { λ r. ⌜ r ≡ standsAtIn n (now (issues .entry)) (now (nodes .entry)) i ⌝ }
 {
-    if t.issue == 0 {
-        return false;
+    if has(nodes, i, n) {
+        return issues[i] != 0;
     }
-    let nodes = t.nodes;
-    has(nodes, n)
+    false
+}
+
+// The set with the place i in it where it is to be: no place from i on is in it yet.
+fn with(set: u64, i: usize, is: bool) -> u64
+    requires { ⌜ i < transistorsMost ⌝ }
+    requires { ⌜ set < 2 ^ i ⌝ }
+    ensures { λ r. ⌜ r ≡ set + cond is (2 ^ i) 0 ⌝ }
+{
+    if is {
+        return set | (1u64 << (i as u64));
+    }
+    set
+}
+
+pub fn naming(issues: &[u32; TRANSISTORS], nodes: &[u8; ALL_NODES], n: u8) -> u64
+    ensures { λ r. ⌜ r ≡ namingIn n (now (issues .entry)) (now (nodes .entry)) ⌝ }
+{
+    let mut set = 0u64;
+    for i in 0..TRANSISTORS {
+        let is = is_at(issues, nodes, i, n);
+        let more = with(set, i, is);
+        set = more;
+    }
+    set
+}
+
+// How many zeros stand below the lowest digit that is set.
+fn zeros_below(rest: u64) -> usize
+    ensures { λ r. ⌜ (r ≡ trailingZeros 64 rest) × (r ≤ 64) ⌝ }
+{
+    u64::trailing_zeros(rest) as usize
+}
+
+// The first place of the set at or after `from`.
+pub fn next_in(set: u64, from: usize) -> usize
+    ensures { λ r. ⌜ NextIn set from r ⌝ }
+{
+    if TRANSISTORS <= from {
+        return TRANSISTORS;
+    }
+    let rest = set >> (from as u64);
+    if rest == 0 {
+        return TRANSISTORS;
+    }
+    from + zeros_below(rest)
 }

@@ -5,7 +5,7 @@ use borrow.Author.Needs.{needs}
 use mir.Syntax.{w64}
 use mir.ValLaws.{toZ-ofZ}
 use Rattle.board.specs.Counts.{nodesMost}
-use Rattle.places.specs.inner.Parts.{nodeOf}
+use Rattle.given.specs.inner.Nodes.{nodeOf}
 use Rattle.board.proofs.Reaches.{after-node}
 use Rattle.board.proofs.Answers.{show-off, shows-it}
 use Rattle.board.proofs.Board.read_node.Statement.{statement}
