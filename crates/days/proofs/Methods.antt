@@ -32,8 +32,8 @@ numbered-as {A} key {xs} {ys} {zs} p q e h = record {
     counts : (k : ℕ) → count (λ (a : A). eqb (key a) k) ys ≡ count (λ (a : A). eqb (key a) k) zs
     counts k = sym (perm-count (λ (a : A). eqb (key a) k) p) ∙ perm-count (λ (a : A). eqb (key a) k) q
 
-orderly-as : {b : Board} {d e : Desk} → Stands b d → Stands b e → Orderly d → Orderly e
-orderly-as p q o =
+orderly-as : (b : Board) {d e : Desk} → Stands b d → Stands b e → Orderly d → Orderly e
+orderly-as b p q o =
     let next = sym (p .next) ∙ q .next in
     record {
       begun = let h = o .begun in omega arith;
@@ -43,7 +43,7 @@ orderly-as p q o =
 
 orderly : {b : Board} {d : Desk} → Reached b → Stands b d → Orderly d
 orderly {b} k s =
-    orderly-as (subst (λ (x : Board). Stands x (after (k .calls))) (k .leaves) (stands-after (k .calls))) s
+    orderly-as b (subst (λ (x : Board). Stands x (after (k .calls))) (k .leaves) (stands-after (k .calls))) s
     (orderly-after (k .calls))
 
 -- ---- each method's promise is that of its call
