@@ -1,6 +1,6 @@
 -- `fresh` gives the fresh board, which no calls leave.
 use mathlib.Core.Path.{refl}
-use Rattle.board.specs.Model.{freshBoard}
+use Rattle.model.specs.Model.{freshBoard}
 use Rattle.board.proofs.Reaches.{fresh-reached}
 use Rattle.board.proofs.Board.fresh.Statement.{statement}
 use Rattle.board.proofs.Board.fresh.Tie as tie

@@ -2,8 +2,9 @@
 use mathlib.Core.Path.{refl}
 use mir.Syntax.{w64}
 use mir.ValLaws.{toZ-ofZ}
+use Rattle.board.specs.Promise.{modelOf}
 use Rattle.board.proofs.Reaches.{after-lift}
-use Rattle.board.proofs.Whole.{own-lends, lifted-whole}
+use Rattle.model.proofs.Whole.{own-lends, lifted-whole}
 use Rattle.board.proofs.Board.lift.Statement.{statement}
 use Rattle.board.proofs.Board.lift.Tie as tie
 
@@ -14,14 +15,15 @@ start c =
     .before .before .before .before .before .before
 
 lift-requires : tie.Need-lift-requires
-lift-requires c κs = (start c .args .self, start c .pre, own-lends (start c .args .self))
+lift-requires c κs = (modelOf (start c .args .self), start c .pre, own-lends (modelOf (start c .args .self)))
 
 returns : tie.Need-returns
 returns c =
     let s = start (c .before) in
-    let lent = c .lift .ensures (s .args .self) (s .pre) (own-lends (s .args .self)) refl in
+    let lent = c .lift .ensures (modelOf (s .args .self)) (s .pre) (own-lends (modelOf (s .args .self))) refl in
     after-lift (s .pre) (s .args .transistor)
-    (lifted-whole (s .args .self) (s .args .transistor)
+    refl
+    (lifted-whole (modelOf (s .args .self)) (s .args .transistor)
     (rw (toZ-ofZ w64 (s .args .transistor) (s .fits .transistor)) at lent))
 
 pub lift-spec : {M : Type 1} → statement M

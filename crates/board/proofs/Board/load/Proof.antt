@@ -1,5 +1,5 @@
 -- `load` puts a judged card at the first free place.
-use mathlib.Core.Path.{_≡_, sym, _∙_}
+use mathlib.Core.Path.{refl, _≡_, sym, _∙_}
 use mathlib.Core.Bool.{true}
 use borrow.Author.Needs.{needs}
 use borrow.Author.Tests.{not-true, not-false}
@@ -10,8 +10,8 @@ use Rattle.clip.specs.Record.{rightLength}
 use Rattle.card.specs.laws.Unique.{judged-card, judged-refused}
 use Rattle.card.proofs.WorkedCards.{judged-is-worked}
 use Rattle.board.proofs.Reaches.{after-load}
-use Rattle.board.proofs.Answers.{load-malformed, load-bad-name, load-judged, load-no-room, load-used-up}
-use Rattle.board.proofs.Answers.{loads-it}
+use Rattle.model.proofs.Answers.{load-malformed, load-bad-name, load-judged, load-no-room, load-used-up}
+use Rattle.model.proofs.Answers.{loads-it}
 use Rattle.board.proofs.Board.load.Statement.{statement}
 use Rattle.board.proofs.Board.load.Tie as tie
 
@@ -52,14 +52,13 @@ returns : tie.Need-returns
 returns c =
     let m = c .before .before in
     after-load (start m .pre) _ _
-    (c .refused .ensures ∙ load-malformed _ _ _ (sym (m .right-length .ensures) ∙ not-true _ (c .before .if1 .taken)))
+    (c .refused .ensures) (load-malformed _ _ _ (sym (m .right-length .ensures) ∙ not-true _ (c .before .if1 .taken)))
 
 returns-2 : tie.Need-returns-2
 returns-2 c =
     let a = c .before .before in
     after-load (start (a .before .before) .pre) _ _
-    (c .refused2 .ensures
-    ∙ load-bad-name _ _ _ (long (a .before)) (sym (a .is-asked .ensures) ∙ not-true _ (c .before .if2 .taken)))
+    (c .refused2 .ensures) (load-bad-name _ _ _ (long (a .before)) (sym (a .is-asked .ensures) ∙ not-true _ (c .before .if2 .taken)))
 
 returns-3 : tie.Need-returns-3
 returns-3 c =
@@ -67,8 +66,7 @@ returns-3 c =
     let j = judged2 f in
     let l = else1 (j .before .before) in
     after-load (start (l .before) .pre) _ _
-    (c .refused4 .ensures
-    ∙ load-no-room _ _ _ (long l) (is-name (j .before .before .before)) _ (is-card j) _ (f .find-card .ensures)
+    (c .refused4 .ensures) (load-no-room _ _ _ (long l) (is-name (j .before .before .before)) _ (is-card j) _ (f .find-card .ensures)
     (c .before .if3 .taken))
 
 returns-4 : tie.Need-returns-4
@@ -77,8 +75,7 @@ returns-4 c =
     let j = judged2 (r .before) in
     let l = else1 (j .before .before) in
     after-load (start (l .before) .pre) _ _
-    (c .refused5 .ensures
-    ∙ load-used-up _ _ _ (long l) (is-name (j .before .before .before)) _ (is-card j) _ (r .before .find-card .ensures)
+    (c .refused5 .ensures) (load-used-up _ _ _ (long l) (is-name (j .before .before .before)) _ (is-card j) _ (r .before .find-card .ensures)
     (r .if3 .left) (c .before .if4 .taken))
 
 prepare-requires : tie.Need-prepare-requires
@@ -89,8 +86,7 @@ returns-5 c =
     let j = after-judge c in
     let l = else1 j in
     after-load (start (l .before) .pre) _ _
-    (c .refused3 .ensures
-    ∙ load-judged _ _ _ (long l) (is-name (j .before)) _
+    (c .refused3 .ensures) (load-judged _ _ _ (long l) (is-name (j .before)) _
     (judged-refused _ (j .judge .ensures) (c .before .before .judged .given .1)))
 
 returns-6 : tie.Need-returns-6
@@ -102,6 +98,7 @@ returns-6 c =
     let j = judged2 (r .before) in
     let l = else1 (j .before .before) in
     after-load (start (l .before) .pre) _ _
+    refl
     (loads-it _ _ _ (long l) (is-name (j .before .before .before)) _ (is-card j) _ (r .before .find-card .ensures)
     (r .if3 .left) (own .before .if4 .left) (own .pad .ensures) (p .prepare .ensures) (c .put-ready .ensures)
     (n .put-name .ensures))

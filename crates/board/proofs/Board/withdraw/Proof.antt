@@ -1,11 +1,11 @@
 -- `withdraw` empties the place of a card on which no transistor stands.
-use mathlib.Core.Path.{_≡_, sym, ap, _∙_}
+use mathlib.Core.Path.{refl, _≡_, sym, ap, _∙_}
 use borrow.Author.Needs.{needs}
 use mir.Syntax.{w64}
 use mir.ValLaws.{toZ-ofZ}
 use Rattle.given.specs.Arguments.{issueOf}
 use Rattle.board.proofs.Reaches.{after-withdraw}
-use Rattle.board.proofs.Answers.{withdraw-unknown, withdraw-in-use, withdraws-it}
+use Rattle.model.proofs.Answers.{withdraw-unknown, withdraw-in-use, withdraws-it}
 use Rattle.board.proofs.Board.withdraw.Statement.{statement}
 use Rattle.board.proofs.Board.withdraw.Tie as tie
 
@@ -35,8 +35,7 @@ returns : tie.Need-returns
 returns c =
     let f = c .before .before in
     after-withdraw (start f .pre) _
-    (c .refused .ensures
-    ∙ withdraw-unknown _ (start f .args .card) _ (number (after-issue-of f)) _ (f .card-at .ensures)
+    (c .refused .ensures) (withdraw-unknown _ (start f .args .card) _ (number (after-issue-of f)) _ (f .card-at .ensures)
     (c .before .if1 .taken))
 
 returns-2 : tie.Need-returns-2
@@ -44,8 +43,7 @@ returns-2 c =
     let o = c .before .before in
     let f = else1 o .before in
     after-withdraw (start f .pre) _
-    (c .refused2 .ensures
-    ∙ withdraw-in-use _ (start f .args .card) _ (number (after-issue-of f)) _ (f .card-at .ensures) (else1 o .if1 .left)
+    (c .refused2 .ensures) (withdraw-in-use _ (start f .args .card) _ (number (after-issue-of f)) _ (f .card-at .ensures) (else1 o .if1 .left)
     (sym (o .any-on .ensures) ∙ c .before .if2 .taken))
 
 returns-3 : tie.Need-returns-3
@@ -55,6 +53,7 @@ returns-3 c =
     let o = else2 n .before in
     let f = else1 o .before in
     after-withdraw (start f .pre) _
+    refl
     (withdraws-it _ (start f .args .card) _ (number (after-issue-of f)) _ (f .card-at .ensures) (else1 o .if1 .left)
     (sym (o .any-on .ensures) ∙ else2 n .if2 .left) (r .no-ready .ensures) (c .put-ready .ensures)
     (n .put-name .ensures))

@@ -10,10 +10,10 @@ use Rattle.given.specs.Arguments.{issueOf, some}
 use Rattle.places.specs.inner.Parts.{placeOr}
 use Rattle.places.specs.inner.Flat.{numberPlace}
 use Rattle.places.specs.laws.Founds.{is-there}
-use Rattle.board.specs.Counts.{transistorsMost}
-use Rattle.board.proofs.Placing.{lent-unknown, leaver-there, leaver-works, lent-lifts}
-use Rattle.board.proofs.calls.lift.Statement.{statement}
-use Rattle.board.proofs.calls.lift.Tie as tie
+use Rattle.model.specs.Counts.{transistorsMost}
+use Rattle.model.proofs.Placing.{lent-unknown, leaver-there, leaver-works, lent-lifts}
+use Rattle.model.proofs.calls.lift.Statement.{statement}
+use Rattle.model.proofs.calls.lift.Tie as tie
 
 -- earlier places, from later ones
 abbrev start : tie.After-transistor-at → tie.Start

@@ -12,11 +12,11 @@ use Rattle.terms.specs.Rows.{roles}
 use Rattle.given.specs.Arguments.{issueOf, issuesMost, usedUp}
 use Rattle.places.specs.inner.Flat.{freePlace, numberPlace, joinedAt}
 use Rattle.places.specs.inner.Placing.{placing, wayOf}
-use Rattle.board.specs.Counts.{cardsMost, transistorsMost}
-use Rattle.board.proofs.Placing.{lent-stops, lent-free, lent-number, lent-card, lent-works, lent-over}
-use Rattle.board.proofs.Placing.{lent-places}
-use Rattle.board.proofs.calls.place.Statement.{statement}
-use Rattle.board.proofs.calls.place.Tie as tie
+use Rattle.model.specs.Counts.{cardsMost, transistorsMost}
+use Rattle.model.proofs.Placing.{lent-stops, lent-free, lent-number, lent-card, lent-works, lent-over}
+use Rattle.model.proofs.Placing.{lent-places}
+use Rattle.model.proofs.calls.place.Statement.{statement}
+use Rattle.model.proofs.calls.place.Tie as tie
 
 -- earlier places, from later ones
 abbrev asked : tie.After-may-place → tie.After-nodes-of

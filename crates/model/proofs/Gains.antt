@@ -23,9 +23,9 @@ use Rattle.given.specs.Lists.{anyOf}
 use Rattle.places.specs.Gathered.{Card, Transistor, noTransistor, workedAt}
 use Rattle.places.specs.Finding.{names, standsAt}
 use Rattle.settle.specs.Change.{backFlow, changeBy}
-use Rattle.board.specs.Model.{Shift, shifted, touched}
-use Rattle.board.specs.inner.Sums.{placeGives, totalsOf}
-use Rattle.board.proofs.NodeSums.{up-at, small-place, small-sum, totals-at, totals-count, are-totals}
+use Rattle.model.specs.Model.{Shift, shifted, touched}
+use Rattle.model.specs.inner.Sums.{placeGives, totalsOf}
+use Rattle.model.proofs.NodeSums.{up-at, small-place, small-sum, totals-at, totals-count, are-totals}
 
 -- ---- totals with more
 

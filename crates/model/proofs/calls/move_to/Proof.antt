@@ -8,10 +8,10 @@ use mir.Syntax.{w64}
 use mir.ValLaws.{toZ-ofZ}
 use Rattle.volts.specs.laws.Keeping.{KeptIs, kept-is, outside-is}
 use Rattle.given.specs.inner.Nodes.{nodeOf}
-use Rattle.board.specs.Counts.{nodesMost}
-use Rattle.board.proofs.Moving.{lent-off-node, lent-too-far, lent-settling, lent-over, lent-moves}
-use Rattle.board.proofs.calls.move_to.Statement.{statement}
-use Rattle.board.proofs.calls.move_to.Tie as tie
+use Rattle.model.specs.Counts.{nodesMost}
+use Rattle.model.proofs.Moving.{lent-off-node, lent-too-far, lent-settling, lent-over, lent-moves}
+use Rattle.model.proofs.calls.move_to.Statement.{statement}
+use Rattle.model.proofs.calls.move_to.Tie as tie
 
 number : (c : tie.After-node-of) → c .node-of .result ≡ nodeOf (c .before .args .node)
 number c = c .node-of .ensures ∙ ap nodeOf (toZ-ofZ w64 (c .before .args .node) (c .before .fits .node))

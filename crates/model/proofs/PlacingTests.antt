@@ -12,13 +12,13 @@ use Rattle.refusal.specs.declared.Refusal.the-variants.{NumbersUsedUp}
 use Rattle.refusal.specs.Order.{Verdict, no, yes, refuseIf}
 use Rattle.refusal.specs.Clash.{clash}
 use Rattle.terms.specs.Rows.{C1, C4, roleIndex}
-use Rattle.board.specs.Counts.{nodesMost}
+use Rattle.model.specs.Counts.{nodesMost}
 use Rattle.given.specs.Arguments.{Found, none, some, offNode, someNodeOff, apart}
-use Rattle.board.specs.Verdict.{placeVerdict}
+use Rattle.model.specs.Verdict.{placeVerdict}
 use Rattle.given.specs.Lists.{anyOf}
 use Rattle.given.specs.inner.Nodes.{nodeOf}
 use Rattle.places.specs.inner.Placing.{apartOn, placing}
-use Rattle.board.proofs.Verdicts.{on-node}
+use Rattle.model.proofs.Verdicts.{on-node}
 
 abbrev pub lastly : {A : Type 0} → Verdict A → (A → Bool) → Verdict A
 lastly (no f) over = no f

@@ -26,13 +26,13 @@ use Rattle.places.specs.Finding.{cardPlace, transistorPlace, freeCard, freeTran
 use Rattle.settle.specs.declared.First.{First}
 use Rattle.settle.specs.Change.{backFlow, changes}
 use Rattle.settle.specs.First.{firstBelow}
-use Rattle.board.specs.declared.Board.{Board}
-use Rattle.board.specs.declared.Answer.the-variants.{Issue, Done, Node, Refused}
-use Rattle.board.specs.declared.Answered.{Answered}
-use Rattle.board.specs.Counts.{nodesMost, cardsMost, transistorsMost}
-use Rattle.board.specs.Verdict.{loadVerdict, placeVerdict, moveVerdict, liftVerdict, withdrawVerdict, lookVerdict}
-use Rattle.board.specs.Verdict.{nodeVerdict}
-use Rattle.board.specs.Desk.{Call, load, place, move, lift, withdraw, lookUp, node}
+use Rattle.model.specs.Board.{Board}
+use Rattle.model.specs.declared.Answer.the-variants.{Issue, Done, Node, Refused}
+use Rattle.model.specs.Board.{Answered}
+use Rattle.model.specs.Counts.{nodesMost, cardsMost, transistorsMost}
+use Rattle.model.specs.Verdict.{loadVerdict, placeVerdict, moveVerdict, liftVerdict, withdrawVerdict, lookVerdict}
+use Rattle.model.specs.Verdict.{nodeVerdict}
+use Rattle.model.specs.Desk.{Call, load, place, move, lift, withdraw, lookUp, node}
 
 -- ---- what stands at a place
 

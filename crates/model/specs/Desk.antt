@@ -21,7 +21,7 @@ use Rattle.terms.specs.Rows.{roles}
 use Rattle.totals.specs.Flow.{overloads, flow, sumOver}
 use Rattle.given.specs.Lists.{anyOf, larger}
 use Rattle.given.specs.Arguments.{Found, none, some, issueOf, offNode, someNodeOff, apart, known, usedUp}
-use Rattle.board.specs.Counts.{nodesMost, cardsMost, transistorsMost}
+use Rattle.model.specs.Counts.{nodesMost, cardsMost, transistorsMost}
 
 pub record Held : Type 0 where
   pub issue : ℕ

@@ -30,14 +30,14 @@ use Rattle.places.specs.inner.Parts.{placeOr}
 use Rattle.places.specs.inner.Flat.{firstAt, numberPlace, anyOn, highestIn}
 use Rattle.places.specs.laws.Founds.{not-there, is-there}
 use Rattle.places.specs.laws.Gather.{first-card, card-place, highest-flat, any-on-flat}
-use Rattle.board.specs.declared.Board.{Board}
-use Rattle.board.specs.declared.Answer.{Answer}
-use Rattle.board.specs.declared.Answer.the-variants.{Issue, Done, Node}
-use Rattle.board.specs.declared.Answered.{Answered}
-use Rattle.board.specs.Counts.{nodesMost, cardsMost}
-use Rattle.board.specs.Verdict.{loadVerdict, withdrawVerdict, lookVerdict, nodeVerdict}
-use Rattle.board.specs.Model.{cardsOf, transistorsOf, holding, refuse, loadedOf, withdrawnOf, lookedOf, showedOf}
-use Rattle.board.proofs.Verdicts.{on-node}
+use Rattle.model.specs.Board.{Board}
+use Rattle.model.specs.declared.Answer.{Answer}
+use Rattle.model.specs.declared.Answer.the-variants.{Issue, Done, Node}
+use Rattle.model.specs.Board.{Answered}
+use Rattle.model.specs.Counts.{nodesMost, cardsMost}
+use Rattle.model.specs.Verdict.{loadVerdict, withdrawVerdict, lookVerdict, nodeVerdict}
+use Rattle.model.specs.Model.{cardsOf, transistorsOf, holding, refuse, loadedOf, withdrawnOf, lookedOf, showedOf}
+use Rattle.model.proofs.Verdicts.{on-node}
 
 -- ---- nodes as numbers
 

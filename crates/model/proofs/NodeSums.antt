@@ -17,11 +17,11 @@ use Rattle.terms.specs.Rows.{rowsFor}
 use Rattle.branch.specs.inner.FromTerms.{listUp}
 use Rattle.branch.specs.Outcome.{tickLimit, outcomeOf}
 use Rattle.branch.proofs.Laws.{ticks-small}
-use Rattle.board.specs.Counts.{nodesMost, transistorsMost}
+use Rattle.model.specs.Counts.{nodesMost, transistorsMost}
 use Rattle.totals.specs.Flow.{rolesAt, flow, sumOver}
 use Rattle.places.specs.Gathered.{Card, Transistor, workedAt}
 use Rattle.settle.specs.inner.Working.{totalMost}
-use Rattle.board.specs.inner.Sums.{placeGives, totalsOf}
+use Rattle.model.specs.inner.Sums.{placeGives, totalsOf}
 use Rattle.totals.specs.inner.Sums.{Room}
 use Rattle.totals.specs.inner.Sizes.{flowMost}
 use Rattle.deck.specs.laws.Ups.{length-up, getD-up}

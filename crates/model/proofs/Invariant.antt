@@ -32,21 +32,21 @@ use Rattle.places.specs.Finding.{freeTransistor, standsOn}
 use Rattle.places.specs.laws.Change.{cards-set, cards-fresh, transistors-set, transistors-fresh}
 use Rattle.settle.specs.Change.{changes}
 use Rattle.settle.specs.laws.Firsts.{first-quiet}
-use Rattle.board.specs.declared.Board.{Board}
-use Rattle.board.specs.Counts.{nodesMost, cardsMost, transistorsMost}
-use Rattle.board.specs.Verdict.{lookVerdict, nodeVerdict}
-use Rattle.board.specs.Desk.{Call, load, place, move, lift, withdraw, lookUp, node}
-use Rattle.board.specs.Model.{cardsOf, transistorsOf, transistorAt, workedOn, Levels, voltsOf, shifted, touched}
-use Rattle.board.specs.Model.{Shift, oneShift, firstOver, settled, leveled, holding, standing, freshBoard, loaded, loadedOf, newcomer}
-use Rattle.board.specs.Model.{placed, placedOf, moved, movedOf, lifted, liftedOf, withdrawn, withdrawnOf, looked}
-use Rattle.board.specs.Model.{lookedOf, showed, showedOf, mayLoad, mayPlace, mayMove, mayLift, mayWithdraw}
-use Rattle.board.specs.Model.{answered, boardAfter, Reached}
-use Rattle.board.specs.inner.Sums.{placeGives, totalsOf}
-use Rattle.board.specs.inner.Sized.{Sized}
-use Rattle.board.proofs.Lists.{each-set, each-replicate, first-passes, found-is, none-of, stands, padded-long}
-use Rattle.board.proofs.NodeSums.{sum-same, totals-count}
-use Rattle.board.proofs.Gains.{roles-same, totals-settled, totals-put, totals-taken}
-use Rattle.board.proofs.Verdicts.{loads, places, moves, lifts, withdraws, on-node}
+use Rattle.model.specs.Board.{Board}
+use Rattle.model.specs.Counts.{nodesMost, cardsMost, transistorsMost}
+use Rattle.model.specs.Verdict.{lookVerdict, nodeVerdict}
+use Rattle.model.specs.Desk.{Call, load, place, move, lift, withdraw, lookUp, node}
+use Rattle.model.specs.Model.{cardsOf, transistorsOf, transistorAt, workedOn, Levels, voltsOf, shifted, touched}
+use Rattle.model.specs.Model.{Shift, oneShift, firstOver, settled, leveled, holding, standing, freshBoard, loaded, loadedOf, newcomer}
+use Rattle.model.specs.Model.{placed, placedOf, moved, movedOf, lifted, liftedOf, withdrawn, withdrawnOf, looked}
+use Rattle.model.specs.Model.{lookedOf, showed, showedOf, mayLoad, mayPlace, mayMove, mayLift, mayWithdraw}
+use Rattle.model.specs.Model.{answered, boardAfter, Reached}
+use Rattle.model.specs.inner.Sums.{placeGives, totalsOf}
+use Rattle.model.specs.inner.Sized.{Sized}
+use Rattle.model.proofs.Lists.{each-set, each-replicate, first-passes, found-is, none-of, stands, padded-long}
+use Rattle.model.proofs.NodeSums.{sum-same, totals-count}
+use Rattle.model.proofs.Gains.{roles-same, totals-settled, totals-put, totals-taken}
+use Rattle.model.proofs.Verdicts.{loads, places, moves, lifts, withdraws, on-node}
 
 -- a transistor that stands: on a card that is there, on nodes of the board, and within its limits
 pub record TransistorInvariant (cards : List Card) (volts : List ℤ) (t : Transistor) : Type 0 where

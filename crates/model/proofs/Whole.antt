@@ -4,12 +4,12 @@ use mathlib.Core.List.{List}
 use Prim.Native.Nat.{ℕ}
 use lib.IntN.{ℤ}
 use Rattle.refusal.specs.Order.{Verdict, no, yes}
-use Rattle.board.specs.declared.Board.{Board}
-use Rattle.board.specs.declared.Answer.{Answer}
-use Rattle.board.specs.declared.Answered.{Answered}
-use Rattle.board.specs.Model.{leveled, placed, placedOf, mayPlace, moved, movedOf, mayMove, lifted, liftedOf}
-use Rattle.board.specs.Model.{mayLift}
-use Rattle.board.specs.inner.Lent.{Lends, LendsPlaces, LeavesLevels, LeavesPlaces}
+use Rattle.model.specs.Board.{Board}
+use Rattle.model.specs.declared.Answer.{Answer}
+use Rattle.model.specs.Board.{Answered}
+use Rattle.model.specs.Model.{leveled, placed, placedOf, mayPlace, moved, movedOf, mayMove, lifted, liftedOf}
+use Rattle.model.specs.Model.{mayLift}
+use Rattle.model.specs.inner.Lent.{Lends, LendsPlaces, LeavesLevels, LeavesPlaces}
 
 -- a board lends its own arrays
 pub own-lends : (b : Board) →

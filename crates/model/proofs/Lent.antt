@@ -23,11 +23,11 @@ use Rattle.settle.specs.declared.First.{First}
 use Rattle.settle.specs.Change.{changes, changeBy}
 use Rattle.settle.specs.First.{earlier, firstBelow}
 use Rattle.settle.specs.inner.Working.{Deck, deckOf, cardOf, Able, Volts, totalMost, cardAt, nodesAt}
-use Rattle.board.specs.declared.Board.{Board}
-use Rattle.board.specs.Counts.{nodesMost, cardsMost, transistorsMost}
-use Rattle.board.specs.Model.{cardsOf, transistorsOf, transistorAt, workedOn, voltsOf}
-use Rattle.board.proofs.NodeSums.{totals-room}
-use Rattle.board.proofs.Invariant.{Invariant}
+use Rattle.model.specs.Board.{Board}
+use Rattle.model.specs.Counts.{nodesMost, cardsMost, transistorsMost}
+use Rattle.model.specs.Model.{cardsOf, transistorsOf, transistorAt, workedOn, voltsOf}
+use Rattle.model.proofs.NodeSums.{totals-room}
+use Rattle.model.proofs.Invariant.{Invariant}
 
 abbrev pub deckIn : Board → Deck
 deckIn b = deckOf (b .numbers) (b .powers) (b .ticks) (b .switches)

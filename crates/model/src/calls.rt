@@ -1,29 +1,28 @@
 // Placing, moving and lifting on a board's arrays, lent one by one: each tests, works, and writes last, so that a refusal leaves them as they were.
 ghost use mathlib.Core.Path.{_≡_};
-ghost use Rattle.board.specs.declared.Board.{Board};
-ghost use Rattle.board.specs.Model.{placedOf, movedOf, liftedOf, Reached};
-ghost use Rattle.board.specs.inner.Lent.{Lends, LendsPlaces, LeavesLevels, LeavesPlaces};
+ghost use Rattle.model.specs.Board.{Board};
+ghost use Rattle.model.specs.Model.{placedOf, movedOf, liftedOf, Reached};
+ghost use Rattle.model.specs.inner.Lent.{Lends, LendsPlaces, LeavesLevels, LeavesPlaces};
 use crate::Answer;
-use crate::Board;
 use branch::ROLES;
 use places::Way;
 use refusal::Refusal;
 use volts::Voltage;
 
 // 12, 13, 14, 11, 17, 15.
-pub(crate) fn place(
-    issues: &mut [u32; Board::TRANSISTORS],
-    cards: &mut [u32; Board::TRANSISTORS],
-    seats: &mut [u8; Board::TRANSISTORS],
+pub fn place(
+    issues: &mut [u32; places::TRANSISTORS],
+    cards: &mut [u32; places::TRANSISTORS],
+    seats: &mut [u8; places::TRANSISTORS],
     nodes: &mut [u8; places::ALL_NODES],
-    totals: &mut [i64; Board::NODES],
+    totals: &mut [i64; totals::NODES],
     next: &mut u32,
     numbers: &[u32; deck::ALL_NUMBERS],
     powers: &[u16; deck::ALL_POWERS],
     ticks: &[u64; deck::ALL_TICKS],
     switches: &[bool; deck::ALL_SWITCHES],
-    held: &[u32; Board::CARDS],
-    volts: &[u32; Board::NODES],
+    held: &[u32; places::CARDS],
+    volts: &[u32; totals::NODES],
     card: i64,
     roles: [i64; ROLES],
 ) -> Answer
@@ -55,15 +54,15 @@ pub(crate) fn place(
 }
 
 // 13, then 15 where some transistor would overload.
-pub(crate) fn move_to(
-    volts: &mut [u32; Board::NODES],
-    totals: &mut [i64; Board::NODES],
+pub fn move_to(
+    volts: &mut [u32; totals::NODES],
+    totals: &mut [i64; totals::NODES],
     numbers: &[u32; deck::ALL_NUMBERS],
     powers: &[u16; deck::ALL_POWERS],
     ticks: &[u64; deck::ALL_TICKS],
     switches: &[bool; deck::ALL_SWITCHES],
-    issues: &[u32; Board::TRANSISTORS],
-    seats: &[u8; Board::TRANSISTORS],
+    issues: &[u32; places::TRANSISTORS],
+    seats: &[u8; places::TRANSISTORS],
     nodes: &[u8; places::ALL_NODES],
     node: i64,
     microvolts: i64,
@@ -73,7 +72,7 @@ pub(crate) fn move_to(
 {
     let k = given::node_of(node);
     let n = k as usize;
-    if Board::NODES <= n {
+    if totals::NODES <= n {
         return Answer::Refused(Refusal::OutOfRange);
     }
     let Voltage::Kept(v) = volts::keep(microvolts) else {
@@ -95,17 +94,17 @@ pub(crate) fn move_to(
 }
 
 // 12.
-pub(crate) fn lift(
-    issues: &mut [u32; Board::TRANSISTORS],
-    cards: &mut [u32; Board::TRANSISTORS],
-    seats: &mut [u8; Board::TRANSISTORS],
+pub fn lift(
+    issues: &mut [u32; places::TRANSISTORS],
+    cards: &mut [u32; places::TRANSISTORS],
+    seats: &mut [u8; places::TRANSISTORS],
     nodes: &mut [u8; places::ALL_NODES],
-    totals: &mut [i64; Board::NODES],
+    totals: &mut [i64; totals::NODES],
     numbers: &[u32; deck::ALL_NUMBERS],
     powers: &[u16; deck::ALL_POWERS],
     ticks: &[u64; deck::ALL_TICKS],
     switches: &[bool; deck::ALL_SWITCHES],
-    volts: &[u32; Board::NODES],
+    volts: &[u32; totals::NODES],
     transistor: i64,
 ) -> Answer
     requires { ⌜ ((b : Board) × Reached b × Lends b (now numbers) (now powers) (now ticks) (now switches) (now issues) (now seats) (now nodes) (now volts) (now totals)) ⌝ }
@@ -113,7 +112,7 @@ pub(crate) fn lift(
 {
     let n = given::issue_of(transistor);
     let i = places::transistor_at(issues, n);
-    if Board::TRANSISTORS <= i {
+    if places::TRANSISTORS <= i {
         return Answer::Refused(Refusal::Unknown);
     }
     let s = seats[i] as usize;

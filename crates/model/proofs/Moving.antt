@@ -28,18 +28,18 @@ use Rattle.settle.specs.First.{firstBelow}
 use Rattle.settle.specs.inner.Working.{deckOf, Settling, gained, overOf, cardAt, nodesAt}
 use Rattle.settle.specs.laws.Firsts.{first-same}
 use Rattle.settle.specs.laws.Changes.{changes-same}
-use Rattle.board.specs.declared.Board.{Board}
-use Rattle.board.specs.declared.Answer.the-variants.{Done, Refused}
-use Rattle.board.specs.declared.Answered.{Answered}
-use Rattle.board.specs.Counts.{nodesMost, transistorsMost}
-use Rattle.board.specs.Verdict.{moveVerdict}
-use Rattle.board.specs.Model.{cardsOf, transistorsOf, transistorAt, workedOn, Shift, shifted, touched, oneShift}
-use Rattle.board.specs.Model.{firstOver, gains, voltsOf, refuse, movedOf, Reached}
-use Rattle.board.specs.inner.Lent.{Lends, LeavesLevels}
-use Rattle.board.proofs.Answers.{off-board, on-board}
-use Rattle.board.proofs.Gains.{more-is, touched-stands, gains-small}
-use Rattle.board.proofs.Invariant.{Invariant, invariant, totals-long}
-use Rattle.board.proofs.Lent.{deckIn, stands-there, nodes-there, worked-there, able-at, volts-kept}
+use Rattle.model.specs.Board.{Board}
+use Rattle.model.specs.declared.Answer.the-variants.{Done, Refused}
+use Rattle.model.specs.Board.{Answered}
+use Rattle.model.specs.Counts.{nodesMost, transistorsMost}
+use Rattle.model.specs.Verdict.{moveVerdict}
+use Rattle.model.specs.Model.{cardsOf, transistorsOf, transistorAt, workedOn, Shift, shifted, touched, oneShift}
+use Rattle.model.specs.Model.{firstOver, gains, voltsOf, refuse, movedOf, Reached}
+use Rattle.model.specs.inner.Lent.{Lends, LeavesLevels}
+use Rattle.model.proofs.Answers.{off-board, on-board}
+use Rattle.model.proofs.Gains.{more-is, touched-stands, gains-small}
+use Rattle.model.proofs.Invariant.{Invariant, invariant, totals-long}
+use Rattle.model.proofs.Lent.{deckIn, stands-there, nodes-there, worked-there, able-at, volts-kept}
 
 -- ---- refusals before anything is worked
 

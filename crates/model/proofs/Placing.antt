@@ -36,20 +36,20 @@ use Rattle.places.specs.laws.Founds.{not-there}
 use Rattle.places.specs.laws.Ways.{stopped, went}
 use Rattle.settle.specs.Change.{backFlow}
 use Rattle.settle.specs.inner.Working.{deckOf, Workable, cardOf, nodesAt}
-use Rattle.board.specs.declared.Board.{Board}
-use Rattle.board.specs.declared.Answer.the-variants.{Issue, Done, Refused}
-use Rattle.board.specs.declared.Answered.{Answered}
-use Rattle.board.specs.Counts.{nodesMost, cardsMost, transistorsMost}
-use Rattle.board.specs.Verdict.{liftVerdict}
-use Rattle.board.specs.Model.{cardsOf, transistorsOf, transistorAt, workedOn, voltsOf, refuse, placedOf, mayPlace}
-use Rattle.board.specs.Model.{liftedOf, Reached}
-use Rattle.board.specs.inner.Lent.{Lends, LendsPlaces, LeavesPlaces}
-use Rattle.board.proofs.Verdicts.{Places, places}
-use Rattle.board.proofs.PlacingTests.{lastly, on-same, then-lastly}
-use Rattle.board.proofs.Gains.{more-is}
-use Rattle.board.proofs.Invariant.{Invariant, invariant, AtCard, at-card, AtTransistor, at-transistor, on-nodes}
-use Rattle.board.proofs.Lent.{deckIn, ready-there, issue-there, stands-there, nodes-there, worked-there}
-use Rattle.board.proofs.Lent.{card-able, able-at, volts-kept, room-now}
+use Rattle.model.specs.Board.{Board}
+use Rattle.model.specs.declared.Answer.the-variants.{Issue, Done, Refused}
+use Rattle.model.specs.Board.{Answered}
+use Rattle.model.specs.Counts.{nodesMost, cardsMost, transistorsMost}
+use Rattle.model.specs.Verdict.{liftVerdict}
+use Rattle.model.specs.Model.{cardsOf, transistorsOf, transistorAt, workedOn, voltsOf, refuse, placedOf, mayPlace}
+use Rattle.model.specs.Model.{liftedOf, Reached}
+use Rattle.model.specs.inner.Lent.{Lends, LendsPlaces, LeavesPlaces}
+use Rattle.model.proofs.Verdicts.{Places, places}
+use Rattle.model.proofs.PlacingTests.{lastly, on-same, then-lastly}
+use Rattle.model.proofs.Gains.{more-is}
+use Rattle.model.proofs.Invariant.{Invariant, invariant, AtCard, at-card, AtTransistor, at-transistor, on-nodes}
+use Rattle.model.proofs.Lent.{deckIn, ready-there, issue-there, stands-there, nodes-there, worked-there}
+use Rattle.model.proofs.Lent.{card-able, able-at, volts-kept, room-now}
 
 places-stay : {b : Board} {f : Refusal} (a : Answered) → refuse b f ≡ a →
     LeavesPlaces a (Refused f) (b .issues) (b .cards) (b .seats) (b .nodes) (b .totals) (b .next)

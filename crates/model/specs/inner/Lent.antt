@@ -4,9 +4,9 @@ use mathlib.Core.Bool.{Bool}
 use mathlib.Core.List.{List}
 use Prim.Native.Nat.{ℕ}
 use lib.IntN.{ℤ}
-use Rattle.board.specs.declared.Board.{Board}
-use Rattle.board.specs.declared.Answer.{Answer}
-use Rattle.board.specs.declared.Answered.{Answered}
+use Rattle.model.specs.Board.{Board}
+use Rattle.model.specs.declared.Answer.{Answer}
+use Rattle.model.specs.Board.{Answered}
 
 -- what working transistors reads: the cards' numbers, who stands where, voltages and totals
 pub record Lends (b : Board) (numbers powers ticks : List ℕ) (switches : List Bool) (issues seats nodes volts : List ℕ)

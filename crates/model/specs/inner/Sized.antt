@@ -5,8 +5,8 @@ use lib.ListN.{length}
 use Rattle.name.specs.Name.{nameLength}
 use Rattle.terms.specs.Rows.{roles}
 use Rattle.deck.specs.Layout.{numbersEach, powersEach, ticksEach, switchesEach}
-use Rattle.board.specs.declared.Board.{Board}
-use Rattle.board.specs.Counts.{nodesMost, cardsMost, transistorsMost}
+use Rattle.model.specs.Board.{Board}
+use Rattle.model.specs.Counts.{nodesMost, cardsMost, transistorsMost}
 
 pub record Sized (b : Board) : Type 0 where
   pub numbers : length (b .numbers) ≡ numbersEach * cardsMost

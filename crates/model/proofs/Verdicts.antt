@@ -11,9 +11,9 @@ use Rattle.clip.specs.Record.{rightLength}
 use Rattle.name.specs.Name.{asked}
 use lib.Dec.{leb, ltb}
 use borrow.Author.Tests.{leb-false}
-use Rattle.board.specs.Counts.{nodesMost}
+use Rattle.model.specs.Counts.{nodesMost}
 use Rattle.given.specs.Arguments.{Found, none, some, offNode, someNodeOff, apart}
-use Rattle.board.specs.Verdict.{loadVerdict, placeVerdict, moveVerdict, liftVerdict, withdrawVerdict, nodeVerdict}
+use Rattle.model.specs.Verdict.{loadVerdict, placeVerdict, moveVerdict, liftVerdict, withdrawVerdict, nodeVerdict}
 use Rattle.refusal.specs.Order.{Verdict, no, yes, refuseIf, andThen, passes-if}
 use Rattle.volts.specs.Volts.{offVolts}
 use Rattle.refusal.specs.Clash.{clash}
