@@ -41,6 +41,9 @@ boardOf b =
       nodes = b .nodes;
     }
 
--- a model's board and answer, handed back
+-- a model's board and answer handed back, and seen again
 abbrev pub givenAs : Answered → answered.Answered
 givenAs a = record { board = boardOf (a .board); answer = a .answer }
+
+abbrev pub takenAs : answered.Answered → Answered
+takenAs r = record { board = modelOf (r .board); answer = r .answer }

@@ -21,26 +21,26 @@ use Rattle.terms.specs.inner.Ready.{readyOf}
 use Rattle.terms.proofs.Laws.{ready-card}
 use Rattle.terms.specs.Rows.{roles}
 use Rattle.places.specs.Gathered.{Card, Transistor}
-use Rattle.board.specs.declared.Board.{Board}
-use Rattle.board.specs.Model.{cardsOf, transistorsOf, transistorAt}
-use Rattle.board.specs.Counts.{nodesMost, cardsMost, transistorsMost}
+use Rattle.model.specs.Board.{Board}
+use Rattle.model.specs.Model.{cardsOf, transistorsOf, transistorAt}
+use Rattle.model.specs.Counts.{nodesMost, cardsMost, transistorsMost}
 use Rattle.given.specs.Arguments.{Found, none, some, issueOf}
-use Rattle.board.specs.Verdict.{placeVerdict, moveVerdict, liftVerdict, withdrawVerdict, nodeVerdict}
-use Rattle.board.specs.Desk as desk
-use Rattle.board.specs.Desk.{Held, Standing, Desk, Call, load, place, move, lift, withdraw, lookUp, node}
+use Rattle.model.specs.Verdict.{placeVerdict, moveVerdict, liftVerdict, withdrawVerdict, nodeVerdict}
+use Rattle.model.specs.Desk as desk
+use Rattle.model.specs.Desk.{Held, Standing, Desk, Call, load, place, move, lift, withdraw, lookUp, node}
 use Rattle.totals.specs.Flow.{overloads, sumOver}
 use Rattle.given.specs.Lists.{anyOf, larger}
-use Rattle.board.specs.Desk.{firstWith, heldAs, standsAs, without, highest}
+use Rattle.model.specs.Desk.{firstWith, heldAs, standsAs, without, highest}
 use Rattle.totals.specs.Flow.{flow}
-use Rattle.board.specs.Desk.{total, someOverloads, step, freshDesk, after}
-use Rattle.board.specs.Model as board
+use Rattle.model.specs.Desk.{total, someOverloads, step, freshDesk, after}
+use Rattle.model.specs.Model as board
 use Rattle.places.specs.Finding.{first, foundAt, isCard, isTransistor, cardPlace, transistorPlace}
 use Rattle.places.specs.Gathered.{emptyCard}
 use Rattle.places.specs.Gathered.{noCard, emptyTransistor, noTransistor}
-use Rattle.board.specs.inner.Sums.{placeGives}
-use Rattle.board.specs.Model.{freshBoard, voltsOf, loadedOf}
+use Rattle.model.specs.inner.Sums.{placeGives}
+use Rattle.model.specs.Model.{freshBoard, voltsOf, loadedOf}
 use Rattle.places.specs.Finding.{freeCard, freeTransistor, standsOn, highestAt}
-use Rattle.board.specs.Model.{placedOf, movedOf, liftedOf, withdrawnOf, lookedOf, showedOf, answered, boardAfter}
+use Rattle.model.specs.Model.{placedOf, movedOf, liftedOf, withdrawnOf, lookedOf, showedOf, answered, boardAfter}
 use Rattle.days.specs.Perm.{empty}
 use Rattle.days.specs.Stands.{occupied, heldOf, standingOf, heldIn, standingIn, heldAt, standingAt, mapFound}
 use Rattle.days.specs.Stands.{standsUnder, Stands, Follow}
@@ -49,20 +49,20 @@ use Rattle.days.proofs.Perms.{perm-without, perm-highest}
 use Rattle.days.proofs.Places.{sum-occupied, any-occupied, full, join, seen, find, find-none}
 use Rattle.days.proofs.Places.{count-occupied, leave}
 use Rattle.totals.proofs.Lists.{getD-map}
-use Rattle.board.proofs.NodeSums.{totals-at}
-use Rattle.board.proofs.Verdicts.{loads, places, moves, lifts, withdraws, shown}
-use Rattle.board.proofs.Invariant.{Invariant, invariant-after, at-card, AtCard, at-transistor, AtTransistor}
-use Rattle.board.proofs.Invariant.{Away, unused-away, worked-same, free-below, free-away, still, cards-holding}
-use Rattle.board.proofs.Invariant.{transistors-holding, cards-standing, transistors-standing, cards-leveled}
-use Rattle.board.proofs.Invariant.{transistors-leveled, fresh-cards, fresh-transistors}
-use Rattle.board.proofs.Gains.{touched-stands}
-use Rattle.board.proofs.Lists.{padded-long}
+use Rattle.model.proofs.NodeSums.{totals-at}
+use Rattle.model.proofs.Verdicts.{loads, places, moves, lifts, withdraws, shown}
+use Rattle.model.proofs.Invariant.{Invariant, invariant-after, at-card, AtCard, at-transistor, AtTransistor}
+use Rattle.model.proofs.Invariant.{Away, unused-away, worked-same, free-below, free-away, still, cards-holding}
+use Rattle.model.proofs.Invariant.{transistors-holding, cards-standing, transistors-standing, cards-leveled}
+use Rattle.model.proofs.Invariant.{transistors-leveled, fresh-cards, fresh-transistors}
+use Rattle.model.proofs.Gains.{touched-stands}
+use Rattle.model.proofs.Lists.{padded-long}
 use Rattle.branch.specs.Outcome.{isOver}
 use Rattle.settle.specs.laws.Firsts.{first-over}
 use Rattle.totals.specs.Flow.{overAt}
 use Rattle.places.specs.Gathered.{workedAt}
 use Rattle.name.specs.Name.{nameLength}
-use Rattle.board.specs.Model.{Shift, shifted, touched, oneShift, firstOver, settled, workedOn}
+use Rattle.model.specs.Model.{Shift, shifted, touched, oneShift, firstOver, settled, workedOn}
 use Rattle.days.proofs.Orderly.{Orderly, orderly-after}
 use Rattle.days.proofs.Orders.{order-load, order-place, order-move, order-lift, order-withdraw, order-look}
 use Rattle.days.proofs.Orders.{order-read}

@@ -14,24 +14,24 @@ use Rattle.refusal.specs.Order.{Verdict, no, yes}
 use Rattle.refusal.specs.Clash.{clash}
 use Rattle.card.specs.declared.WorkedCard.{WorkedCard}
 use Rattle.terms.specs.Rows.{roles}
-use Rattle.board.specs.declared.Board.{Board}
-use Rattle.board.specs.Model.{cardsOf}
-use Rattle.board.specs.declared.Answer.the-variants.{Issue}
+use Rattle.model.specs.Board.{Board}
+use Rattle.model.specs.Model.{cardsOf}
+use Rattle.model.specs.declared.Answer.the-variants.{Issue}
 use Rattle.given.specs.Arguments.{issuesMost}
 use Rattle.given.specs.Arguments.{issueOf}
-use Rattle.board.specs.Verdict.{nodeVerdict}
-use Rattle.board.specs.Desk as desk
-use Rattle.board.specs.Desk.{Held, Standing, Desk, Call, load, place, move, lift, withdraw, lookUp, node}
-use Rattle.board.specs.Desk.{firstWith, without, keepIf, total, step, after}
+use Rattle.model.specs.Verdict.{nodeVerdict}
+use Rattle.model.specs.Desk as desk
+use Rattle.model.specs.Desk.{Held, Standing, Desk, Call, load, place, move, lift, withdraw, lookUp, node}
+use Rattle.model.specs.Desk.{firstWith, without, keepIf, total, step, after}
 use Rattle.places.specs.Finding.{cardPlace}
-use Rattle.board.specs.Model as board
-use Rattle.board.specs.Model.{loadedOf, placedOf, movedOf, liftedOf, withdrawnOf, lookedOf, showedOf, answered}
-use Rattle.board.specs.Model.{boardAfter}
+use Rattle.model.specs.Model as board
+use Rattle.model.specs.Model.{loadedOf, placedOf, movedOf, liftedOf, withdrawnOf, lookedOf, showedOf, answered}
+use Rattle.model.specs.Model.{boardAfter}
 use Rattle.days.specs.Stands.{replyOf}
 use Rattle.days.specs.Numbers.{withNumber, gives, givenBy, Falls, end, next}
 use Rattle.days.proofs.Perms.{count, more}
-use Rattle.board.proofs.Verdicts.{loads, places}
-use Rattle.board.proofs.Invariant.{invariant-after, totals-long}
+use Rattle.model.proofs.Verdicts.{loads, places}
+use Rattle.model.proofs.Invariant.{invariant-after, totals-long}
 use Rattle.days.proofs.Orderly.{Orderly, orderly-after}
 use Rattle.days.proofs.Orders.{order-place}
 use Rattle.days.proofs.Follows.{follows}

@@ -12,7 +12,7 @@ use borrow.Author.Tests.{ltb-true, ltb-false}
 use Rattle.name.specs.Name.{same}
 use Rattle.totals.specs.Flow.{sumOver}
 use Rattle.given.specs.Lists.{anyOf, larger}
-use Rattle.board.specs.Desk.{firstWith, ifTrue, without, keepIf, Held, highest}
+use Rattle.model.specs.Desk.{firstWith, ifTrue, without, keepIf, Held, highest}
 use Rattle.days.specs.Perm.{Perm, empty, keep, swap, then}
 
 pub perm-self : {A : Type 0} (xs : List A) → Perm xs xs

@@ -17,16 +17,16 @@ use Rattle.branch.specs.declared.Over.the-variants.{Within, Ticks, Injection}
 use Rattle.terms.specs.Rows.{Row, rowsFor, roleIndex}
 use Rattle.branch.specs.Outcome.{outcomeOf, isOver}
 use Rattle.places.specs.Gathered.{Card, Transistor}
-use Rattle.board.specs.declared.Board.{Board}
-use Rattle.board.specs.Model.{cardsOf, transistorsOf, transistorAt}
-use Rattle.board.specs.Counts.{nodesMost}
+use Rattle.model.specs.Board.{Board}
+use Rattle.model.specs.Model.{cardsOf, transistorsOf, transistorAt}
+use Rattle.model.specs.Counts.{nodesMost}
 use Rattle.totals.specs.Gives.{atNode, rowsGive}
-use Rattle.board.specs.Desk.{Standing, Call, total, after}
+use Rattle.model.specs.Desk.{Standing, Call, total, after}
 use Rattle.totals.specs.Flow.{rolesAt, overloads, flow, sumOver}
 use Rattle.places.specs.Gathered.{noTransistor, workedAt}
-use Rattle.board.specs.inner.Sums.{placeGives, totalsOf}
-use Rattle.board.specs.Model.{voltsOf, boardAfter}
-use Rattle.board.specs.Model.{Reached}
+use Rattle.model.specs.inner.Sums.{placeGives, totalsOf}
+use Rattle.model.specs.Model.{voltsOf, boardAfter}
+use Rattle.model.specs.Model.{Reached}
 use Rattle.days.specs.Perm.{Perm}
 use Rattle.days.specs.Stands.{standingOf, standingIn}
 use Rattle.days.specs.Fitted.{sumAll, Fitted, fittedOf, fittedIn}
@@ -35,8 +35,8 @@ use Rattle.days.proofs.Perms.{perm-sum}
 use Rattle.days.proofs.Places.{sum-occupied}
 use Rattle.branch.specs.inner.FromTerms.{listUp}
 use Rattle.deck.specs.laws.Ups.{up-same}
-use Rattle.board.proofs.NodeSums.{totals-room}
-use Rattle.board.proofs.Invariant.{invariant, invariant-after}
+use Rattle.model.proofs.NodeSums.{totals-room}
+use Rattle.model.proofs.Invariant.{invariant, invariant-after}
 use Rattle.days.proofs.Orderly.{orderly-after}
 use Rattle.days.proofs.Follows.{stands-after, totals-follow}
 

@@ -3,9 +3,9 @@ use mathlib.Core.List.{List, map}
 use Prim.Native.Nat.{ℕ}
 use lib.IntN.{ℤ}
 use Rattle.card.specs.declared.WorkedCard.{WorkedCard}
-use Rattle.board.specs.declared.Board.{Board}
-use Rattle.board.specs.Model.{cardsOf, transistorsOf}
-use Rattle.board.specs.Desk.{Standing}
+use Rattle.model.specs.Board.{Board}
+use Rattle.model.specs.Model.{cardsOf, transistorsOf}
+use Rattle.model.specs.Desk.{Standing}
 use Rattle.totals.specs.Flow.{sumOver}
 use Rattle.days.specs.Stands.{standingIn}
 

@@ -8,16 +8,16 @@ use lib.Dec.{eqb}
 use lib.ListN.{getD}
 use lib.IntN.{ℤ}
 use Rattle.places.specs.Gathered.{Card, Transistor}
-use Rattle.board.specs.declared.Board.{Board}
-use Rattle.board.specs.Model.{cardsOf, transistorsOf, transistorAt}
-use Rattle.board.specs.declared.Answer.{Answer}
-use Rattle.board.specs.declared.Answer.the-variants.{Issue, Done, Node, Refused}
-use Rattle.board.specs.declared.Answered.{Answered}
+use Rattle.model.specs.Board.{Board}
+use Rattle.model.specs.Model.{cardsOf, transistorsOf, transistorAt}
+use Rattle.model.specs.declared.Answer.{Answer}
+use Rattle.model.specs.declared.Answer.the-variants.{Issue, Done, Node, Refused}
+use Rattle.model.specs.Board.{Answered}
 use Rattle.given.specs.Arguments.{Found, none, some}
-use Rattle.board.specs.Desk.{Held, Standing, Desk, Step, Reply, issued, done, shows, refused, keepIf}
+use Rattle.model.specs.Desk.{Held, Standing, Desk, Step, Reply, issued, done, shows, refused, keepIf}
 use Rattle.places.specs.Gathered.{noCard, noTransistor, workedAt}
 use Rattle.places.specs.Finding.{transistorPlace}
-use Rattle.board.specs.Model.{voltsOf}
+use Rattle.model.specs.Model.{voltsOf}
 use Rattle.days.specs.Perm.{Perm}
 
 -- what stands on the places of l, each seen through f; a place whose key is 0 is empty
