@@ -1,5 +1,6 @@
 -- The board's struct and the model: the same lists, so that what the model says is what a method promises.
 use Rattle.model.specs.Board.{Board, Answered}
+use Rattle.model.specs.Model as model
 use Rattle.board.specs.declared.Board as code
 use Rattle.board.specs.declared.Answered as answered
 
@@ -47,3 +48,7 @@ givenAs a = record { board = boardOf (a .board); answer = a .answer }
 
 abbrev pub takenAs : answered.Answered → Answered
 takenAs r = record { board = modelOf (r .board); answer = r .answer }
+
+-- some calls from a fresh board leave this board
+abbrev pub Reached : code.Board → Type 0
+Reached b = model.Reached (modelOf b)

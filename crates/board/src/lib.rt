@@ -1,8 +1,8 @@
 // The board: cards and transistors in places, voltages and node totals, handed from call to call by value.
 // Each method asks that calls from a fresh board left the board as it is, and gives the answer with the next board, which is such a board again.
 ghost use mathlib.Core.Path.{_≡_};
-ghost use Rattle.model.specs.Model.{freshBoard, refuse, loadedOf, placedOf, movedOf, liftedOf, withdrawnOf, lookedOf, showedOf, Reached};
-ghost use Rattle.board.specs.Promise.{modelOf, boardOf, givenAs};
+ghost use Rattle.model.specs.Model.{freshBoard, refuse, loadedOf, placedOf, movedOf, liftedOf, withdrawnOf, lookedOf, showedOf};
+ghost use Rattle.board.specs.Promise.{modelOf, boardOf, givenAs, Reached};
 
 use branch::ROLES;
 use card::Judged;
@@ -53,7 +53,7 @@ impl Board {
     // No cards, no transistors, and every voltage and total 0.
     pub fn fresh() -> Board
         ensures { λ r. ⌜ r ≡ boardOf freshBoard ⌝ }
-        ensures { λ r. ⌜ Reached (modelOf r) ⌝ }
+        ensures { λ r. ⌜ Reached r ⌝ }
     {
         Board {
             numbers: [0u32; deck::ALL_NUMBERS],
@@ -74,9 +74,9 @@ impl Board {
 
     // A card under a name: 1, 2, 6 to 10, 11, 17. It gets the next issue number.
     pub fn load(mut self, name: &[u8], bytes: &[u8]) -> Answered
-        requires { ⌜ Reached (modelOf self) ⌝ }
+        requires { ⌜ Reached self ⌝ }
         ensures { λ r. ⌜ r ≡ givenAs (loadedOf (modelOf self) (now (name .entry)) (now (bytes .entry))) ⌝ }
-        ensures { λ r. ⌜ Reached (modelOf (r .board)) ⌝ }
+        ensures { λ r. ⌜ Reached (r .board) ⌝ }
     {
         if !card::right_length(bytes) {
             return refused(self, Refusal::Malformed);
@@ -124,9 +124,9 @@ impl Board {
 
     // A transistor on a card, by its issue number, and on the nodes of its roles: 12, 13, 14, 11, 17, 15.
     pub fn place(mut self, card: i64, nodes: [i64; ROLES]) -> Answered
-        requires { ⌜ Reached (modelOf self) ⌝ }
+        requires { ⌜ Reached self ⌝ }
         ensures { λ r. ⌜ r ≡ givenAs (placedOf (modelOf self) card nodes) ⌝ }
-        ensures { λ r. ⌜ Reached (modelOf (r .board)) ⌝ }
+        ensures { λ r. ⌜ Reached (r .board) ⌝ }
     {
         let numbers = self.numbers;
         let powers = self.powers;
@@ -170,9 +170,9 @@ impl Board {
 
     // A node's voltage: 13, then 15 where some transistor would overload.
     pub fn move_to(mut self, node: i64, microvolts: i64) -> Answered
-        requires { ⌜ Reached (modelOf self) ⌝ }
+        requires { ⌜ Reached self ⌝ }
         ensures { λ r. ⌜ r ≡ givenAs (movedOf (modelOf self) node microvolts) ⌝ }
-        ensures { λ r. ⌜ Reached (modelOf (r .board)) ⌝ }
+        ensures { λ r. ⌜ Reached (r .board) ⌝ }
     {
         let numbers = self.numbers;
         let powers = self.powers;
@@ -206,9 +206,9 @@ impl Board {
 
     // A transistor taken off, by its issue number: 12.
     pub fn lift(mut self, transistor: i64) -> Answered
-        requires { ⌜ Reached (modelOf self) ⌝ }
+        requires { ⌜ Reached self ⌝ }
         ensures { λ r. ⌜ r ≡ givenAs (liftedOf (modelOf self) transistor) ⌝ }
-        ensures { λ r. ⌜ Reached (modelOf (r .board)) ⌝ }
+        ensures { λ r. ⌜ Reached (r .board) ⌝ }
     {
         let numbers = self.numbers;
         let powers = self.powers;
@@ -246,9 +246,9 @@ impl Board {
 
     // A card given back, by its issue number: 12, 16.
     pub fn withdraw(mut self, card: i64) -> Answered
-        requires { ⌜ Reached (modelOf self) ⌝ }
+        requires { ⌜ Reached self ⌝ }
         ensures { λ r. ⌜ r ≡ givenAs (withdrawnOf (modelOf self) card) ⌝ }
-        ensures { λ r. ⌜ Reached (modelOf (r .board)) ⌝ }
+        ensures { λ r. ⌜ Reached (r .board) ⌝ }
     {
         let n = given::issue_of(card);
         let mut held = self.held;
@@ -285,9 +285,9 @@ impl Board {
 
     // The highest issue number among the cards of a name: 2, 4.
     pub fn look_up(self, name: &[u8]) -> Answered
-        requires { ⌜ Reached (modelOf self) ⌝ }
+        requires { ⌜ Reached self ⌝ }
         ensures { λ r. ⌜ r ≡ givenAs (lookedOf (modelOf self) (now (name .entry))) ⌝ }
-        ensures { λ r. ⌜ Reached (modelOf (r .board)) ⌝ }
+        ensures { λ r. ⌜ Reached (r .board) ⌝ }
     {
         if !name::is_asked(name) {
             return refused(self, Refusal::BadName);
@@ -307,9 +307,9 @@ impl Board {
 
     // A node's voltage in microvolts, and its total in ticks: 13.
     pub fn read_node(self, node: i64) -> Answered
-        requires { ⌜ Reached (modelOf self) ⌝ }
+        requires { ⌜ Reached self ⌝ }
         ensures { λ r. ⌜ r ≡ givenAs (showedOf (modelOf self) node) ⌝ }
-        ensures { λ r. ⌜ Reached (modelOf (r .board)) ⌝ }
+        ensures { λ r. ⌜ Reached (r .board) ⌝ }
     {
         let n = given::node_of(node) as usize;
         if Board::NODES <= n {

@@ -1,5 +1,5 @@
 // A line obeyed. Each function that changes the board takes it and gives the next one.
-ghost use Rattle.board.specs.Model.{Reached};
+ghost use Rattle.board.specs.Promise.{Reached};
 use crate::answer::put_answer;
 use crate::answer::put_clipping;
 use crate::answer::put_error;

@@ -1,5 +1,5 @@
 // A script obeyed, line by line.
-ghost use Rattle.board.specs.Model.{Reached};
+ghost use Rattle.board.specs.Promise.{Reached};
 use crate::answer::put_unreadable;
 use crate::desk::asks_board;
 use crate::desk::obey;

@@ -17,8 +17,8 @@ use Rattle.branch.specs.declared.Over.{Over}
 use Rattle.branch.specs.declared.Over.the-variants.{Within, Ticks, Injection}
 use Rattle.terms.specs.Rows.{roles}
 use Rattle.branch.specs.Outcome.{outcomeOf}
-use Rattle.board.specs.declared.Board.{Board}
-use Rattle.board.specs.Model.{freshBoard, loadedOf, placedOf, movedOf}
+use Rattle.model.specs.Board.{Board}
+use Rattle.model.specs.Model.{freshBoard, loadedOf, placedOf, movedOf}
 use Rattle.paper.specs.Words.{one, two, four, minus-zero, two-to-minus-40, two-to-minus-38, wordsOf, recordOf}
 
 -- the paper's card

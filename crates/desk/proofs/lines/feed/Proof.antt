@@ -3,7 +3,7 @@ use Prim.Native.Nat.{_-_}
 use native.Mathlib.Omega.{arith}
 use lib.ListN.{length}
 use borrow.Author.Needs.{needs}
-use Rattle.board.specs.Model.{Reached}
+use Rattle.board.specs.Promise.{Reached}
 use Rattle.desk.proofs.lines.feed.Statement.{statement}
 use Rattle.desk.proofs.lines.feed.Tie as tie
 

@@ -1,6 +1,6 @@
 -- The board stays one that calls from a fresh board leave; the turns are counted down.
 use borrow.Author.Needs.{needs}
-use Rattle.board.specs.Model.{Reached}
+use Rattle.board.specs.Promise.{Reached}
 use Rattle.desk.proofs.lines.run.Statement.{statement}
 use Rattle.desk.proofs.lines.run.Tie as tie
 
