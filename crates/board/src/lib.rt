@@ -99,7 +99,7 @@ impl Board {
                 }
                 let own = name::pad(name);
                 let mut names = self.names;
-                places::put_name(&mut names, i, &own);
+                sets::put_name(&mut names, i, &own);
                 let ready = branch::prepare(worked);
                 let mut numbers = self.numbers;
                 let mut powers = self.powers;
@@ -263,7 +263,7 @@ impl Board {
         }
         let mut names = self.names;
         let blank = [0u8; name::LENGTH];
-        places::put_name(&mut names, i, &blank);
+        sets::put_name(&mut names, i, &blank);
         let none = branch::no_ready();
         let mut numbers = self.numbers;
         let mut powers = self.powers;

@@ -46,7 +46,7 @@ pub fn place(
             issues[free] = issue;
             cards[free] = held[at];
             seats[free] = at as u8;
-            places::put_nodes(nodes, free, &on);
+            sets::put_nodes(nodes, free, &on);
             *next = issue + 1;
             Answer::Issue(issue)
         }
@@ -78,7 +78,7 @@ pub fn move_to(
     let Voltage::Kept(v) = volts::keep(microvolts) else {
         return Answer::Refused(Refusal::OutOfRange);
     };
-    let set = places::naming(issues, nodes, k);
+    let set = sets::naming(issues, nodes, k);
     let was = *volts;
     let mut will = was;
     will[n] = v;
@@ -107,7 +107,7 @@ pub fn lift(
     volts: &[u32; totals::NODES],
     transistor: i64,
 ) -> Answer
-    requires { ⌜ ((b : Board) × Reached b × Lends b (now numbers) (now powers) (now ticks) (now switches) (now issues) (now seats) (now nodes) (now volts) (now totals)) ⌝ }
+    requires { ⌜ ((b : Board) × Reached b × Lends b (now numbers) (now powers) (now ticks) (now switches) (now issues) (now seats) (now nodes) (now volts) (now totals) × (now cards ≡ b .cards)) ⌝ }
     ensures { λ r. ⌜ ((b : Board) → Reached b → Lends b (now (numbers .entry)) (now (powers .entry)) (now (ticks .entry)) (now (switches .entry)) (now (issues .entry)) (now (seats .entry)) (now (nodes .entry)) (now (volts .entry)) (now (totals .entry)) → now (cards .entry) ≡ b .cards → LeavesPlaces (liftedOf b transistor) r (now (issues .exit)) (now (cards .exit)) (now (seats .exit)) (now (nodes .exit)) (now (totals .exit)) (b .next)) ⌝ }
 {
     let n = given::issue_of(transistor);
@@ -117,12 +117,12 @@ pub fn lift(
     }
     let s = seats[i] as usize;
     let table = octave::table();
-    let on = places::nodes_at(nodes, i);
+    let on = sets::nodes_at(nodes, i);
     settle::take_out(totals, &table, numbers, powers, ticks, switches, s, &on, volts);
     issues[i] = 0;
     cards[i] = 0;
     seats[i] = 0;
     let none = [0u8; ROLES];
-    places::put_nodes(nodes, i, &none);
+    sets::put_nodes(nodes, i, &none);
     Answer::Done
 }

@@ -1,8 +1,7 @@
-// Cards and transistors in places: finding them, placing's tests, and who names a node.
+// Cards and transistors in places: finding them, and placing's tests.
 
 mod finds; // finds.rt: looking through the places
 mod rules; // rules.rt: placing's tests
-mod sets; // sets.rt: nodes and names by place, and which transistors name a node
 
 use branch::ROLES;
 pub use finds::any_on;
@@ -12,11 +11,6 @@ pub use finds::highest;
 pub use finds::transistor_at;
 use refusal::Refusal;
 pub use rules::may_place;
-pub use sets::naming;
-pub use sets::next_in;
-pub use sets::nodes_at;
-pub use sets::put_name;
-pub use sets::put_nodes;
 
 pub const CARDS: usize = deck::CARDS;
 

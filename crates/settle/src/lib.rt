@@ -160,16 +160,16 @@ pub fn settle(
         issue: 0,
         over: Over::Within,
     };
-    let mut i = places::next_in(set, 0);
+    let mut i = sets::next_in(set, 0);
     while i < TRANSISTORS {
         let s = seats[i] as usize;
-        let on = places::nodes_at(nodes, i);
+        let on = sets::nodes_at(nodes, i);
         take_out(l, &table, numbers, powers, ticks, switches, s, &on, was);
         let over = put_in(l, &table, numbers, powers, ticks, switches, s, &on, will);
         let issue = issues[i];
         let f = earlier_of(first, issue, over);
         first = f;
-        let next = places::next_in(set, i + 1);
+        let next = sets::next_in(set, i + 1);
         i = next;
     }
     first

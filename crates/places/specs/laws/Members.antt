@@ -86,8 +86,8 @@ not-between {i = i} a b h =
     let f = b .between i (a .later (omega arith)) h in
     let z : _≡_ {A = ℕ} 0 1 = ap (λ (x : Bool). cond x 0 1) (sym t ∙ f) in omega arith
 
-pub next-only : {set from i j : ℕ} → NextIn set from i → NextIn set from j → i ≡ j
-next-only {set} {from} {i} {j} a b = go (ltb i j) refl (ltb j i) refl
+pub unique-next : {set from i j : ℕ} → NextIn set from i → NextIn set from j → i ≡ j
+unique-next {set} {from} {i} {j} a b = go (ltb i j) refl (ltb j i) refl
   where
     go : (t : Bool) → ltb i j ≡ t → (u : Bool) → ltb j i ≡ u → i ≡ j
     go true e u f = absurd (not-between a b (ltb-true i j e))

@@ -15,7 +15,7 @@ start c =
     .before .before .before .before .before .before
 
 lift-requires : tie.Need-lift-requires
-lift-requires c κs = (modelOf (start c .args .self), start c .pre, own-lends (modelOf (start c .args .self)))
+lift-requires c κs = (modelOf (start c .args .self), start c .pre, own-lends (modelOf (start c .args .self)), refl)
 
 returns : tie.Need-returns
 returns c =

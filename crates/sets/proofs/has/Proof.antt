@@ -8,9 +8,9 @@ use borrow.Author.Needs.{needs}
 use Rattle.terms.specs.Rows.{roles}
 use Rattle.deck.specs.laws.Stretches.{length-stretch, getD-stretch}
 use Rattle.deck.specs.Stretch.{stretch}
 use Rattle.places.proofs.Scans.{Passed, at-start, goes-on, any-here, any-nowhere}
-use Rattle.places.proofs.sets.has.Statement.{statement}
-use Rattle.places.proofs.sets.has.Tie as tie
+use Rattle.sets.proofs.has.Statement.{statement}
+use Rattle.sets.proofs.has.Tie as tie
 
 abbrev Inv-loop : tie.InvT-loop
 Inv-loop nodes i n at k₀ k = (k ≤ roles) × Passed (λ (m : ℕ). eqb m n) (stretch 0 nodes (roles * i) roles) k

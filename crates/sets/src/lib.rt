@@ -6,13 +6,13 @@ ghost use lib.Count.{trailingZeros};
 ghost use Rattle.name.specs.Name.{nameLength};
 ghost use Rattle.terms.specs.Rows.{roles};
 ghost use Rattle.deck.specs.Stretch.{stretch, written};
 ghost use Rattle.places.specs.Counts.{cardsMost, transistorsMost};
 ghost use Rattle.places.specs.Finding.{names};
 ghost use Rattle.places.specs.inner.Parts.{NextIn};
 ghost use Rattle.places.specs.inner.Flat.{standsAtIn, namingIn};
-use crate::ALL_NAMES;
-use crate::ALL_NODES;
-use crate::TRANSISTORS;
+use places::ALL_NAMES;
+use places::ALL_NODES;
+use places::TRANSISTORS;
 use branch::ROLES;
 
 pub fn nodes_at(nodes: &[u8; ALL_NODES], i: usize) -> [u8; ROLES]

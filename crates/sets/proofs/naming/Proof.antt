@@ -4,12 +4,12 @@ use mathlib.Core.Bool.{Bool}
 use Prim.Native.Nat.{ℕ, _-_, _≤_}
 use native.Mathlib.Omega.{arith}
 use borrow.Author.Needs.{needs}
 use Rattle.places.specs.Counts.{transistorsMost}
 use Rattle.places.specs.Sets.{setOf}
 use Rattle.places.specs.inner.Flat.{standsAtIn}
 use Rattle.places.specs.laws.Members.{set-none, set-more, set-below}
-use Rattle.places.proofs.sets.naming.Statement.{statement}
-use Rattle.places.proofs.sets.naming.Tie as tie
+use Rattle.sets.proofs.naming.Statement.{statement}
+use Rattle.sets.proofs.naming.Tie as tie
 
 abbrev Inv-loop : tie.InvT-loop
 Inv-loop issues nodes n set₀ i₀ set i = (i ≤ transistorsMost) × (set ≡ setOf (standsAtIn n issues nodes) i)

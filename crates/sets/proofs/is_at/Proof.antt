@@ -4,8 +4,8 @@ use mathlib.Core.Bool.{Bool, true, false, not, cond}
 use lib.Dec.{eqb}
 use lib.ListN.{getD}
 use borrow.Author.Needs.{needs}
-use Rattle.places.proofs.sets.is_at.Statement.{statement}
-use Rattle.places.proofs.sets.is_at.Tie as tie
+use Rattle.sets.proofs.is_at.Statement.{statement}
+use Rattle.sets.proofs.is_at.Tie as tie
 
 -- where the nodes are asked for first, the place need only be taken
 taken : (t : Bool) {u : Bool} → u ≡ true → not t ≡ cond t false u

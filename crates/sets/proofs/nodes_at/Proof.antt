@@ -6,9 +6,9 @@ use lib.ListN.{getD}
 use borrow.Author.Needs.{needs}
 use Rattle.branch.specs.laws.Filled.{Filled, filled-none, filled-more}
 use Rattle.terms.specs.Rows.{roles}
 use Rattle.places.proofs.Scans.{filled-stretch}
-use Rattle.places.proofs.sets.nodes_at.Statement.{statement}
-use Rattle.places.proofs.sets.nodes_at.Tie as tie
+use Rattle.sets.proofs.nodes_at.Statement.{statement}
+use Rattle.sets.proofs.nodes_at.Tie as tie
 
 abbrev Inv-loop : tie.InvT-loop
 Inv-loop nodes i on₀ at k₀ on k = (k ≤ roles) × Filled 0 roles (λ (j : ℕ). getD nodes (roles * i + j) 0) k on

@@ -3,9 +3,9 @@ use mathlib.Core.Path.{sym}
 use native.Mathlib.Omega.{arith}
 use native.Mathlib.Nat.{add-zero}
 use borrow.Author.Needs.{needs}
-use Rattle.places.proofs.Digits.{one-more}
-use Rattle.places.proofs.sets.with.Statement.{statement}
-use Rattle.places.proofs.sets.with.Tie as tie
+use Rattle.sets.proofs.Digits.{one-more}
+use Rattle.sets.proofs.with.Statement.{statement}
+use Rattle.sets.proofs.with.Tie as tie
 
 shl-result : tie.Need-shl-result
 shl-result c = search needs

@@ -2,8 +2,8 @@
 use mathlib.Core.Path.{refl}
 use native.Mathlib.Omega.{arith}
 use lib.Count.{trailing-le}
-use Rattle.places.proofs.sets.zeros_below.Statement.{statement}
-use Rattle.places.proofs.sets.zeros_below.Tie as tie
+use Rattle.sets.proofs.zeros_below.Statement.{statement}
+use Rattle.sets.proofs.zeros_below.Tie as tie
 
 pub zeros-below-spec : {M : Type 1} → statement M
 zeros-below-spec =

@@ -1,9 +1,9 @@
 -- `next_in` counts the zeros below the next digit that is set.
 use native.Mathlib.Omega.{arith}
 use borrow.Author.Needs.{needs}
-use Rattle.places.proofs.Digits.{next-past, next-none, next-found}
-use Rattle.places.proofs.sets.next_in.Statement.{statement}
-use Rattle.places.proofs.sets.next_in.Tie as tie
+use Rattle.sets.proofs.Digits.{next-past, next-none, next-found}
+use Rattle.sets.proofs.next_in.Statement.{statement}
+use Rattle.sets.proofs.next_in.Tie as tie
 
 returns : tie.Need-returns
 returns c = next-past (c .before .args .set) (c .before .args .from) (omega arith)
