@@ -3,7 +3,6 @@
 ghost use mathlib.Core.Path.{_≡_};
 ghost use Rattle.model.specs.Model.{freshBoard, refuse, loadedOf, placedOf, movedOf, liftedOf, withdrawnOf, lookedOf, showedOf};
 ghost use Rattle.board.specs.Promise.{modelOf, boardOf, givenAs, Reached};
-
 use branch::ROLES;
 use card::Judged;
 use given::ISSUES;
@@ -105,7 +104,14 @@ impl Board {
                 let mut powers = self.powers;
                 let mut ticks = self.ticks;
                 let mut switches = self.switches;
-                deck::put_ready(&mut numbers, &mut powers, &mut ticks, &mut switches, i, ready);
+                deck::put_ready(
+                    &mut numbers,
+                    &mut powers,
+                    &mut ticks,
+                    &mut switches,
+                    i,
+                    ready,
+                );
                 held[i] = issue;
                 self.numbers = numbers;
                 self.powers = powers;
@@ -269,7 +275,14 @@ impl Board {
         let mut powers = self.powers;
         let mut ticks = self.ticks;
         let mut switches = self.switches;
-        deck::put_ready(&mut numbers, &mut powers, &mut ticks, &mut switches, i, none);
+        deck::put_ready(
+            &mut numbers,
+            &mut powers,
+            &mut ticks,
+            &mut switches,
+            i,
+            none,
+        );
         held[i] = 0;
         self.numbers = numbers;
         self.powers = powers;

@@ -286,8 +286,10 @@ module _ (b : Board) (d : Desk) (g : Invariant b) (o : Orderly d) (s : Stands b 
           record {
             reply = ap desk.issued (s .next);
             board =
-                rw (cards-holding b (g .sized) p card (b .next + 1) below (padded-long name),
-                transistors-holding b (g .sized) p card (b .next + 1))
+                rw (
+                  cards-holding b (g .sized) p card (b .next + 1) below (padded-long name),
+                  transistors-holding b (g .sized) p card (b .next + 1),
+                )
                 (record {
                   cards =
                       perm-join
@@ -334,8 +336,10 @@ module _ (b : Board) (d : Desk) (g : Invariant b) (o : Orderly d) (s : Stands b 
           record {
             reply = ap desk.issued (s .next);
             board =
-                rw (cards-standing b (g .sized) free t _ (b .next + 1),
-                transistors-standing b (g .sized) free t _ (b .next + 1) below (length-map nodes natAbs ∙ sized))
+                rw (
+                  cards-standing b (g .sized) free t _ (b .next + 1),
+                  transistors-standing b (g .sized) free t _ (b .next + 1) below (length-map nodes natAbs ∙ sized),
+                )
                 (record {
                   cards = s .cards;
                   standing =
@@ -370,8 +374,10 @@ module _ (b : Board) (d : Desk) (g : Invariant b) (o : Orderly d) (s : Stands b 
           record {
             reply = refl;
             board =
-                rw (cards-leveled g (oneShift k v) (settled b (oneShift k v)),
-                transistors-leveled g (oneShift k v) (settled b (oneShift k v)))
+                rw (
+                  cards-leveled g (oneShift k v) (settled b (oneShift k v)),
+                  transistors-leveled g (oneShift k v) (settled b (oneShift k v)),
+                )
                 (record {
                   cards = s .cards;
                   standing = s .standing;
@@ -429,8 +435,10 @@ module _ (b : Board) (d : Desk) (g : Invariant b) (o : Orderly d) (s : Stands b 
           record {
             reply = refl;
             board =
-                rw (cards-standing b (g .sized) i emptyTransistor _ (b .next),
-                transistors-standing b (g .sized) i emptyTransistor _ (b .next) below (length-replicate roles zero))
+                rw (
+                  cards-standing b (g .sized) i emptyTransistor _ (b .next),
+                  transistors-standing b (g .sized) i emptyTransistor _ (b .next) below (length-replicate roles zero),
+                )
                 (record {
                   cards = s .cards;
                   standing =
@@ -470,8 +478,10 @@ module _ (b : Board) (d : Desk) (g : Invariant b) (o : Orderly d) (s : Stands b 
           record {
             reply = refl;
             board =
-                rw (cards-holding b (g .sized) i emptyCard (b .next) below (length-replicate nameLength zero),
-                transistors-holding b (g .sized) i emptyCard (b .next))
+                rw (
+                  cards-holding b (g .sized) i emptyCard (b .next) below (length-replicate nameLength zero),
+                  transistors-holding b (g .sized) i emptyCard (b .next),
+                )
                 (record {
                   cards =
                       rw (← (without-card (issueOf n) i a))

@@ -65,8 +65,7 @@ kept-promise (by-read-node κs a e p) = p
 pub methods-follow : {b : code.Board} {d : Desk} {c : Call} {r : answered.Answered} → Reached (modelOf b) →
     Stands (modelOf b) d → Promised b c r → Follow (takenAs r) (step d c) × Reached (modelOf (r .board))
 methods-follow {b} {d} {c} k s p =
-    let a = kept-promise p in
-    (
+    let a = kept-promise p in (
       subst (λ (x : answered.Answered). Follow (takenAs x) (step d c)) (sym (a .0))
           (follow (modelOf b) d (invariant k) (orderly k s) s c),
       a .1,

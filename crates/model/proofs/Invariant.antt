@@ -369,8 +369,10 @@ invariant-loaded {b} name bytes g = go (mayLoad b name bytes) refl
         record {
           sized = sized-holding b (g .sized) p card (b .next + 1);
           holds =
-              rw (cards-holding b (g .sized) p card (b .next + 1) below (padded-long name),
-              transistors-holding b (g .sized) p card (b .next + 1))
+              rw (
+                cards-holding b (g .sized) p card (b .next + 1) below (padded-long name),
+                transistors-holding b (g .sized) p card (b .next + 1),
+              )
               (holds-card (g .holds) p (b .next + 1) card (omega arith) (free-away (g .holds) (l .room))
               (λ h. made-ready bytes c (l .judged)));
         }
@@ -388,8 +390,10 @@ invariant-withdrawn {b} n g = go _ refl
         record {
           sized = sized-holding b (g .sized) p emptyCard (b .next);
           holds =
-              rw (cards-holding b (g .sized) p emptyCard (b .next) below (length-replicate nameLength zero),
-              transistors-holding b (g .sized) p emptyCard (b .next))
+              rw (
+                cards-holding b (g .sized) p emptyCard (b .next) below (length-replicate nameLength zero),
+                transistors-holding b (g .sized) p emptyCard (b .next),
+              )
               (holds-card (g .holds) p (b .next) emptyCard (g .holds .begun)
               (unused-away (g .holds) (issueOf n) p a (w .unused)) (λ h. absurd (h refl)));
         }
@@ -422,8 +426,10 @@ invariant-placed {b} card nodes sized g = go _ refl
         record {
           sized = sized-standing b (g .sized) free t _ (b .next + 1) (g .sized .volts);
           holds =
-              rw (cards-standing b (g .sized) free t _ (b .next + 1),
-              transistors-standing b (g .sized) free t _ (b .next + 1) below long)
+              rw (
+                cards-standing b (g .sized) free t _ (b .next + 1),
+                transistors-standing b (g .sized) free t _ (b .next + 1) below long,
+              )
               (holds-transistor (g .holds) free (b .next + 1) t (omega arith)
               (λ h. record {
                 place-there = subst (λ (k : ℕ). i < k) (g .holds .cards-long) (a .below);
@@ -449,8 +455,10 @@ invariant-lifted {b} n g = go _ refl
         record {
           sized = sized-standing b (g .sized) i emptyTransistor _ (b .next) (g .sized .volts);
           holds =
-              rw (cards-standing b (g .sized) i emptyTransistor _ (b .next),
-              transistors-standing b (g .sized) i emptyTransistor _ (b .next) below (length-replicate roles zero))
+              rw (
+                cards-standing b (g .sized) i emptyTransistor _ (b .next),
+                transistors-standing b (g .sized) i emptyTransistor _ (b .next) below (length-replicate roles zero),
+              )
               (holds-transistor (g .holds) i (b .next) emptyTransistor (g .holds .begun) (λ h. absurd (h refl))
               (totals-taken (cardsOf b) (transistorsOf b) (voltsOf b) (g .holds .balanced) i (a .below) emptyTransistor
               (λ z. a .given (sym (a .issue-is) ∙ z)) refl));

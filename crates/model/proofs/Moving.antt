@@ -179,8 +179,16 @@ module _ {b : Board} {numbers powers ticks : List ℕ} {switches : List Bool} {i
 
     pub lent-settling : Settling (deckOf numbers powers ticks switches) seats nodes places volts (set volts n x) totals
     lent-settling =
-        rw (l .numbers-are, l .powers-are, l .ticks-are, l .switches-are, l .seats-are, l .nodes-are, l .volts-are,
-        l .totals-are)
+        rw (
+          l .numbers-are,
+          l .powers-are,
+          l .ticks-are,
+          l .switches-are,
+          l .seats-are,
+          l .nodes-are,
+          l .volts-are,
+          l .totals-are,
+        )
         (settling-move b r z v n x ne below level places naming-is)
 
     module _ {first : First} {t : List ℤ}
@@ -191,14 +199,30 @@ module _ {b : Board} {numbers powers ticks : List ℕ} {switches : List Bool} {i
       own-first : first ≡ firstBelow (member places) (λ (i : ℕ). getD (b .issues) i 0)
           (overOf (deckIn b) (b .seats) (b .nodes) (set (b .volts) n x)) transistorsMost
       own-first =
-          rw (← (l .numbers-are), ← (l .powers-are), ← (l .ticks-are), ← (l .switches-are), ← (l .issues-are),
-          ← (l .seats-are), ← (l .nodes-are), ← (l .volts-are)) fe
+          rw (
+            ← (l .numbers-are),
+            ← (l .powers-are),
+            ← (l .ticks-are),
+            ← (l .switches-are),
+            ← (l .issues-are),
+            ← (l .seats-are),
+            ← (l .nodes-are),
+            ← (l .volts-are),
+          ) fe
 
       own-more : More nodesMost (b .totals) t
           (gained (deckIn b) (b .seats) (b .nodes) places (b .volts) (set (b .volts) n x) transistorsMost)
       own-more =
-          rw (← (l .numbers-are), ← (l .powers-are), ← (l .ticks-are), ← (l .switches-are), ← (l .seats-are),
-          ← (l .nodes-are), ← (l .volts-are), ← (l .totals-are)) more
+          rw (
+            ← (l .numbers-are),
+            ← (l .powers-are),
+            ← (l .ticks-are),
+            ← (l .switches-are),
+            ← (l .seats-are),
+            ← (l .nodes-are),
+            ← (l .volts-are),
+            ← (l .totals-are),
+          ) more
 
       pub lent-over : isOver (first .over) ≡ true → LeavesLevels (movedOf b z v) (Refused Overload) volts totals
       lent-over o =

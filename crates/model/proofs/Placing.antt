@@ -248,8 +248,11 @@ module _ (b : Board) (k : Reached b) (z : ℤ) where
           nodes-are = refl;
           totals-are =
               more-is (backFlow (workedOn b i) (transistorAt b i .nodes) (voltsOf b)) more
-              (λ n h. rw (o ∙ nodes-there b i lift-there, p,
-              worked-there b (invariant k) i lift-there leaver-stands));
+              (λ n h. rw (
+                o ∙ nodes-there b i lift-there,
+                p,
+                worked-there b (invariant k) i lift-there leaver-stands,
+              ));
           next-is = refl;
         })
 
@@ -285,16 +288,27 @@ module _ {b : Board} {numbers powers ticks : List ℕ} {switches : List Bool} {h
     pub lent-works : (table : List ℕ) → table ≡ entries →
         Workable table (deckOf numbers powers ticks switches) i on volts × Room nodesMost roomMost totals
     lent-works table h =
-        rw (l .lends .numbers-are, l .lends .powers-are, l .lends .ticks-are, l .lends .switches-are, l .lends .volts-are,
-        l .lends .totals-are)
+        rw (
+          l .lends .numbers-are,
+          l .lends .powers-are,
+          l .lends .ticks-are,
+          l .lends .switches-are,
+          l .lends .volts-are,
+          l .lends .totals-are,
+        )
         (place-works b r card given long on-are own-way e table h)
 
     module _ {over : Over}
         (oe : over ≡ overAt (cardOf (deckOf numbers powers ticks switches) i) on (map givenBack volts)) where
       own-over : over ≡ overAt (cardOf (deckIn b) i) on (voltsOf b)
       own-over =
-          rw (← (l .lends .numbers-are), ← (l .lends .powers-are), ← (l .lends .ticks-are), ← (l .lends .switches-are),
-          ← (l .lends .volts-are)) oe
+          rw (
+            ← (l .lends .numbers-are),
+            ← (l .lends .powers-are),
+            ← (l .lends .ticks-are),
+            ← (l .lends .switches-are),
+            ← (l .lends .volts-are),
+          ) oe
 
       pub lent-over : isOver over ≡ true →
           LeavesPlaces (placedOf b card given) (Refused Overload) issues cards seats nodes totals next
@@ -309,8 +323,14 @@ module _ {b : Board} {numbers powers ticks : List ℕ} {switches : List Bool} {h
           (set seats free i) (written 0 nodes (roles * free) on roles) t (next + 1)
       lent-places o {t} more =
           let own : More nodesMost (b .totals) t (flow (cardOf (deckIn b) i) on (voltsOf b)) =
-          rw (← (l .lends .numbers-are), ← (l .lends .powers-are), ← (l .lends .ticks-are), ← (l .lends .switches-are),
-          ← (l .lends .volts-are), ← (l .lends .totals-are)) more in
+          rw (
+            ← (l .lends .numbers-are),
+            ← (l .lends .powers-are),
+            ← (l .lends .ticks-are),
+            ← (l .lends .switches-are),
+            ← (l .lends .volts-are),
+            ← (l .lends .totals-are),
+          ) more in
           rw (l .lends .issues-are, l .cards-are, l .lends .seats-are, l .lends .nodes-are, l .held-are, l .next-is)
           (places-it b r card given long on-are own-way e own-over o own)
 
@@ -345,7 +365,13 @@ module _ {b : Board} {numbers powers ticks : List ℕ} {switches : List Bool} {i
         (written 0 nodes (roles * i) (replicate roles 0) roles) t (b .next)
     lent-lifts c {on} {s} o p {t} more =
         let own : More nodesMost (b .totals) t (backFlow (cardOf (deckIn b) s) on (voltsOf b)) =
-        rw (← (l .numbers-are), ← (l .powers-are), ← (l .ticks-are), ← (l .switches-are), ← (l .volts-are),
-        ← (l .totals-are)) more in
+        rw (
+          ← (l .numbers-are),
+          ← (l .powers-are),
+          ← (l .ticks-are),
+          ← (l .switches-are),
+          ← (l .volts-are),
+          ← (l .totals-are),
+        ) more in
         rw (l .issues-are, c, l .seats-are, l .nodes-are)
         (lifts-it b r z i own-place (rw (← (l .nodes-are)) o) (rw (← (l .seats-are)) p) own)

@@ -38,7 +38,17 @@ pub fn place(
         Way::Go(at, free) => {
             let table = octave::table();
             let mut l = *totals;
-            let over = settle::put_in(&mut l, &table, numbers, powers, ticks, switches, at, &on, volts);
+            let over = settle::put_in(
+                &mut l,
+                &table,
+                numbers,
+                powers,
+                ticks,
+                switches,
+                at,
+                &on,
+                volts,
+            );
             if settle::is_over(over) {
                 return Answer::Refused(Refusal::Overload);
             }
@@ -83,7 +93,19 @@ pub fn move_to(
     let mut will = was;
     will[n] = v;
     let mut l = *totals;
-    let first = settle::settle(&mut l, numbers, powers, ticks, switches, issues, seats, nodes, &was, &will, set);
+    let first = settle::settle(
+        &mut l,
+        numbers,
+        powers,
+        ticks,
+        switches,
+        issues,
+        seats,
+        nodes,
+        &was,
+        &will,
+        set,
+    );
     let over = first.over;
     if settle::is_over(over) {
         return Answer::Refused(Refusal::Overload);
@@ -118,7 +140,17 @@ pub fn lift(
     let s = seats[i] as usize;
     let table = octave::table();
     let on = sets::nodes_at(nodes, i);
-    settle::take_out(totals, &table, numbers, powers, ticks, switches, s, &on, volts);
+    settle::take_out(
+        totals,
+        &table,
+        numbers,
+        powers,
+        ticks,
+        switches,
+        s,
+        &on,
+        volts,
+    );
     issues[i] = 0;
     cards[i] = 0;
     seats[i] = 0;

@@ -13,13 +13,13 @@ use crate::CARDS;
 use crate::TRANSISTORS;
 use crate::Way;
 use crate::finds;
-use terms::C1;
-use terms::C4;
 use branch::ROLES;
 use deck::ALL_SWITCHES;
 use deck::SWITCHES;
 use given::ISSUES;
 use refusal::Refusal;
+use terms::C1;
+use terms::C4;
 use totals::NODES;
 
 // Whether a node is none of the board's.

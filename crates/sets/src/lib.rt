@@ -10,10 +10,10 @@ ghost use Rattle.places.specs.Counts.{cardsMost, transistorsMost};
 ghost use Rattle.places.specs.Finding.{names};
 ghost use Rattle.places.specs.inner.Parts.{NextIn};
 ghost use Rattle.places.specs.inner.Flat.{standsAtIn, namingIn};
+use branch::ROLES;
 use places::ALL_NAMES;
 use places::ALL_NODES;
 use places::TRANSISTORS;
-use branch::ROLES;
 
 pub fn nodes_at(nodes: &[u8; ALL_NODES], i: usize) -> [u8; ROLES]
     requires { ⌜ i < transistorsMost ⌝ }

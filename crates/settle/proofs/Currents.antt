@@ -91,4 +91,3 @@ module _ (c : WorkedCard) (nodes : List ℕ) (volts : List ℤ) where
   pub takes-small : (n : ℕ) → natAbs (backFlow c nodes volts n) ≤ flowMost
   unfolding backFlow
   takes-small n = rw (abs-neg (flow c nodes volts n)) (small-flow n)
-
