@@ -43,7 +43,8 @@ use Rattle.model.specs.Model.{lookedOf, showed, showedOf, mayLoad, mayPl
 use Rattle.model.specs.Model.{answered, boardAfter, Reached}
 use Rattle.model.specs.inner.Sums.{placeGives, totalsOf}
 use Rattle.model.specs.inner.Sized.{Sized}
-use Rattle.model.proofs.Lists.{each-set, each-replicate, first-passes, found-is, none-of, stands, padded-long}
+use Rattle.places.proofs.Scans.{none-of}
+use Rattle.model.proofs.Lists.{each-set, each-replicate, first-passes, found-is, stands, padded-long}
 use Rattle.model.proofs.NodeSums.{sum-same, totals-count}
 use Rattle.model.proofs.Gains.{roles-same, totals-settled, totals-put, totals-taken}
 use Rattle.model.proofs.Verdicts.{loads, places, moves, lifts, withdraws, on-node}

@@ -46,19 +46,6 @@ found-is most i j e = go (ltb i most) refl e
     go true p q = (cc, ltb-true i most p)
     go false p q = clash cc
 
-pub none-of : {A : Type 0} (p : A → Bool) (l : List A) (d : A) → anyOf p l ≡ false → (i : ℕ) → i < length l →
-    p (getD l i d) ≡ false
-unfolding anyOf
-none-of p [] d e i h = absurd (omega arith)
-none-of p (a ∷ rest) d e i h = go (p a) refl e i h (λ k j q. none-of p rest d k j q)
-  where
-    go : (t : Bool) → p a ≡ t → t || anyOf p rest ≡ false → (i : ℕ) → i < suc (length rest) →
-        (anyOf p rest ≡ false → (j : ℕ) → j < length rest → p (getD rest j d) ≡ false) →
-        p (getD (a ∷ rest) i d) ≡ false
-    go true q e i h next = clash cc
-    go false q e zero h next = q
-    go false q e (suc i) h next = next e i (omega arith)
-
 -- what is not the default stands in the list
 pub stands : {A : Type 0} (key : A → ℕ) (d : A) (l : List A) (i : ℕ) → key d ≡ 0 → (key (getD l i d) ≡ 0 → ⊥) →
     i < length l

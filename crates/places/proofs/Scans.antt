@@ -1,7 +1,7 @@
 -- Going through the places of a list one after the other: what is known once i of them are passed. For elements of
 -- any kind.
-use mathlib.Core.Path.{_≡_, refl, sym, _∙_}
-use mathlib.Core.Bool.{Bool, true, false, cond}
+use mathlib.Core.Path.{_≡_, refl, sym, ap, _∙_}
+use mathlib.Core.Bool.{Bool, true, false, cond, _||_}
 use mathlib.Core.List.{List, [], _∷_}
 use Prim.Native.Nat.{ℕ, zero, suc, _+_, _-_, _≤_, _<_, zero-le}
 use native.Mathlib.Nat.{zero-add}
@@ -11,6 +11,7 @@ use lib.Dec.{ltb}
 use lib.ListN.{length, getD, drop, drop-of-length-le}
 use lib.Seq.{drop-cons, ext-getD}
 use borrow.Author.Tests.{ltb-false, lt-ltb}
+use Rattle.refusal.specs.Clash.{clash}
 use Rattle.branch.specs.laws.Filled.{Filled}
 use Rattle.deck.specs.Stretch.{stretch}
 use Rattle.deck.specs.laws.Ups.{length-up, getD-up}
@@ -59,6 +60,48 @@ module _ {A : Type 0} {p : A → Bool} {l : List A} where
   unfolding anyOf
   any-nowhere {i} h s =
       let a : anyOf p (drop i l) ≡ false = rw (drop-of-length-le l h) in sym (s .rest-any ∙ a)
+
+-- whether one of the first i passes the test
+pub record AnyAmong {A : Type 0} (p : A → Bool) (l : List A) (i : ℕ) (b : Bool) : Type 0 where
+  pub with-rest : anyOf p l ≡ b || anyOf p (drop i l)
+
+module _ {A : Type 0} {p : A → Bool} {l : List A} where
+  pub among-none : AnyAmong p l 0 false
+  among-none = record { with-rest = refl }
+
+  pub among-more : {i : ℕ} {b : Bool} (d : A) → i < length l → (c : Bool) → c ≡ p (getD l i d) → AnyAmong p l i b →
+      AnyAmong p l (i + 1) (b || c)
+  unfolding anyOf
+  among-more {i} {b} d h c e s =
+      let a : anyOf p (drop i l) ≡ c || anyOf p (drop (suc i) l) = rw (drop-cons l i d h, e) in
+      record { with-rest = rw add-one (s .with-rest ∙ ap (λ (x : Bool). b || x) a ∙ joined b c _) }
+    where
+      joined : (x y z : Bool) → x || (y || z) ≡ (x || y) || z
+      joined true y z = refl
+      joined false y z = refl
+
+  pub among-all : {i : ℕ} {b : Bool} → length l ≤ i → AnyAmong p l i b → b ≡ anyOf p l
+  unfolding anyOf
+  among-all {i} {b} h s =
+      let a : anyOf p (drop i l) ≡ false = rw (drop-of-length-le l h) in
+      sym (s .with-rest ∙ ap (λ (x : Bool). b || x) a ∙ alone b)
+    where
+      alone : (x : Bool) → x || false ≡ x
+      alone true = refl
+      alone false = refl
+
+pub none-of : {A : Type 0} (p : A → Bool) (l : List A) (d : A) → anyOf p l ≡ false → (i : ℕ) → i < length l →
+    p (getD l i d) ≡ false
+unfolding anyOf
+none-of p [] d e i h = absurd (omega arith)
+none-of p (a ∷ rest) d e i h = go (p a) refl e i h (λ k j q. none-of p rest d k j q)
+  where
+    go : (t : Bool) → p a ≡ t → t || anyOf p rest ≡ false → (i : ℕ) → i < suc (length rest) →
+        (anyOf p rest ≡ false → (j : ℕ) → j < length rest → p (getD rest j d) ≡ false) →
+        p (getD (a ∷ rest) i d) ≡ false
+    go true q e i h next = clash cc
+    go false q e zero h next = q
+    go false q e (suc i) h next = next e i (omega arith)
 
 first-most : {A : Type 0} (p : A → Bool) (l : List A) → first p l ≤ length l
 unfolding first

@@ -1,15 +1,16 @@
 // Nodes and names by place; and sets of places, one bit each: which transistors name a node.
 ghost use mathlib.Core.Path.{_≡_};
-ghost use mathlib.Core.Bool.{cond};
+ghost use mathlib.Core.Bool.{cond, _||_};
 ghost use Prim.Native.Nat.{_+_, _*_, _^_, _≤_, _<_};
 ghost use lib.Count.{trailingZeros};
 ghost use Rattle.name.specs.Name.{nameLength};
 ghost use Rattle.terms.specs.Rows.{roles};
 ghost use Rattle.deck.specs.Stretch.{stretch, written};
+ghost use Rattle.given.specs.Lists.{anyOf};
 ghost use Rattle.places.specs.Counts.{cardsMost, transistorsMost};
 ghost use Rattle.places.specs.Finding.{names};
 ghost use Rattle.places.specs.inner.Parts.{NextIn};
-ghost use Rattle.places.specs.inner.Flat.{standsAtIn, namingIn};
+ghost use Rattle.places.specs.inner.Flat.{below, isTaken, standsAtIn, namingIn};
 use branch::ROLES;
 use places::ALL_NAMES;
 use places::ALL_NODES;
@@ -47,18 +48,25 @@ pub fn put_name(names: &mut [u8; ALL_NAMES], i: usize, own: &[u8; name::LENGTH])
     }
 }
 
-// Whether one of the nodes at a place is n.
+fn either(a: bool, b: bool) -> bool
+    ensures { λ r. ⌜ r ≡ a || b ⌝ }
+{
+    if a { true } else { b }
+}
+
+// Whether one of the nodes at a place is n. Every node is looked at: without a way out the compiler needs no branches.
 fn has(nodes: &[u8; ALL_NODES], i: usize, n: u8) -> bool
     requires { ⌜ i < transistorsMost ⌝ }
     ensures { λ r. ⌜ r ≡ names n (stretch 0 (now (nodes .entry)) (roles * i) roles) ⌝ }
 {
     let at = ROLES * i;
+    let mut found = false;
     for k in 0..ROLES {
-        if nodes[at + k] == n {
-            return true;
-        }
+        let m = nodes[at + k];
+        let one = either(found, m == n);
+        found = one;
     }
-    false
+    found
 }
 
 // Whether a transistor stands at a place and names the node.
@@ -84,9 +92,25 @@ fn with(set: u64, i: usize, is: bool) -> u64
     set
 }
 
+// Whether anybody stands.
+fn any_standing(issues: &[u32; TRANSISTORS]) -> bool
+    ensures { λ r. ⌜ r ≡ anyOf (isTaken (now (issues .entry))) (below transistorsMost) ⌝ }
+{
+    let mut found = false;
+    for i in 0..TRANSISTORS {
+        let issue = issues[i];
+        let one = either(found, issue != 0);
+        found = one;
+    }
+    found
+}
+
 pub fn naming(issues: &[u32; TRANSISTORS], nodes: &[u8; ALL_NODES], n: u8) -> u64
     ensures { λ r. ⌜ r ≡ namingIn n (now (issues .entry)) (now (nodes .entry)) ⌝ }
 {
+    if !any_standing(issues) {
+        return 0;
+    }
     let mut set = 0u64;
     for i in 0..TRANSISTORS {
         let is = is_at(issues, nodes, i, n);

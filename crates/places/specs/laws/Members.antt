@@ -93,3 +93,9 @@ unique-next {set} {from} {i} {j} a b = go (ltb i j) refl (ltb j i) refl
     go true e u f = absurd (not-between a b (ltb-true i j e))
     go false e true f = absurd (not-between b a (ltb-true j i f))
     go false e false f = let x = ltb-false i j e in let y = ltb-false j i f in omega arith
+
+-- where nobody passes the test the set is empty
+pub set-empty : (p : ℕ → Bool) (k : ℕ) → ((i : ℕ) → i < k → p i ≡ false) → 0 ≡ setOf p k
+unfolding setOf
+set-empty p zero h = refl
+set-empty p (suc k) h = rw (h k (omega arith)) (let e = set-empty p k (λ i q. h i (omega arith)) in omega arith)
