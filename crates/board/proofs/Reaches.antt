@@ -23,7 +23,8 @@ unfolding boardAfter
 one-more c k =
     record { calls = c ∷ k .calls; leaves = ap (λ (b : model.Board). answered b c .board) (k .leaves) }
 
-gives : {b : model.Board} {r : Answered} {a : model.Answered} (c : Call) → Reached b → r ≡ givenAs a → a ≡ answered b c →
+gives : {b : model.Board} {r : Answered} {a : model.Answered} (c : Call) → Reached b → r ≡ givenAs a → a ≡ answered b
+    c →
     Allows (answered b c) r
 gives {b} c k e d =
     let whole = e ∙ ap givenAs d in

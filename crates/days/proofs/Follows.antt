@@ -238,7 +238,8 @@ module _ (b : Board) (d : Desk) (g : Invariant b) (o : Orderly d) (s : Stands b 
   pub totals-follow : (n : ℕ) → n < nodesMost → getD (b .totals) n (pos 0) ≡ total d n
   unfolding total placeGives
   totals-follow n h =
-      ap (λ (l : List ℤ). getD l n (pos 0)) (g .holds .balanced) ∙ totals-at (cardsOf b) (transistorsOf b) (voltsOf b) n h
+      ap (λ (l : List ℤ). getD l n (pos 0)) (g .holds .balanced) ∙ totals-at (cardsOf b) (transistorsOf b) (voltsOf b)
+      n h
       ∙ sym
       (sum-occupied (λ (t : Transistor). t .issue) (standingOf (cardsOf b))
       (λ (t : Standing). flow (t .worked) (t .nodes) (voltsOf b) n) (transistorsOf b))
@@ -455,7 +456,8 @@ module _ (b : Board) (d : Desk) (g : Invariant b) (o : Orderly d) (s : Stands b 
   agree-withdraw n none e = rw (← (order-withdraw d n), card-by b d g o s (issueOf n), e)
   agree-withdraw n (some i) e =
       let a = at-card (issueOf n) (cardsOf b) i (g .holds .cards-long) e in
-      let used : anyOf (standsOn (issueOf n)) (transistorsOf b) ≡ anyOf (λ (t : Standing). eqb (t .card) (heldAt b i .issue)) (d .standing) =
+      let used : anyOf (standsOn (issueOf n)) (transistorsOf b) ≡ anyOf (λ (t : Standing). eqb (t .card)
+      (heldAt b i .issue)) (d .standing) =
       sym (any-on b d g o s (issueOf n))
       ∙ ap (λ (k : ℕ). anyOf (λ (t : Standing). eqb (t .card) k) (d .standing)) (sym (a .issue-is)) in
       rw (← (order-withdraw d n), card-by b d g o s (issueOf n), e)

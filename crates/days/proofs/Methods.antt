@@ -77,7 +77,8 @@ fresh-follows (by-fresh κs a e p) =
 
 -- ---- a day of them
 
-pub days-follow : {calls : List Call} {b : code.Board} → Day calls b → Stands (modelOf b) (after calls) × Reached (modelOf b)
+pub days-follow : {calls : List Call} {b : code.Board} → Day calls b → Stands (modelOf b) (after calls) × Reached
+    (modelOf b)
 unfolding after
 days-follow (begun p) = fresh-follows p
 days-follow (then day p) =

@@ -134,7 +134,8 @@ take-back d o t later e h =
     (record {
       standing =
           rw (eq-eqb (t .issue) (t .issue) refl, e)
-          (without-none (λ (u : Standing). u .issue) (d .next) (d .standing) (o .standing .below (d .next) (le-refl _)));
+          (without-none (λ (u : Standing). u .issue) (d .next) (d .standing) (o .standing .below (d .next)
+          (le-refl _)));
       volts = refl;
     })
 

@@ -148,7 +148,9 @@ module _ {A B : Type 0} (key : A → ℕ) (f : A → B) (id : B → ℕ) (knows 
       shift i true = refl
       shift i false = refl
 
-      later : mapFound (λ (i : ℕ). f (getD rest i d)) (foundAt (length rest) (first (λ (a : A). eqb (key a) n) rest)) ≡ mapFound (λ (i : ℕ). f (getD (a ∷ rest) i d)) (foundAt (suc (length rest)) (suc (first (λ (a : A). eqb (key a) n) rest)))
+      later : mapFound (λ (i : ℕ). f (getD rest i d)) (foundAt (length rest) (first (λ (a : A). eqb (key a) n) rest))
+          ≡ mapFound (λ (i : ℕ). f (getD (a ∷ rest) i d)) (foundAt (suc (length rest))
+          (suc (first (λ (a : A). eqb (key a) n) rest)))
       later =
           let i = first (λ (a : A). eqb (key a) n) rest in
           rw (leb·suc-suc (suc i) (length rest)) (shift i (ltb i (length rest)))

@@ -108,7 +108,8 @@ unfolding rowsGive
 sum-rows [] nodes ticks h = sum-zeros (λ (n : ℕ). pos 0) nodesMost 0 (λ n q. refl)
 sum-rows (r ∷ rs) nodes [] h = sum-zeros (λ (n : ℕ). pos 0) nodesMost 0 (λ n q. refl)
 sum-rows (r ∷ rs) nodes (x ∷ xs) h =
-    sum-both (λ (n : ℕ). atNode (getD nodes (roleIndex (r .from)) 0) n x -ℤ atNode (getD nodes (roleIndex (r .to)) 0) n x)
+    sum-both (λ (n : ℕ). atNode (getD nodes (roleIndex (r .from)) 0) n x -ℤ atNode (getD nodes (roleIndex (r .to)) 0)
+    n x)
     (λ (n : ℕ). rowsGive rs nodes xs n) nodesMost 0
     ∙ rw (
       sum-ends (getD nodes (roleIndex (r .from)) 0) (getD nodes (roleIndex (r .to)) 0) nodesMost x (h _) (h _),

@@ -113,7 +113,8 @@ module _ (cards : List Card) (volts : List ℕ) (shifts : List Shift) (n : ℕ) 
     where
       go : (w : Bool) → touched shifts t ≡ w → (u : Bool) → eqb (t .issue) 0 ≡ u →
           cond w
-          (changeBy (workedAt cards (t .seat)) (t .nodes) (map givenBack volts) (map givenBack (shifted volts shifts)) n)
+          (changeBy (workedAt cards (t .seat)) (t .nodes) (map givenBack volts) (map givenBack (shifted volts shifts))
+          n)
           (pos 0) ≡ negℤ (before t) +ℤ after t
       go true p true q = absurd (touched-stands shifts t p (eqb-true _ _ q))
       go true p false q = rw q
@@ -195,7 +196,8 @@ module _ (cards : List Card) (ts : List Transistor) (volts : List ℕ) (shifts :
   pub totals-settled : (k : ℕ) → length ts ≡ k →
       withMore totals (gainOf k) ≡ totalsOf cards ts (map givenBack (shifted volts shifts))
   totals-settled k h =
-      are-totals cards ts (map givenBack (shifted volts shifts)) (withMore totals (gainOf k)) (more-long totals (gainOf k))
+      are-totals cards ts (map givenBack (shifted volts shifts)) (withMore totals (gainOf k)) (more-long totals
+      (gainOf k))
       (λ n b. more-at totals (gainOf k) n b ∙ sum-at n b k (omega arith)
       ∙ midway-all (after cards volts shifts n) (before cards volts shifts n) k ts h)
 

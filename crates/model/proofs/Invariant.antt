@@ -37,7 +37,8 @@ use Rattle.model.specs.Counts.{nodesMost, cardsMost, transistorsMost}
 use Rattle.model.specs.Verdict.{lookVerdict, nodeVerdict}
 use Rattle.model.specs.Desk.{Call, load, place, move, lift, withdraw, lookUp, node}
 use Rattle.model.specs.Model.{cardsOf, transistorsOf, transistorAt, workedOn, Levels, voltsOf, shifted, touched}
-use Rattle.model.specs.Model.{Shift, oneShift, firstOver, settled, leveled, holding, standing, freshBoard, loaded, loadedOf, newcomer}
+use Rattle.model.specs.Model.{Shift, oneShift, firstOver, settled, leveled, holding, standing, freshBoard}
+use Rattle.model.specs.Model.{loaded, loadedOf, newcomer}
 use Rattle.model.specs.Model.{placed, placedOf, moved, movedOf, lifted, liftedOf, withdrawn, withdrawnOf, looked}
 use Rattle.model.specs.Model.{lookedOf, showed, showedOf, mayLoad, mayPlace, mayMove, mayLift, mayWithdraw}
 use Rattle.model.specs.Model.{answered, boardAfter, Reached}
@@ -107,7 +108,8 @@ module _ (cards : List Card) (p : ℕ) (c : Card) (volts : List ℤ) where
       totalsOf cards ts volts ≡ totalsOf (set cards p c) ts volts
   unfolding totalsOf
   totals-keep ts h =
-      up-same (λ (n : ℕ). sumOver (placeGives cards volts n) ts) (λ (n : ℕ). sumOver (placeGives (set cards p c) volts n) ts)
+      up-same (λ (n : ℕ). sumOver (placeGives cards volts n) ts) (λ (n : ℕ). sumOver (placeGives (set cards p c) volts
+      n) ts)
       nodesMost 0 (λ n k. same (0 + n))
     where
       same : (n : ℕ) → sumOver (placeGives cards volts n) ts ≡ sumOver (placeGives (set cards p c) volts n) ts
@@ -129,7 +131,8 @@ totals-fresh : (cards : List Card) (volts : List ℤ) →
 unfolding totalsOf
 totals-fresh cards volts =
     sym
-    (up-all (λ (n : ℕ). sumOver (placeGives cards volts n) (replicate transistorsMost emptyTransistor)) (pos 0) nodesMost 0
+    (up-all (λ (n : ℕ). sumOver (placeGives cards volts n) (replicate transistorsMost emptyTransistor)) (pos 0)
+    nodesMost 0
     (λ n. totals-none cards volts n transistorsMost))
 
 sized-fresh : Sized freshBoard
@@ -159,7 +162,8 @@ holds-fresh =
       begun = lit≤ tt;
       transistor =
           λ i h. absurd
-          (h (each-replicate (λ (t : Transistor). t .issue ≡ 0) transistorsMost i emptyTransistor noTransistor refl refl));
+          (h (each-replicate (λ (t : Transistor). t .issue ≡ 0) transistorsMost i emptyTransistor noTransistor refl
+          refl));
       ready = λ i h. absurd (h (each-replicate (λ (c : Card). c .issue ≡ 0) cardsMost i emptyCard noCard refl refl));
       balanced = totals-fresh (replicate cardsMost emptyCard) (map givenBack (replicate nodesMost (keptAs (pos 0))));
     }
@@ -251,7 +255,8 @@ module _ {cards : List Card} {ts : List Transistor} {volts : List ℕ} {totals :
   pub free-away : leb cardsMost (freeCard cards) ≡ false → Away ts (freeCard cards)
   free-away e i h q =
       let below : freeCard cards < length cards = rw (g .cards-long) (free-below e) in
-      let empty : getD cards (freeCard cards) noCard .issue ≡ 0 = eqb-true _ 0 (first-passes (isCard 0) noCard cards below) in
+      let empty : getD cards (freeCard cards) noCard .issue ≡ 0 = eqb-true _ 0 (first-passes (isCard 0) noCard cards
+      below) in
       g .transistor i h .card-given
       (sym (g .transistor i h .card-there) ∙ ap (λ (j : ℕ). getD cards j noCard .issue) q ∙ empty)
 

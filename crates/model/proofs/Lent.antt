@@ -37,12 +37,14 @@ module _ (b : Board) where
       getD (cardsOf b) s noCard .ready ≡ readyAt (b .numbers) (b .powers) (b .ticks) (b .switches) s
   unfolding cardsOf
   ready-there s h =
-      ap (λ (c : Card). c .ready) (card-there (b .held) (b .names) (b .numbers) (b .powers) (b .ticks) (b .switches) s h)
+      ap (λ (c : Card). c .ready) (card-there (b .held) (b .names) (b .numbers) (b .powers) (b .ticks) (b .switches) s
+      h)
 
   pub issue-there : (s : ℕ) → s < cardsMost → getD (cardsOf b) s noCard .issue ≡ getD (b .held) s 0
   unfolding cardsOf
   issue-there s h =
-      ap (λ (c : Card). c .issue) (card-there (b .held) (b .names) (b .numbers) (b .powers) (b .ticks) (b .switches) s h)
+      ap (λ (c : Card). c .issue) (card-there (b .held) (b .names) (b .numbers) (b .powers) (b .ticks) (b .switches) s
+      h)
 
   pub stands-there : (i : ℕ) → i < transistorsMost →
       transistorAt b i ≡ transistorIn (b .issues) (b .cards) (b .seats) (b .nodes) i

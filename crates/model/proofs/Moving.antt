@@ -99,7 +99,8 @@ module _ (b : Board) (k : Reached b) (z v : ℤ) (n x : ℕ) (ne : n ≡ nodeOf 
 
   gained-is : (m j : ℕ) → j ≤ transistorsMost →
       gained (deckIn b) (b .seats) (b .nodes) places (b .volts) will j m ≡
-      changes (λ (i : ℕ). touched shifts (transistorAt b i)) (workedOn b) (λ (i : ℕ). transistorAt b i .nodes) (voltsOf b)
+      changes (λ (i : ℕ). touched shifts (transistorAt b i)) (workedOn b) (λ (i : ℕ). transistorAt b i .nodes)
+      (voltsOf b)
       (map givenBack (shifted (b .volts) shifts)) j m
   gained-is m j h =
       rw will-is
@@ -120,7 +121,8 @@ module _ (b : Board) (k : Reached b) (z v : ℤ) (n x : ℕ) (ne : n ≡ nodeOf 
             };
         able =
             λ i h m. let t = sym (worked-is i h) ∙ m in
-            rw (nodes-there b i h, ← (ap (λ (u : Transistor). u .seat) (stands-there b i h))) (able-at b g i h (stands i t));
+            rw (nodes-there b i h, ← (ap (λ (u : Transistor). u .seat) (stands-there b i h))) (able-at b g i h
+            (stands i t));
         long = totals-long g;
         room =
             λ j m h q. rw (gained-is m j h)
@@ -135,8 +137,10 @@ module _ (b : Board) (k : Reached b) (z v : ℤ) (n x : ℕ) (ne : n ≡ nodeOf 
       }
 
   module _ {first : First} {l : List ℤ}
-      (fe : first ≡ firstBelow (member places) (λ (i : ℕ). getD (b .issues) i 0) (overOf (deckIn b) (b .seats) (b .nodes) will) transistorsMost)
-      (more : More nodesMost (b .totals) l (gained (deckIn b) (b .seats) (b .nodes) places (b .volts) will transistorsMost)) where
+      (fe : first ≡ firstBelow (member places) (λ (i : ℕ). getD (b .issues) i 0) (overOf (deckIn b) (b .seats)
+      (b .nodes) will) transistorsMost)
+      (more : More nodesMost (b .totals) l (gained (deckIn b) (b .seats) (b .nodes) places (b .volts) will
+      transistorsMost)) where
     first-is : first ≡ firstOver b shifts
     first-is =
         fe

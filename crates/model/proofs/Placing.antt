@@ -113,7 +113,8 @@ module _ (b : Board) (k : Reached b) (card : ℤ) (nodes : List ℤ) (long : len
   may-is = then-lastly place joins _ nodes _ _
 
   pub place-stops : (f : Refusal) → w ≡ Stop f →
-      LeavesPlaces (placedOf b card nodes) (Refused f) (b .issues) (b .cards) (b .seats) (b .nodes) (b .totals) (b .next)
+      LeavesPlaces (placedOf b card nodes) (Refused f) (b .issues) (b .cards) (b .seats) (b .nodes) (b .totals)
+      (b .next)
   unfolding placedOf
   place-stops f e =
       places-stay {b = b} (placedOf b card nodes)
@@ -166,7 +167,8 @@ module _ (b : Board) (k : Reached b) (card : ℤ) (nodes : List ℤ) (long : len
       over-is = rw (oe, same-card, on-is)
 
       pub place-over : isOver over ≡ true →
-          LeavesPlaces (placedOf b card nodes) (Refused Overload) (b .issues) (b .cards) (b .seats) (b .nodes) (b .totals)
+          LeavesPlaces (placedOf b card nodes) (Refused Overload) (b .issues) (b .cards) (b .seats) (b .nodes)
+          (b .totals)
           (b .next)
       unfolding placedOf
       place-over o = places-stay {b = b} (placedOf b card nodes) (rw (may-is, found .0, ← over-is, o))
@@ -174,7 +176,8 @@ module _ (b : Board) (k : Reached b) (card : ℤ) (nodes : List ℤ) (long : len
       pub places-it : isOver over ≡ false → {l : List ℤ} →
           More nodesMost (b .totals) l (flow (cardOf (deckIn b) i) on (voltsOf b)) →
           LeavesPlaces (placedOf b card nodes) (Issue (b .next)) (set (b .issues) free (b .next))
-          (set (b .cards) free (getD (b .held) i 0)) (set (b .seats) free i) (written 0 (b .nodes) (roles * free) on roles) l
+          (set (b .cards) free (getD (b .held) i 0)) (set (b .seats) free i) (written 0 (b .nodes) (roles * free) on
+          roles) l
           (b .next + 1)
       unfolding placedOf
       places-it o {l} more =
@@ -184,7 +187,8 @@ module _ (b : Board) (k : Reached b) (card : ℤ) (nodes : List ℤ) (long : len
             issues-are = ap (λ (j : ℕ). set (b .issues) j (b .next)) (found .1);
             cards-are =
                 ap (λ (j : ℕ). set (b .cards) j (getD (b .held) i 0)) (found .1)
-                ∙ ap (λ (n : ℕ). set (b .cards) (freeTransistor (transistorsOf b)) n) (sym (issue-there b i place-there));
+                ∙ ap (λ (n : ℕ). set (b .cards) (freeTransistor (transistorsOf b)) n)
+                (sym (issue-there b i place-there));
             seats-are = ap (λ (j : ℕ). set (b .seats) j i) (found .1);
             nodes-are =
                 ap (λ (j : ℕ). written 0 (b .nodes) (roles * j) on roles) (found .1)
@@ -211,7 +215,8 @@ module _ (b : Board) (k : Reached b) (z : ℤ) where
 
   module _ (i : ℕ) (e : numberPlace transistorsMost (issueOf z) (b .issues) ≡ some i) where
     at-there : AtTransistor (issueOf z) (transistorsOf b) i
-    at-there = at-transistor (issueOf z) (transistorsOf b) i (invariant k .holds .transistors-long) (same-transistor ∙ e)
+    at-there = at-transistor (issueOf z) (transistorsOf b) i (invariant k .holds .transistors-long) (same-transistor ∙
+        e)
 
     pub lift-there : i < transistorsMost
     lift-there = subst (λ (j : ℕ). i < j) (invariant k .holds .transistors-long) (at-there .below)
@@ -222,7 +227,8 @@ module _ (b : Board) (k : Reached b) (z : ℤ) where
     same-seat : getD (b .seats) i 0 ≡ transistorAt b i .seat
     same-seat = sym (ap (λ (t : Transistor). t .seat) (stands-there b i lift-there))
 
-    pub lift-works : (table on : List ℕ) (s : ℕ) → table ≡ entries → on ≡ nodesAt (b .nodes) i → s ≡ getD (b .seats) i 0 →
+    pub lift-works : (table on : List ℕ) (s : ℕ) → table ≡ entries → on ≡ nodesAt (b .nodes) i → s ≡ getD (b .seats) i
+        0 →
         Workable table (deckIn b) s on (b .volts) × Room nodesMost roomMost (b .totals)
     lift-works table on s t o p = (
       record {
@@ -258,7 +264,8 @@ module _ (b : Board) (k : Reached b) (z : ℤ) where
 
 -- ---- the same of arrays that are the board's
 
-module _ {b : Board} {numbers powers ticks : List ℕ} {switches : List Bool} {held issues cards seats nodes volts : List ℕ}
+module _ {b : Board} {numbers powers ticks : List ℕ} {switches : List Bool} {held issues cards seats nodes volts :
+    List ℕ}
     {totals : List ℤ} {next : ℕ}
     (l : LendsPlaces b numbers powers ticks switches held issues cards seats nodes volts totals next) (r : Reached b)
     (card : ℤ) (given : List ℤ) (long : length given ≡ roles) {on : List ℕ} (on-are : on ≡ map nodeOf given) {w : Way}
@@ -272,7 +279,15 @@ module _ {b : Board} {numbers powers ticks : List ℕ} {switches : List Bool} {h
   pub lent-stops : (f : Refusal) → w ≡ Stop f →
       LeavesPlaces (placedOf b card given) (Refused f) issues cards seats nodes totals next
   lent-stops f e =
-      rw (l .lends .issues-are, l .cards-are, l .lends .seats-are, l .lends .nodes-are, l .lends .totals-are, l .next-is)
+      rw (
+        l .lends .issues-are,
+        l .cards-are,
+        l .lends .seats-are,
+        l .lends .nodes-are,
+        l .lends .totals-are,
+        l
+            .next-is,
+      )
       (place-stops b r card given long on-are own-way f e)
 
   module _ {i free : ℕ} (e : w ≡ Go i free) where
@@ -313,7 +328,15 @@ module _ {b : Board} {numbers powers ticks : List ℕ} {switches : List Bool} {h
       pub lent-over : isOver over ≡ true →
           LeavesPlaces (placedOf b card given) (Refused Overload) issues cards seats nodes totals next
       lent-over o =
-          rw (l .lends .issues-are, l .cards-are, l .lends .seats-are, l .lends .nodes-are, l .lends .totals-are, l .next-is)
+          rw (
+            l .lends .issues-are,
+            l .cards-are,
+            l .lends .seats-are,
+            l .lends .nodes-are,
+            l .lends .totals-are,
+            l
+                .next-is,
+          )
           (place-over b r card given long on-are own-way e own-over o)
 
       pub lent-places : isOver over ≡ false → {t : List ℤ} →
@@ -342,7 +365,8 @@ module _ {b : Board} {numbers powers ticks : List ℕ} {switches : List Bool} {i
       LeavesPlaces (liftedOf b z) (Refused Unknown) issues cards seats nodes totals (b .next)
   lent-unknown c h =
       rw (l .issues-are, c, l .seats-are, l .nodes-are, l .totals-are)
-      (lift-unknown b r z (rw (← (l .issues-are)) (not-there transistorsMost (firstAt transistorsMost (issueOf z) issues) (eqb (issueOf z) 0) h)))
+      (lift-unknown b r z (rw (← (l .issues-are)) (not-there transistorsMost (firstAt transistorsMost (issueOf z)
+      issues) (eqb (issueOf z) 0) h)))
 
   module _ (i : ℕ) (e : numberPlace transistorsMost (issueOf z) issues ≡ some i) where
     own-place : numberPlace transistorsMost (issueOf z) (b .issues) ≡ some i

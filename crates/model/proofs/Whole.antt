@@ -28,7 +28,8 @@ own-lends b =
     }
 
 pub own-lends-places : (b : Board) →
-    LendsPlaces b (b .numbers) (b .powers) (b .ticks) (b .switches) (b .held) (b .issues) (b .cards) (b .seats) (b .nodes)
+    LendsPlaces b (b .numbers) (b .powers) (b .ticks) (b .switches) (b .held) (b .issues) (b .cards) (b .seats)
+    (b .nodes)
     (b .volts) (b .totals) (b .next)
 own-lends-places b = record { lends = own-lends b; held-are = refl; cards-are = refl; next-is = refl }
 

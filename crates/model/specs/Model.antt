@@ -19,7 +19,8 @@ use Rattle.totals.specs.Flow.{flow, overAt, overloads, withMore}
 use Rattle.given.specs.Lists.{anyOf}
 use Rattle.given.specs.Arguments.{issueOf, usedUp}
 use Rattle.deck.specs.Stretch.{written}
-use Rattle.deck.specs.Layout.{numbersEach, powersEach, ticksEach, switchesEach, numbersOf, powersOf, ticksOf, switchesOf}
+use Rattle.deck.specs.Layout.{numbersEach, powersEach, ticksEach, switchesEach, numbersOf, powersOf, ticksOf}
+use Rattle.deck.specs.Layout.{switchesOf}
 use Rattle.places.specs.Gathered.{Card, Transistor, cardsIn, transistorsIn, emptyCard, emptyTransistor, noCard}
 use Rattle.places.specs.Gathered.{noTransistor, workedAt}
 use Rattle.places.specs.Finding.{cardPlace, transistorPlace, freeCard, freeTransistor, standsOn, standsAt, highestAt}

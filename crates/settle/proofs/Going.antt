@@ -76,8 +76,12 @@ module _ (d : Deck) (issues seats nodes : List ℕ) (set : ℕ) (was will : List
       record {
         most = next .most;
         is = next .is;
-        gains = record { long = more .long; at = λ n b. more .at n b ∙ ap (λ (z : ℤ). getD l₀ n (pos 0) +ℤ z) (same n) };
-        first-is = told ∙ sym (rw (sym sum) (first-past (member set) _ _ from (i - from) (λ j p q. next .between j p (rw sum at q))));
+        gains = record {
+          long = more .long;
+          at = λ n b. more .at n b ∙ ap (λ (z : ℤ). getD l₀ n (pos 0) +ℤ z) (same n);
+        };
+        first-is = told ∙ sym (rw (sym sum) (first-past (member set) _ _ from (i - from) (λ j p q. next .between j p
+            (rw sum at q))));
       }
     where
       reach : from ≤ i
@@ -95,7 +99,8 @@ module _ (d : Deck) (issues seats nodes : List ℕ) (set : ℕ) (was will : List
           sym
           (rw (sym sum)
           (sum-past _ from (i - from)
-          (λ j p q. ap (λ (t : Bool). cond t (changeBy (cardAt d seats j) (nodesAt nodes j) (map givenBack was) (map givenBack will) n) (pos 0))
+          (λ j p q. ap (λ (t : Bool). cond t (changeBy (cardAt d seats j) (nodesAt nodes j) (map givenBack was)
+          (map givenBack will) n) (pos 0))
           (next .between j p (rw sum at q)))))
 
   -- ---- the first place

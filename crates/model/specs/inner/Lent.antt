@@ -36,7 +36,8 @@ pub record LeavesLevels (a : Answered) (answer : Answer) (volts : List ℕ) (tot
   pub totals-are : totals ≡ a .board .totals
 
 -- what placing and lifting leave: an answer, the places of transistors, totals and the next number
-pub record LeavesPlaces (a : Answered) (answer : Answer) (issues cards seats nodes : List ℕ) (totals : List ℤ) (next : ℕ)
+pub record LeavesPlaces (a : Answered) (answer : Answer) (issues cards seats nodes : List ℕ) (totals : List ℤ)
+    (next : ℕ)
     : Type 0 where
   pub answer-is : answer ≡ a .answer
   pub issues-are : issues ≡ a .board .issues

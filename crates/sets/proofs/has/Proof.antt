@@ -27,8 +27,11 @@ loop-again c =
     let a = l .before .args in
     let at = roles * a .i in
     let h = length-stretch 0 (a .nodes .now) at roles in
-    let e = getD-stretch 0 (a .nodes .now) at roles (l .loop .k) (omega arith) in
-    (omega arith, rw (c .either .ensures) (among-more 0 (omega arith) _ (ap (λ (m : ℕ). eqb m (a .n)) (sym e)) (l .loop .inv .1)))
+    let e = getD-stretch 0 (a .nodes .now) at roles (l .loop .k) (omega arith) in (
+      omega arith,
+      rw (c .either .ensures) (among-more 0 (omega arith) _ (ap (λ (m : ℕ). eqb m (a .n)) (sym e))
+          (l .loop .inv .1)),
+    )
 
 returns : tie.Need-returns Inv-loop μ-loop
 returns c =

@@ -33,7 +33,8 @@ nobody-there : (n : ℕ) (issues nodes : List ℕ) → anyOf (isTaken issues) (b
     0 ≡ namingIn n issues nodes
 nobody-there n issues nodes e =
     set-empty (standsAtIn n issues nodes) transistorsMost
-    (λ i h. let free = none-of (isTaken issues) (below transistorsMost) 0 e i (rw (length-up (λ (j : ℕ). j) transistorsMost 0) h) in
+    (λ i h. let free = none-of (isTaken issues) (below transistorsMost) 0 e i (rw (length-up (λ (j : ℕ). j)
+    transistorsMost 0) h) in
     let empty = rw (below-at transistorsMost i h) at free in
     let none : eqb (getD issues i 0) 0 ≡ true = not-false _ empty in rw none)
 

@@ -30,7 +30,8 @@ returns c =
     let s = c .before .before in
     let t = s .before .before in
     let a = t .before .before .args in
-    keeps (a .a) (a .issue) (a .over) (sym (t .before .is-over .ensures) ∙ t .if1 .taken) (sym (s .before .is-over2 .ensures) ∙ s .if2 .taken)
+    keeps (a .a) (a .issue) (a .over) (sym (t .before .is-over .ensures) ∙ t .if1 .taken) (sym (s .before .is-over2
+    .ensures) ∙ s .if2 .taken)
     (c .if3 .taken)
 
 returns-2 : tie.Need-returns-2
@@ -45,7 +46,8 @@ returns-3 : tie.Need-returns-3
 returns-3 c =
     let t = c .before .before in
     let a = t .before .before .args in
-    alone (a .a) (a .issue) (a .over) (sym (t .before .is-over .ensures) ∙ t .if1 .taken) (sym (c .before .is-over2 .ensures) ∙ c .if2 .left)
+    alone (a .a) (a .issue) (a .over) (sym (t .before .is-over .ensures) ∙ t .if1 .taken) (sym (c .before .is-over2
+    .ensures) ∙ c .if2 .left)
 
 returns-4 : tie.Need-returns-4
 returns-4 c =

@@ -85,7 +85,8 @@ loop-again c =
     let o = taken (p .before) in
     let n = placed (o .before) in
     let t = turn n in
-    gone-more _ _ _ _ _ _ _ _ (start t .pre) (t .loop .inv) (in-range n) (n .nodes-at .ensures) refl (o .take-out .ensures)
+    gone-more _ _ _ _ _ _ _ _ (start t .pre) (t .loop .inv) (in-range n) (n .nodes-at .ensures) refl (o .take-out
+    .ensures)
     (p .put-in .ensures .1) (p .put-in .ensures .0) (c .before .earlier-of .ensures) _ (c .next-in2 .ensures)
 
 returns : tie.Need-returns Inv-loop μ-loop

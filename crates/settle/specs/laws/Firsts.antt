@@ -18,7 +18,8 @@ earlier-quiet : (a : First) (issue : ℕ) (over : Over) → isOver (earlier a is
 earlier-quiet a issue over e = go (isOver over) refl e
   where
     inner : (u : Bool) → isOver over ≡ true →
-        isOver (cond u a (record { issue = issue; over = over }) .over) ≡ false → (u ≡ isOver (a .over) && leb (a .issue) issue) →
+        isOver (cond u a (record { issue = issue; over = over }) .over) ≡ false → (u ≡ isOver (a .over) && leb
+        (a .issue) issue) →
         (isOver (a .over) ≡ false) × (isOver over ≡ false)
     inner true o f w = let q = held (isOver (a .over)) w f in (f, clash cc)
       where
@@ -28,7 +29,8 @@ earlier-quiet a issue over e = go (isOver over) refl e
     inner false o f w = clash cc
 
     go : (t : Bool) → isOver over ≡ t →
-        isOver (cond t (cond (isOver (a .over) && leb (a .issue) issue) a (record { issue = issue; over = over })) a .over)
+        isOver (cond t (cond (isOver (a .over) && leb (a .issue) issue) a (record { issue = issue; over = over })) a
+        .over)
         ≡ false → (isOver (a .over) ≡ false) × (isOver over ≡ false)
     go true o f = inner (isOver (a .over) && leb (a .issue) issue) o f refl
     go false o f = (f, o)
@@ -38,7 +40,8 @@ earlier-over : (a : First) (issue : ℕ) (over : Over) → isOver (earlier a iss
 earlier-over a issue over e = go (isOver over) refl e
   where
     go : (t : Bool) → isOver over ≡ t →
-        isOver (cond t (cond (isOver (a .over) && leb (a .issue) issue) a (record { issue = issue; over = over })) a .over)
+        isOver (cond t (cond (isOver (a .over) && leb (a .issue) issue) a (record { issue = issue; over = over })) a
+        .over)
         ≡ true → (isOver (a .over) ≡ true) ⊎ (isOver over ≡ true)
     go true o f = inr o
     go false o f = inl f
@@ -56,9 +59,11 @@ module _ (worked : ℕ → Bool) (issue : ℕ → ℕ) (over : ℕ → Over) whe
           ≡ false → (u : Bool) → eqb i k ≡ u →
           (isOver (firstBelow worked issue over k .over) ≡ false → i < k → worked i ≡ true → isOver (over i) ≡ false) →
           isOver (over i) ≡ false
-      go true p f true q before = rw (eqb-true i k q) (earlier-quiet (firstBelow worked issue over k) (issue k) (over k) f .1)
+      go true p f true q before = rw (eqb-true i k q) (earlier-quiet (firstBelow worked issue over k) (issue k)
+          (over k) f .1)
       go true p f false q before =
-          let n = eqb-false i k q in before (earlier-quiet (firstBelow worked issue over k) (issue k) (over k) f .0) (omega arith) w
+          let n = eqb-false i k q in before (earlier-quiet (firstBelow worked issue over k) (issue k) (over k) f .0)
+          (omega arith) w
       go false p f true q before = let z : worked i ≡ false = rw (eqb-true i k q) p in clash cc
       go false p f false q before = let n = eqb-false i k q in before f (omega arith) w
 
@@ -80,7 +85,8 @@ module _ (worked : ℕ → Bool) (issue : ℕ → ℕ) (over : ℕ → Over) whe
           (i : ℕ) × (i < k) × (worked i ≡ true) × (isOver (over i) ≡ true)) →
           (i : ℕ) × (i < suc k) × (worked i ≡ true) × (isOver (over i) ≡ true)
       go true p f before =
-          ⊎-elim (λ q. later (before q)) (λ q. (k, omega arith, p, q)) (earlier-over (firstBelow worked issue over k) (issue k) (over k) f)
+          ⊎-elim (λ q. later (before q)) (λ q. (k, omega arith, p, q)) (earlier-over (firstBelow worked issue over k)
+          (issue k) (over k) f)
       go false p f before = later (before f)
 
 -- the same places worked, each with the same number and the same overload, have the same first

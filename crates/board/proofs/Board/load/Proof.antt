@@ -58,7 +58,8 @@ returns-2 : tie.Need-returns-2
 returns-2 c =
     let a = c .before .before in
     after-load (start (a .before .before) .pre) _ _
-    (c .refused2 .ensures) (load-bad-name _ _ _ (long (a .before)) (sym (a .is-asked .ensures) ∙ not-true _ (c .before .if2 .taken)))
+    (c .refused2 .ensures) (load-bad-name _ _ _ (long (a .before)) (sym (a .is-asked .ensures) ∙ not-true _
+    (c .before .if2 .taken)))
 
 returns-3 : tie.Need-returns-3
 returns-3 c =
@@ -66,7 +67,8 @@ returns-3 c =
     let j = judged2 f in
     let l = else1 (j .before .before) in
     after-load (start (l .before) .pre) _ _
-    (c .refused4 .ensures) (load-no-room _ _ _ (long l) (is-name (j .before .before .before)) _ (is-card j) _ (f .find-card .ensures)
+    (c .refused4 .ensures) (load-no-room _ _ _ (long l) (is-name (j .before .before .before)) _ (is-card j) _
+    (f .find-card .ensures)
     (c .before .if3 .taken))
 
 returns-4 : tie.Need-returns-4
@@ -75,7 +77,8 @@ returns-4 c =
     let j = judged2 (r .before) in
     let l = else1 (j .before .before) in
     after-load (start (l .before) .pre) _ _
-    (c .refused5 .ensures) (load-used-up _ _ _ (long l) (is-name (j .before .before .before)) _ (is-card j) _ (r .before .find-card .ensures)
+    (c .refused5 .ensures) (load-used-up _ _ _ (long l) (is-name (j .before .before .before)) _ (is-card j) _
+    (r .before .find-card .ensures)
     (r .if3 .left) (c .before .if4 .taken))
 
 prepare-requires : tie.Need-prepare-requires

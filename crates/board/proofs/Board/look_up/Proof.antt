@@ -22,14 +22,16 @@ is-name c = sym (c .before .is-asked .ensures) ∙ not-false _ (c .if1 .left)
 returns : tie.Need-returns
 returns c =
     after-look (start (c .before .before) .pre) _
-    (c .refused .ensures) (look-malformed _ _ (sym (c .before .before .is-asked .ensures) ∙ not-true _ (c .before .if1 .taken)))
+    (c .refused .ensures) (look-malformed _ _ (sym (c .before .before .is-asked .ensures) ∙ not-true _ (c .before .if1
+    .taken)))
 
 returns-2 : tie.Need-returns-2
 returns-2 c =
     let h = c .before .before in
     let own = after-pad h in
     after-look (start (own .before .before) .pre) _
-    (c .refused2 .ensures) (look-not-held _ _ (is-name (own .before)) _ (own .pad .ensures) _ (h .highest .ensures) (c .before .if2 .taken))
+    (c .refused2 .ensures) (look-not-held _ _ (is-name (own .before)) _ (own .pad .ensures) _ (h .highest .ensures)
+    (c .before .if2 .taken))
 
 returns-3 : tie.Need-returns-3
 returns-3 c =

@@ -35,7 +35,8 @@ returns : tie.Need-returns
 returns c =
     let f = c .before .before in
     after-withdraw (start f .pre) _
-    (c .refused .ensures) (withdraw-unknown _ (start f .args .card) _ (number (after-issue-of f)) _ (f .card-at .ensures)
+    (c .refused .ensures) (withdraw-unknown _ (start f .args .card) _ (number (after-issue-of f)) _
+    (f .card-at .ensures)
     (c .before .if1 .taken))
 
 returns-2 : tie.Need-returns-2
@@ -43,7 +44,8 @@ returns-2 c =
     let o = c .before .before in
     let f = else1 o .before in
     after-withdraw (start f .pre) _
-    (c .refused2 .ensures) (withdraw-in-use _ (start f .args .card) _ (number (after-issue-of f)) _ (f .card-at .ensures) (else1 o .if1 .left)
+    (c .refused2 .ensures) (withdraw-in-use _ (start f .args .card) _ (number (after-issue-of f)) _
+    (f .card-at .ensures) (else1 o .if1 .left)
     (sym (o .any-on .ensures) ∙ c .before .if2 .taken))
 
 returns-3 : tie.Need-returns-3

@@ -30,7 +30,8 @@ number c = c .issue-of .ensures ∙ ap issueOf (toZ-ofZ w64 (c .before .args .tr
 
 place-is : (c : tie.After-transistor-at) →
     c .transistor-at .result ≡
-    placeOr transistorsMost (numberPlace transistorsMost (issueOf (start c .args .transistor)) (start c .args .issues .now))
+    placeOr transistorsMost (numberPlace transistorsMost (issueOf (start c .args .transistor)) (start c .args .issues
+    .now))
 place-is c =
     c .transistor-at .ensures
     ∙ ap (λ (n : ℕ). placeOr transistorsMost (numberPlace transistorsMost n (start c .args .issues .now)))
@@ -55,7 +56,8 @@ cast-s c =
     let h = c .before in
     let s = start (h .before) in
     let p = s .pre in
-    let w = leaver-works (p .2) (p .1) (s .args .transistor) _ (there h) _ _ _ refl refl refl .0 .able .there in omega arith
+    let w = leaver-works (p .2) (p .1) (s .args .transistor) _ (there h) _ _ _ refl refl refl .0 .able .there in omega
+    arith
 
 take-out-requires : tie.Need-take-out-requires
 take-out-requires c κs =
@@ -63,14 +65,16 @@ take-out-requires c κs =
     let h = held n in
     let s = start (h .before) in
     let p = s .pre in
-    leaver-works (p .2) (p .1) (s .args .transistor) _ (there h) _ _ _ (n .before .before .table .ensures) (n .nodes-at .ensures) refl
+    leaver-works (p .2) (p .1) (s .args .transistor) _ (there h) _ _ _ (n .before .before .table .ensures)
+    (n .nodes-at .ensures) refl
 
 returns-2 : tie.Need-returns-2
 returns-2 c =
     let t = c .before .before .before in
     let n = noted (t .before) in
     let h = held n in
-    λ b r l q. rw (c .put-nodes .ensures) (lent-lifts l r (start (h .before) .args .transistor) _ (there h) q (n .nodes-at .ensures) refl (t .take-out .ensures))
+    λ b r l q. rw (c .put-nodes .ensures) (lent-lifts l r (start (h .before) .args .transistor) _ (there h) q
+    (n .nodes-at .ensures) refl (t .take-out .ensures))
 
 pub lift-spec : {M : Type 1} → statement M
 lift-spec =

@@ -51,7 +51,8 @@ settle-requires c κs =
     let k = n .before in
     let f = in-range k in
     let p = start k .pre in
-    lent-settling (p .2) (start k .args .node) (start k .args .microvolts) (p .1) _ _ (number (f .before)) (f .if1 .left)
+    lent-settling (p .2) (start k .args .node) (start k .args .microvolts) (p .1) _ _ (number (f .before))
+    (f .if1 .left)
     (level k) _ (n .naming .ensures)
 
 returns-3 : tie.Need-returns-3

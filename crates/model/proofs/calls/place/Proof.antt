@@ -60,21 +60,24 @@ free-there : (c : tie.Else1) → going c .before .way2 .given .0 .1 .0 < transis
 free-there c =
     let m = went (going c) in
     let p = start m .pre in
-    lent-free (p .2) (p .1) (start m .args .card) (start m .args .roles) (long m) (asked m .nodes-of .ensures) (way-is m)
+    lent-free (p .2) (p .1) (start m .args .card) (start m .args .roles) (long m) (asked m .nodes-of .ensures)
+    (way-is m)
     (going c .before .way2 .given .1)
 
 card-there : (c : tie.Else1) → going c .before .way2 .given .0 .0 < cardsMost
 card-there c =
     let m = went (going c) in
     let p = start m .pre in
-    lent-card (p .2) (p .1) (start m .args .card) (start m .args .roles) (long m) (asked m .nodes-of .ensures) (way-is m)
+    lent-card (p .2) (p .1) (start m .args .card) (start m .args .roles) (long m) (asked m .nodes-of .ensures)
+    (way-is m)
     (going c .before .way2 .given .1)
 
 number-there : (c : tie.Else1) → start (went (going c)) .args .next .now ≤ issuesMost
 number-there c =
     let m = went (going c) in
     let p = start m .pre in
-    lent-number (p .2) (p .1) (start m .args .card) (start m .args .roles) (long m) (asked m .nodes-of .ensures) (way-is m)
+    lent-number (p .2) (p .1) (start m .args .card) (start m .args .roles) (long m) (asked m .nodes-of .ensures)
+    (way-is m)
     (going c .before .way2 .given .1)
 
 put-in-requires : tie.Need-put-in-requires
@@ -83,7 +86,8 @@ put-in-requires c κs =
     let m = went k in
     let s = start m in
     let p = s .pre in
-    lent-works (p .2) (p .1) (s .args .card) (s .args .roles) (long m) (asked m .nodes-of .ensures) (way-is m) (k .before .way2 .given .1) _
+    lent-works (p .2) (p .1) (s .args .card) (s .args .roles) (long m) (asked m .nodes-of .ensures) (way-is m)
+    (k .before .way2 .given .1) _
     (c .before .before .before .before .table .ensures)
 
 returns : tie.Need-returns
@@ -91,13 +95,15 @@ returns c =
     let t = c .before .before in
     let k = worked t in
     let m = went k in
-    λ b r l. lent-over l r (start m .args .card) _ (long m) (asked m .nodes-of .ensures) (way-is m) (k .before .way2 .given .1)
+    λ b r l. lent-over l r (start m .args .card) _ (long m) (asked m .nodes-of .ensures) (way-is m) (k .before .way2
+    .given .1)
     (t .put-in .ensures .0) (sym (c .before .is-over .ensures) ∙ c .if1 .taken)
 
 returns-2 : tie.Need-returns-2
 returns-2 c =
     let m = c .before .before .before in
-    λ b r l. lent-stops l r (start m .args .card) _ (long m) (asked m .nodes-of .ensures) (way-is m) _ (c .before .way .given .1)
+    λ b r l. lent-stops l r (start m .args .card) _ (long m) (asked m .nodes-of .ensures) (way-is m) _ (c .before .way
+    .given .1)
 
 returns-3 : tie.Need-returns-3
 returns-3 c =
@@ -106,13 +112,15 @@ returns-3 c =
     let k = worked t in
     let m = went k in
     λ b r l. rw (c .put-nodes .ensures)
-    (lent-places l r (start m .args .card) _ (long m) (asked m .nodes-of .ensures) (way-is m) (k .before .way2 .given .1)
+    (lent-places l r (start m .args .card) _ (long m) (asked m .nodes-of .ensures) (way-is m) (k .before .way2 .given
+    .1)
     (t .put-in .ensures .0) (sym (f .before .is-over .ensures) ∙ f .if1 .left) (t .put-in .ensures .1))
 
 pub place-spec : {M : Type 1} → statement M
 place-spec =
     tie.close
-    (tie.spec (λ c κs. search needs) (λ c κs. search needs) (λ c κs. search needs) (λ c. search needs) (λ c. search needs)
+    (tie.spec (λ c κs. search needs) (λ c κs. search needs) (λ c κs. search needs) (λ c. search needs) (λ c. search
+    needs)
     (λ c κs. search needs) put-in-requires (λ c κs. search needs) returns (λ c. let h = free-there c in omega arith)
     (λ c. let h = free-there c in omega arith) (λ c. let h = card-there c in omega arith)
     (λ c. let h = card-there c in omega arith) (λ c. let h = free-there (c .before) in omega arith)
