@@ -1,12 +1,12 @@
--- `library::search` meets its contract: none of the names passed is the one looked for.
+-- `finding::search` meets its contract: none of the names passed is the one looked for.
 use mathlib.Core.Path.{sym, _∙_}
 use native.Mathlib.Omega.{arith}
 use lib.ListN.{length}
 use Rattle.directory.proofs.Names.{shorter}
-use Rattle.library.proofs.Places.{Placed, place-end, place-here, place-on}
+use Rattle.finding.proofs.Places.{Placed, place-end, place-here, place-on}
 use borrow.Author.Needs.{needs}
-use Rattle.library.proofs.search.Statement.{statement}
-use Rattle.library.proofs.search.Tie as tie
+use Rattle.finding.proofs.search.Statement.{statement}
+use Rattle.finding.proofs.search.Tie as tie
 
 abbrev Inv-loop : tie.InvT-loop
 Inv-loop d x t₀ i₀ t i = Placed x d t i

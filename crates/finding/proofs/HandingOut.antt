@@ -14,10 +14,10 @@ use Rattle.bytes_le.specs.Le.{wordBytes}
 use Rattle.refusal.specs.Order.{yes}
 use Rattle.directory.specs.Format.{mostWords}
 use Rattle.directory.specs.Format.{count, version, wordsOf}
-use Rattle.library.specs.Answers.{recordOf, recordAt, handed, standing, HandsOut}
+use Rattle.finding.specs.Answers.{recordOf, recordAt, handed, standing, HandsOut}
 use Rattle.directory.specs.Judged.{Sound, numbersOf}
 use Rattle.directory.proofs.Inspections.{inspected}
-use Rattle.library.proofs.Outcomes.{record-within}
+use Rattle.finding.proofs.Locating.{record-within}
 
 -- a card's number is a half word, so that its place fits
 pub words-before : {w k : ℕ} → w ≤ mostWords → k ≤ 2 ^ 16 → w * k ≤ mostWords * 2 ^ 16

@@ -1,13 +1,13 @@
--- `library::record_at` meets its contract: the part between the place and the end of the card's record, or none.
+-- `finding::record_at` meets its contract: the part between the place and the end of the card's record, or none.
 use mathlib.Core.Path.{_≡_, refl, _∙_, ap}
 use Prim.Native.Nat.{_*_, _≤_, _^_}
 use native.Mathlib.Omega.{arith}
 use Rattle.directory.specs.Format.{mostWords}
 use Rattle.directory.specs.Format.{version, wordsOf}
-use Rattle.library.proofs.HandingOut.{words-before, hands-none, hands-short, hands-record}
+use Rattle.finding.proofs.HandingOut.{words-before, hands-none, hands-short, hands-record}
 use borrow.Author.Needs.{needs}
-use Rattle.library.proofs.record_at.Statement.{statement}
-use Rattle.library.proofs.record_at.Tie as tie
+use Rattle.finding.proofs.record_at.Statement.{statement}
+use Rattle.finding.proofs.record_at.Tie as tie
 
 abbrev start-of : tie.Else1 → tie.Start
 start-of c = c .before .before .before .before .before

@@ -2,14 +2,14 @@
 use mathlib.Core.Path.{_≡_, refl, sym, _∙_, ap}
 use mathlib.Core.Bool.{Bool, true, false, cond, _||_}
 use mathlib.Core.List.{List, [], _∷_}
-use Prim.Native.Nat.{ℕ, zero, suc, _+_, _*_, _-_, _<_, _≤_, suc-le-suc}
+use Prim.Native.Nat.{ℕ, suc, _+_, _*_, _-_, _<_, _≤_, suc-le-suc}
 use native.Mathlib.Omega.{arith}
 use borrow.Author.Tests.{ltb-true, ltb-false, lt-ltb, le-ltb}
 use lib.Dec.{lit<, ltb}
 use lib.ListN.{length, take, drop, length-drop}
 use Rattle.bytes_le.proofs.Laws.{rest}
 use Rattle.name.specs.Name.{same}
-use Rattle.directory.specs.Directory.{nameBytes, pieces, namesIn, among, placeOf}
+use Rattle.directory.specs.Directory.{nameBytes, namesIn, among, placeOf}
 use Rattle.directory.proofs.Names.{cut-none, cut-more}
 
 -- i names are passed, and x is none of them
@@ -47,7 +47,3 @@ among-step p n false t e = e ∙ one-more p n (ltb p n) refl
 pub among-place : (x : List ℕ) (l : List (List ℕ)) → among x l ≡ ltb (placeOf x l) (length l)
 among-place x [] = refl
 among-place x (y ∷ l) = among-step (placeOf x l) (length l) (same x y) (among x l) (among-place x l)
-
-pub length-pieces : (w n : ℕ) (s : List ℕ) → length (pieces w n s) ≡ n
-length-pieces w zero s = refl
-length-pieces w (suc n) s = ap suc (length-pieces w n (drop w s))

@@ -1,11 +1,11 @@
--- `library::begins` meets its contract: a copy of sixteen bytes is those bytes.
+-- `finding::begins` meets its contract: a copy of sixteen bytes is those bytes.
 use mathlib.Core.Path.{sym, ap, _∙_}
 use lib.Seq.{length-take-le}
 use Rattle.name.specs.Name.{same}
 use Rattle.name.proofs.Laws.{padded-full}
 use borrow.Author.Needs.{needs}
-use Rattle.library.proofs.begins.Statement.{statement}
-use Rattle.library.proofs.begins.Tie as tie
+use Rattle.finding.proofs.begins.Statement.{statement}
+use Rattle.finding.proofs.begins.Tie as tie
 
 slice-aggregate-pad : tie.Need-slice-aggregate-pad
 slice-aggregate-pad c = sym (length-take-le 16 (c .before .before .args .d .now) (c .before .before .pre))

@@ -1,14 +1,14 @@
--- `library::locate` meets its contract: 1, 2, 3 as judged, then 2 for the asked name, then 4.
+-- `finding::locate` meets its contract: 1, 2, 3 as judged, then 2 for the asked name, then 4.
 use mathlib.Core.Path.{_≡_, sym, ap, _∙_}
 use mathlib.Core.Bool.{true}
 use native.Mathlib.Omega.{arith}
 use Rattle.name.specs.Name.{asked}
-use Rattle.library.proofs.Outcomes.{record-within, locate-name, locate-none, locate-at, locate-refused}
+use Rattle.finding.proofs.Locating.{record-within, locate-name, locate-none, locate-at, locate-refused}
 use Rattle.directory.proofs.Inspections.{Inspected, inspected}
 use borrow.Author.Needs.{needs}
 use borrow.Author.Tests.{not-true, not-false}
-use Rattle.library.proofs.locate.Statement.{statement}
-use Rattle.library.proofs.locate.Tie as tie
+use Rattle.finding.proofs.locate.Statement.{statement}
+use Rattle.finding.proofs.locate.Tie as tie
 use Rattle.refusal.specs.Order.{tells}
 use Rattle.directory.specs.Judged.{found}
 

@@ -1,14 +1,14 @@
--- `library::find` meets its contract: the part between the place and the end of the located record.
+-- `finding::find` meets its contract: the part between the place and the end of the located record.
 use mathlib.Core.Path.{_≡_, sym, ap, _∙_}
 use Prim.Native.Nat.{ℕ, _+_, _≤_}
 use native.Mathlib.Nat.{add-sub-cancel-left}
 use native.Mathlib.Omega.{arith}
 use lib.ListN.{length, take, drop}
-use Rattle.library.specs.Answers.{locating, handed, standing, verdictLocated}
-use Rattle.library.proofs.Outcomes.{located-within}
+use Rattle.finding.specs.Answers.{locating, handed, standing, verdictLocated}
+use Rattle.finding.proofs.Locating.{located-within}
 use borrow.Author.Needs.{needs}
-use Rattle.library.proofs.find.Statement.{statement}
-use Rattle.library.proofs.find.Tie as tie
+use Rattle.finding.proofs.find.Statement.{statement}
+use Rattle.finding.proofs.find.Tie as tie
 use Rattle.refusal.specs.Order.{tells-one, yes}
 
 answer : (c : tie.After-locate)
