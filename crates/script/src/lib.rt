@@ -5,7 +5,8 @@ mod table; // table.rt: the commands
 mod saying; // saying.rt: what a line says
 
 pub use words::MOST_NUMBERS;
-use words::Words;
+pub use words::MOST_WORDS;
+pub use words::Words;
 pub use words::word;
 
 // The most bytes of a line, without the newline that ends it.

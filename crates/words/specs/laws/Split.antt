@@ -1,5 +1,5 @@
--- The words of a line are a plain split of it at spaces: spaces and words joined in their order are the line, no word is
--- empty or holds a space, and two words have a space between them.
+-- The words of a line are a plain split of it at spaces: spaces and words joined in their order are the line, no word
+-- is empty or holds a space, and two words have a space between them.
 use mathlib.Core.Path.{_≡_, refl}
 use mathlib.Core.Bool.{Bool, true, false, not, _&&_}
 use mathlib.Core.List.{List, [], _∷_, _++_, append-assoc}
