@@ -1,8 +1,8 @@
 -- Loops over the names of a directory, one turn at a time, on plain values.
-use mathlib.Core.Path.{_≡_, sym, _∙_, ap}
+use mathlib.Core.Path.{_≡_, refl, sym, _∙_, ap}
 use mathlib.Core.Bool.{Bool, true, false, _||_}
 use mathlib.Core.List.{List, [], _∷_}
-use Prim.Native.Nat.{ℕ, suc, _-_, _/_, _<_, _≤_}
+use Prim.Native.Nat.{ℕ, zero, suc, _-_, _/_, _<_, _≤_}
 use native.Mathlib.Nat.{div-eq-sub-div, div-eq-of-lt}
 use native.Mathlib.Numerals.{add-one}
 use native.Mathlib.Omega.{arith}
@@ -16,6 +16,10 @@ or-true e b = ap (λ (t : Bool). t || b) e
 
 pub or-false : {a b : Bool} → a ≡ false → a || b ≡ b
 or-false {a} {b} e = ap (λ (t : Bool). t || b) e
+
+pub length-pieces : (w n : ℕ) (s : List ℕ) → length (pieces w n s) ≡ n
+length-pieces w zero s = refl
+length-pieces w (suc n) s = ap suc (length-pieces w n (drop w s))
 
 pub cut-none : (w : ℕ) (s : List ℕ) → length s < w → cut w s ≡ []
 cut-none w s h = ap (λ (n : ℕ). pieces w n s) (div-eq-of-lt h)

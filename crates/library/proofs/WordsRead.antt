@@ -11,8 +11,7 @@ use Rattle.bytes_le.proofs.Laws.{rest}
 use Rattle.name.proofs.Laws.{Filled, fill-first, fill-more, fill-all}
 use Rattle.directory.specs.Directory.{cut}
 use Rattle.directory.specs.Format.{wordsIn}
-use Rattle.directory.proofs.Names.{cut-none, cut-more}
-use Rattle.library.proofs.Places.{length-pieces}
+use Rattle.directory.proofs.Names.{length-pieces, cut-none, cut-more}
 use Rattle.directory.proofs.Verdicts.{never}
 use Rattle.bytes_le.specs.Buffer.{over}
 

@@ -8,15 +8,15 @@ use native.Mathlib.Omega.{arith}
 use lib.ListN.{length, take, drop, getD, length-drop}
 use lib.Seq.{length-take-le, drop-drop}
 use denote.Ref.{RefT, ptr, now}
-use Rattle.library.specs.declared.Located.{Located}
-use Rattle.library.specs.declared.Located.the-variants.{Record, Refused}
+use Rattle.finding.specs.declared.Located.{Located}
+use Rattle.finding.specs.declared.Located.the-variants.{Record, Refused}
 use Rattle.directory.specs.Format.{wordsOf, version, count, directory, records, recordsAt, recordBytes}
 use Rattle.directory.specs.Directory.{namesIn, pieces, placeOf}
-use Rattle.library.specs.Answers.{locating, handed, standing, Finds, toldLocated, recordAt, HandsOut}
+use Rattle.finding.specs.Answers.{locating, handed, standing, Finds, toldLocated, recordAt, HandsOut}
 use Rattle.directory.specs.Judged.{Sound}
 use Rattle.directory.proofs.Headers.{only-version}
-use Rattle.library.proofs.Outcomes.{located-placed, located-within}
-use Rattle.library.proofs.HandingOut.{record-sound}
+use Rattle.finding.proofs.Locating.{located-placed, located-within}
+use Rattle.finding.proofs.HandingOut.{record-sound}
 use Rattle.refusal.specs.Order.{Verdict, no, tells, tells-one, yes}
 use Rattle.bytes_le.specs.Le.{wordBytes}
 use Rattle.name.specs.Name.{padded}

@@ -1,5 +1,3 @@
 -- Laws over plain values that the proofs of functions cite.
-pub mod Parts
 pub mod Packs
-pub mod Numbered
 pub mod Sayings

@@ -9,16 +9,17 @@ use lib.ListN.{length}
 use Rattle.spelling.specs.declared.Hex.{Hex}
 use Rattle.spelling.specs.declared.Hex.the-variants.{Bytes, Bad}
 use Rattle.spelling.specs.Hex.{ReadsHex}
-use Rattle.script.specs.declared.Words.{Words}
+use Rattle.words.specs.declared.Words.{Words}
 use Rattle.script.specs.declared.Command.{Command}
 use Rattle.script.specs.declared.Row.{Row}
 use Rattle.script.specs.declared.Verb.{Verb}
 use Rattle.script.specs.declared.Verb.the-variants.{Nothing, TooLong, Error}
 use Rattle.script.specs.declared.Wants.{Wants}
 use Rattle.script.specs.declared.Wants.the-variants.{Texts, Numbers, NameAndHex}
-use Rattle.script.specs.Words.{noWords, wordsOf, wordAt}
+use Rattle.words.specs.Words.{noWords, wordsOf, wordAt}
 use Rattle.script.specs.Table.{rowNamed}
-use Rattle.script.specs.Command.{longestLine, mostBytes, passedOver, areNumbers, said, verbIf, hexOf, saidTo}
+use Rattle.words.specs.Numbers.{areNumbers}
+use Rattle.script.specs.Command.{longestLine, mostBytes, passedOver, said, verbIf, hexOf, saidTo}
 use Rattle.script.specs.Command.{spelledTo, SaysTo, commandOf, bufferOf, Says}
 
 -- ---- to a row

@@ -2,33 +2,26 @@
 use mathlib.Core.Path.{_≡_}
 use mathlib.Core.Bool.{Bool, true, false, _&&_, _||_}
 use mathlib.Core.List.{List}
-use Prim.Native.Nat.{ℕ, zero, suc, _-_}
+use Prim.Native.Nat.{ℕ, _-_}
 use lib.Dec.{eqb, ltb}
-use lib.IntN.{ℤ, pos}
-use lib.ListN.{length, getD, set, replicate}
-use Rattle.spelling.specs.declared.Parsed.{Parsed}
-use Rattle.spelling.specs.declared.Parsed.the-variants as parsed
+use lib.ListN.{length, getD}
 use Rattle.spelling.specs.declared.Hex.{Hex}
 use Rattle.spelling.specs.declared.Hex.the-variants.{Bytes, Bad}
-use Rattle.spelling.specs.Number.{parsedOf}
 use Rattle.spelling.specs.Hex.{spells, pairsOf, hexIf, overIf}
-use Rattle.script.specs.declared.Words.{Words}
+use Rattle.words.specs.declared.Words.{Words}
 use Rattle.script.specs.declared.Command.{Command}
 use Rattle.script.specs.declared.Row.{Row}
 use Rattle.script.specs.declared.Verb.{Verb}
 use Rattle.script.specs.declared.Verb.the-variants.{Nothing, TooLong, Error}
 use Rattle.script.specs.declared.Wants.{Wants}
 use Rattle.script.specs.declared.Wants.the-variants.{Texts, Numbers, NameAndHex}
-use Rattle.script.specs.Words.{noWords, wordsOf, wordAt}
+use Rattle.words.specs.Words.{noWords, wordsOf, wordAt}
+use Rattle.words.specs.Numbers.{mostNumbers, areNumbers, numbersTo}
 use Rattle.script.specs.Table.{rowNamed}
 
 -- the most bytes of a line, without the newline that ends it
 abbrev pub longestLine : ℕ
 longestLine = 4096
-
--- the most numbers that a command takes
-abbrev pub mostNumbers : ℕ
-mostNumbers = 8
 
 -- more bytes than a line has hex digits for
 abbrev pub mostBytes : ℕ
@@ -41,26 +34,6 @@ hash = 35
 -- a line with that first word is passed over: it has no word, or a comment
 abbrev pub passedOver : List ℕ → Bool
 passedOver first = eqb (length first) 0 || eqb (getD first 0 0) hash
-
--- ---- numbers
-
-abbrev pub isNumber : Parsed → Bool
-isNumber (parsed.Number z) = true
-isNumber parsed.Nothing = false
-
-abbrev pub valueOf : Parsed → ℤ
-valueOf (parsed.Number z) = z
-valueOf parsed.Nothing = pos 0
-
--- each of the m words from word k on is a number
-unfoldable pub areNumbers : List ℕ → Words → ℕ → ℕ → Bool
-areNumbers line w k zero = true
-areNumbers line w k (suc m) = isNumber (parsedOf (wordAt line w k)) && areNumbers line w (suc k) m
-
--- the numbers that the n words after the first are; 0 stands for a word that is none, and for one that is not there
-unfoldable pub numbersTo : List ℕ → Words → ℕ → List ℤ
-numbersTo line w zero = replicate mostNumbers (pos 0)
-numbersTo line w (suc n) = set (numbersTo line w n) n (valueOf (parsedOf (wordAt line w (suc n))))
 
 -- ---- the command
 

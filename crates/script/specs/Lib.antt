@@ -1,5 +1,4 @@
 -- What a line of a script says; `inner` has the words of inner contracts, `laws` what follows.
-pub mod Words
 pub mod Table
 pub mod Command
 pub mod Unique

@@ -1,3 +1,2 @@
--- Words of inner contracts: what is left of a line after a part of it, and a word as a number.
-pub mod Passing
+-- Words of inner contracts: a word as a number.
 pub mod Packing

@@ -1,3 +1,2 @@
--- What follows from the definitions of words and commands.
+-- What follows from the definition of commands.
 pub mod Lines
-pub mod Split

@@ -1,20 +1,16 @@
 // What a line of a script says. The line is lent; what it says comes back by value, its words by their places in the line.
-ghost use mathlib.Core.Path.{_≡_};
 ghost use Rattle.script.specs.Command.{Says};
-ghost use Rattle.script.specs.Words.{wordAt};
 
-mod parting; // parting.rt: a line parted in words
 mod table; // table.rt: the commands
-mod numbers; // numbers.rt: the numbers of a line
 mod saying; // saying.rt: what a line says
+
+pub use words::MOST_NUMBERS;
+pub use words::MOST_WORDS;
+pub use words::Words;
+pub use words::word;
 
 // The most bytes of a line, without the newline that ends it.
 pub const LONGEST_LINE: usize = 4096;
-
-// The most words that a command has, and the most numbers.
-pub const MOST_WORDS: usize = 9;
-
-pub const MOST_NUMBERS: usize = 8;
 
 // More bytes than a line has hex digits for.
 pub const MOST_BYTES: usize = 2048;
@@ -52,14 +48,6 @@ pub struct Row {
     pub wants: Wants,
 }
 
-// Where the first words of a line begin, and the places after them. `count` is how many there are; one more than the
-// most stands for any more.
-pub struct Words {
-    pub starts: [usize; MOST_WORDS],
-    pub ends: [usize; MOST_WORDS],
-    pub count: usize,
-}
-
 // What a line says: the verb, the words, those after the first as numbers, and how many bytes its hex digits spell.
 pub struct Command {
     pub verb: Verb,
@@ -73,9 +61,9 @@ pub fn read(line: &[u8], bytes: &mut [u8; MOST_BYTES]) -> Command
     ensures { λ r. ⌜ Says (now (line .entry)) (now (bytes .entry)) r (now (bytes .exit)) ⌝ }
 {
     if LONGEST_LINE < line.len() {
-        return saying::said(line, parting::no_words(), Verb::TooLong, 0);
+        return saying::said(line, words::no_words(), Verb::TooLong, 0);
     }
-    let words = parting::words_of(line);
+    let words = words::words_of(line);
     if saying::is_passed_over(word(line, words, 0)) {
         return saying::said(line, words, Verb::Nothing, 0);
     }
@@ -83,16 +71,4 @@ pub fn read(line: &[u8], bytes: &mut [u8; MOST_BYTES]) -> Command
     let verb = row.verb;
     let wants = row.wants;
     saying::said_to(line, words, verb, wants, bytes)
-}
-
-// Word k of a line, from 0; no bytes where there is no such word.
-pub fn word(line: &[u8], words: Words, k: usize) -> &[u8]
-    ensures { λ r. ⌜ now r ≡ wordAt (now (line .entry)) words k ⌝ }
-{
-    if k < MOST_WORDS {
-        let start = words.starts[k];
-        let end = words.ends[k];
-        return parting::part(line, start, end);
-    }
-    parting::part(line, 0, 0)
 }

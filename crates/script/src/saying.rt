@@ -4,15 +4,16 @@ ghost use mathlib.Core.Bool.{_&&_};
 ghost use Prim.Native.Nat.{_-_};
 ghost use lib.Dec.{eqb};
 ghost use lib.ListN.{length};
-ghost use Rattle.script.specs.Command.{mostBytes, passedOver, said, SaysTo, verbIf, areNumbers};
+ghost use Rattle.words.specs.Numbers.{areNumbers};
+ghost use Rattle.script.specs.Command.{mostBytes, passedOver, said, SaysTo, verbIf};
 use crate::Command;
 use crate::Verb;
 use crate::Wants;
-use crate::Words;
-use crate::numbers::are_numbers;
-use crate::numbers::numbers_of;
-use crate::word;
 use spelling::Hex;
+use words::Words;
+use words::are_numbers;
+use words::numbers_of;
+use words::word;
 
 // Whether a line with that first word is passed over: it has no word, or a comment.
 pub(crate) fn is_passed_over(first: &[u8]) -> bool

@@ -11,9 +11,10 @@ use Rattle.spelling.specs.Hex.{spells, allPairs, pairsOf}
 use Rattle.script.specs.declared.Verb.{Verb}
 use Rattle.script.specs.declared.Verb.the-variants.{Record, Lift, Withdraw, Sheet, Nothing, TooLong, Error}
 use Rattle.spelling.specs.Bytes.{bytes}
-use Rattle.script.specs.Words.{spansFrom, withWord, withWords, wordsOf, partOf}
+use Rattle.words.specs.Words.{spansFrom, withWord, withWords, wordsOf, partOf}
 use Rattle.script.specs.Table.{placeIn, rowNamed}
-use Rattle.script.specs.Command.{longestLine, areNumbers, numbersTo, said, hexOf, saidTo, commandOf}
+use Rattle.words.specs.Numbers.{areNumbers, numbersTo}
+use Rattle.script.specs.Command.{longestLine, said, hexOf, saidTo, commandOf}
 
 -- too long before anything else
 pub too-long : (line : List ℕ) → longestLine < length line → commandOf line .verb ≡ TooLong
