@@ -1,11 +1,1 @@
-pub mod Verdicts
-pub mod Lists
-pub mod NodeSums
-pub mod Invariant
 pub mod Reaches
-pub mod Answers
-pub mod Currents
-pub mod Midway
-pub mod PlacingTests
-pub mod WorkerCalls
-pub mod Changes

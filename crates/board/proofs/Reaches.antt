@@ -1,58 +1,63 @@
 -- A call's board is again one that calls from a fresh board leave.
-use mathlib.Core.Path.{_≡_, sym, ap, _∙_}
+use mathlib.Core.Path.{_≡_, refl, sym, ap, _∙_, subst}
 use mathlib.Core.List.{List, [], _∷_}
 use Prim.Native.Nat.{ℕ}
 use lib.ListN.{length}
 use lib.IntN.{ℤ}
-use Rattle.branch.specs.Rows.{roles}
+use Rattle.terms.specs.Rows.{roles}
+use Rattle.model.specs.Board as model
+use Rattle.model.specs.Desk.{Call, load, place, move, lift, withdraw, lookUp, node}
+use Rattle.model.specs.Model.{freshBoard, loadedOf, placedOf, movedOf, liftedOf, withdrawnOf, lookedOf, showedOf}
+use Rattle.model.specs.Model.{answered, boardAfter, Reached}
 use Rattle.board.specs.declared.Board.{Board}
 use Rattle.board.specs.declared.Answered.{Answered}
-use Rattle.board.specs.Desk.{Call, load, place, move, lift, withdraw, lookUp, node}
-use Rattle.board.specs.Model.{freshBoard, loadedOf, placedOf, movedOf, liftedOf, withdrawnOf, lookedOf}
-use Rattle.board.specs.Model.{showedOf, answered, boardAfter, Reached}
+use Rattle.board.specs.Promise.{modelOf, boardOf, givenAs}
+use Rattle.board.specs.Unique.{Allows}
 
--- the answer, and that its board is reached
-abbrev pub Gives : Answered → Answered → Type 0
-Gives r e = (r ≡ e) × Reached (r .board)
-
-pub fresh-reached : {b : Board} → b ≡ freshBoard → (b ≡ freshBoard) × Reached b
+pub fresh-reached : {b : Board} → b ≡ boardOf freshBoard → (b ≡ boardOf freshBoard) × Reached (modelOf b)
 unfolding boardAfter
-fresh-reached e = (e, record { calls = []; leaves = sym e })
+fresh-reached e = (e, record { calls = []; leaves = sym (ap modelOf e) })
 
-one-more : {b : Board} {r : Answered} (c : Call) → Reached b → r ≡ answered b c → Reached (r .board)
+one-more : {b : model.Board} (c : Call) → Reached b → Reached (answered b c .board)
 unfolding boardAfter
-one-more c k e =
-    record {
-      calls = c ∷ k .calls;
-      leaves = ap (λ (b : Board). answered b c .board) (k .leaves) ∙ sym (ap (λ (r : Answered). r .board) e);
-    }
+one-more c k =
+    record { calls = c ∷ k .calls; leaves = ap (λ (b : model.Board). answered b c .board) (k .leaves) }
 
-module _ {b : Board} {r : Answered} (k : Reached b) where
-  pub after-load : (name bytes : List ℕ) → r ≡ loadedOf b name bytes → Gives r (loadedOf b name bytes)
-  unfolding answered
-  after-load name bytes e = (e, one-more (load name bytes) k e)
+gives : {b : model.Board} {r : Answered} {a : model.Answered} (c : Call) → Reached b → r ≡ givenAs a → a ≡ answered b
+    c →
+    Allows (answered b c) r
+gives {b} c k e d =
+    let whole = e ∙ ap givenAs d in
+    (whole, subst (λ (x : Answered). Reached (modelOf (x .board))) (sym whole) (one-more c k))
 
-  pub after-place : (card : ℤ) (nodes : List ℤ) → length nodes ≡ roles → r ≡ placedOf b card nodes →
-      Gives r (placedOf b card nodes)
+module _ {b : model.Board} {r : Answered} (k : Reached b) where
+  pub after-load : (name bytes : List ℕ) {a : model.Answered} → r ≡ givenAs a → a ≡ loadedOf b name bytes →
+      Allows (loadedOf b name bytes) r
   unfolding answered
-  after-place card nodes sized e = (e, one-more (place card nodes sized) k e)
+  after-load name bytes e d = gives (load name bytes) k e d
 
-  pub after-move : (n v : ℤ) → r ≡ movedOf b n v → Gives r (movedOf b n v)
+  pub after-place : (card : ℤ) (nodes : List ℤ) → length nodes ≡ roles → {a : model.Answered} → r ≡ givenAs a →
+      a ≡ placedOf b card nodes → Allows (placedOf b card nodes) r
   unfolding answered
-  after-move n v e = (e, one-more (move n v) k e)
+  after-place card nodes sized e d = gives (place card nodes sized) k e d
 
-  pub after-lift : (n : ℤ) → r ≡ liftedOf b n → Gives r (liftedOf b n)
+  pub after-move : (n v : ℤ) {a : model.Answered} → r ≡ givenAs a → a ≡ movedOf b n v → Allows (movedOf b n v) r
   unfolding answered
-  after-lift n e = (e, one-more (lift n) k e)
+  after-move n v e d = gives (move n v) k e d
 
-  pub after-withdraw : (n : ℤ) → r ≡ withdrawnOf b n → Gives r (withdrawnOf b n)
+  pub after-lift : (n : ℤ) {a : model.Answered} → r ≡ givenAs a → a ≡ liftedOf b n → Allows (liftedOf b n) r
   unfolding answered
-  after-withdraw n e = (e, one-more (withdraw n) k e)
+  after-lift n e d = gives (lift n) k e d
 
-  pub after-look : (name : List ℕ) → r ≡ lookedOf b name → Gives r (lookedOf b name)
+  pub after-withdraw : (n : ℤ) {a : model.Answered} → r ≡ givenAs a → a ≡ withdrawnOf b n → Allows (withdrawnOf b n) r
   unfolding answered
-  after-look name e = (e, one-more (lookUp name) k e)
+  after-withdraw n e d = gives (withdraw n) k e d
 
-  pub after-node : (n : ℤ) → r ≡ showedOf b n → Gives r (showedOf b n)
+  pub after-look : (name : List ℕ) {a : model.Answered} → r ≡ givenAs a → a ≡ lookedOf b name →
+      Allows (lookedOf b name) r
   unfolding answered
-  after-node n e = (e, one-more (node n) k e)
+  after-look name e d = gives (lookUp name) k e d
+
+  pub after-node : (n : ℤ) {a : model.Answered} → r ≡ givenAs a → a ≡ showedOf b n → Allows (showedOf b n) r
+  unfolding answered
+  after-node n e d = gives (node n) k e d

@@ -1,6 +1,2 @@
-pub mod Counts
-pub mod Verdict
-pub mod Desk
-pub mod Model
+pub mod Promise
 pub mod Unique
-pub mod inner

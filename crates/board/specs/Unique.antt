@@ -4,20 +4,23 @@ use mathlib.Core.List.{List}
 use Prim.Native.Nat.{ℕ}
 use lib.IntN.{ℤ}
 use Rattle.refusal.specs.Unique.{unique-by-equation}
+use Rattle.model.specs.Board as model
+use Rattle.model.specs.Model.{freshBoard, loadedOf, placedOf, movedOf, liftedOf, withdrawnOf, lookedOf, showedOf}
+use Rattle.model.specs.Model.{Reached}
 use Rattle.board.specs.declared.Board.{Board}
 use Rattle.board.specs.declared.Answered.{Answered}
-use Rattle.board.specs.Model.{freshBoard, loadedOf, placedOf, movedOf, liftedOf, withdrawnOf, lookedOf}
-use Rattle.board.specs.Model.{showedOf, Reached}
+use Rattle.board.specs.Promise.{modelOf, boardOf, givenAs}
 
 -- what a method promises of its result, both clauses: the answer and board of its definition, and that calls leave
 -- that board
-abbrev pub Allows : Answered → Answered → Type 0
-Allows e r = (r ≡ e) × Reached (r .board)
+abbrev pub Allows : model.Answered → Answered → Type 0
+Allows e r = (r ≡ givenAs e) × Reached (modelOf (r .board))
 
-pub unique-fresh : {r s : Board} → (r ≡ freshBoard) × Reached r → (s ≡ freshBoard) × Reached s → r ≡ s
+pub unique-fresh : {r s : Board} → (r ≡ boardOf freshBoard) × Reached (modelOf r) →
+    (s ≡ boardOf freshBoard) × Reached (modelOf s) → r ≡ s
 unique-fresh p q = unique-by-equation (p .0) (q .0)
 
-module _ (b : Board) {r s : Answered} where
+module _ (b : model.Board) {r s : Answered} where
   pub unique-load : (name bytes : List ℕ) → Allows (loadedOf b name bytes) r → Allows (loadedOf b name bytes) s → r ≡ s
   unique-load name bytes p q = unique-by-equation (p .0) (q .0)
 

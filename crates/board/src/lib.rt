@@ -1,33 +1,30 @@
-// The board: cards, transistors, voltages and node totals, handed from call to call by value.
+// The board: cards and transistors in places, voltages and node totals, handed from call to call by value.
 // Each method asks that calls from a fresh board left the board as it is, and gives the answer with the next board, which is such a board again.
 ghost use mathlib.Core.Path.{_≡_};
-ghost use Rattle.board.specs.Model.{freshBoard, refuse, loadedOf, placedOf, movedOf, liftedOf, withdrawnOf, lookedOf, showedOf, Reached};
-
-mod worker; // worker.rt: currents put into the totals and taken out
-
+ghost use Rattle.model.specs.Model.{freshBoard, refuse, loadedOf, placedOf, movedOf, liftedOf, withdrawnOf, lookedOf, showedOf};
+ghost use Rattle.board.specs.Promise.{modelOf, boardOf, givenAs, Reached};
 use branch::ROLES;
 use card::Judged;
-use places::Card;
-use places::ISSUES;
-use places::Transistor;
-use places::Way;
+use given::ISSUES;
+pub use model::Answer;
 use refusal::Refusal;
-use volts::Voltage;
 
+// Flat arrays of numbers, so that each can be lent. The first six hold the cards by their places, the last four the transistors.
 pub struct Board {
-    pub cards: [Card; Board::CARDS],
-    pub transistors: [Transistor; Board::TRANSISTORS],
+    pub numbers: [u32; deck::ALL_NUMBERS],
+    pub powers: [u16; deck::ALL_POWERS],
+    pub ticks: [u64; deck::ALL_TICKS],
+    pub switches: [bool; deck::ALL_SWITCHES],
+    pub names: [u8; places::ALL_NAMES],
+    pub held: [u32; Board::CARDS],
+    pub next: u32,
     // as `volts` keeps them
     pub volts: [u32; Board::NODES],
     pub totals: [i64; Board::NODES],
-    pub next: u32,
-}
-
-pub enum Answer {
-    Issue(u32),
-    Done,
-    Node(i64, i64),
-    Refused(Refusal),
+    pub issues: [u32; Board::TRANSISTORS],
+    pub cards: [u32; Board::TRANSISTORS],
+    pub seats: [u8; Board::TRANSISTORS],
+    pub nodes: [u8; places::ALL_NODES],
 }
 
 pub struct Answered {
@@ -37,7 +34,7 @@ pub struct Answered {
 
 // The board as it was.
 fn refused(b: Board, f: Refusal) -> Answered
-    ensures { λ r. ⌜ r ≡ refuse b f ⌝ }
+    ensures { λ r. ⌜ r ≡ givenAs (refuse (modelOf b) f) ⌝ }
 {
     Answered {
         board: b,
@@ -54,24 +51,30 @@ impl Board {
 
     // No cards, no transistors, and every voltage and total 0.
     pub fn fresh() -> Board
-        ensures { λ r. ⌜ r ≡ freshBoard ⌝ }
+        ensures { λ r. ⌜ r ≡ boardOf freshBoard ⌝ }
         ensures { λ r. ⌜ Reached r ⌝ }
     {
-        let card = places::no_card();
-        let t = places::no_transistor();
         Board {
-            cards: [card; Board::CARDS],
-            transistors: [t; Board::TRANSISTORS],
+            numbers: [0u32; deck::ALL_NUMBERS],
+            powers: [0u16; deck::ALL_POWERS],
+            ticks: [0u64; deck::ALL_TICKS],
+            switches: [false; deck::ALL_SWITCHES],
+            names: [0u8; places::ALL_NAMES],
+            held: [0u32; Board::CARDS],
+            next: 1,
             volts: [volts::ZERO; Board::NODES],
             totals: [0i64; Board::NODES],
-            next: 1,
+            issues: [0u32; Board::TRANSISTORS],
+            cards: [0u32; Board::TRANSISTORS],
+            seats: [0u8; Board::TRANSISTORS],
+            nodes: [0u8; places::ALL_NODES],
         }
     }
 
     // A card under a name: 1, 2, 6 to 10, 11, 17. It gets the next issue number.
     pub fn load(mut self, name: &[u8], bytes: &[u8]) -> Answered
         requires { ⌜ Reached self ⌝ }
-        ensures { λ r. ⌜ r ≡ loadedOf self (now (name .entry)) (now (bytes .entry)) ⌝ }
+        ensures { λ r. ⌜ r ≡ givenAs (loadedOf (modelOf self) (now (name .entry)) (now (bytes .entry))) ⌝ }
         ensures { λ r. ⌜ Reached (r .board) ⌝ }
     {
         if !card::right_length(bytes) {
@@ -84,8 +87,8 @@ impl Board {
         match judged {
             Judged::Refused(f) => refused(self, f),
             Judged::Card(worked) => {
-                let mut cards = self.cards;
-                let i = places::find_card(cards, 0);
+                let mut held = self.held;
+                let i = places::find_card(&held, 0);
                 if Board::CARDS <= i {
                     return refused(self, Refusal::NoRoom);
                 }
@@ -93,15 +96,29 @@ impl Board {
                 if ISSUES < issue {
                     return refused(self, Refusal::NumbersUsedUp);
                 }
-                let held = name::pad(name);
+                let own = name::pad(name);
+                let mut names = self.names;
+                sets::put_name(&mut names, i, &own);
                 let ready = branch::prepare(worked);
-                let c = Card {
-                    issue,
-                    name: held,
+                let mut numbers = self.numbers;
+                let mut powers = self.powers;
+                let mut ticks = self.ticks;
+                let mut switches = self.switches;
+                deck::put_ready(
+                    &mut numbers,
+                    &mut powers,
+                    &mut ticks,
+                    &mut switches,
+                    i,
                     ready,
-                };
-                cards[i] = c;
-                self.cards = cards;
+                );
+                held[i] = issue;
+                self.numbers = numbers;
+                self.powers = powers;
+                self.ticks = ticks;
+                self.switches = switches;
+                self.names = names;
+                self.held = held;
                 self.next = issue + 1;
                 Answered {
                     board: self,
@@ -114,123 +131,165 @@ impl Board {
     // A transistor on a card, by its issue number, and on the nodes of its roles: 12, 13, 14, 11, 17, 15.
     pub fn place(mut self, card: i64, nodes: [i64; ROLES]) -> Answered
         requires { ⌜ Reached self ⌝ }
-        ensures { λ r. ⌜ r ≡ placedOf self card nodes ⌝ }
+        ensures { λ r. ⌜ r ≡ givenAs (placedOf (modelOf self) card nodes) ⌝ }
         ensures { λ r. ⌜ Reached (r .board) ⌝ }
     {
-        let n = places::issue_of(card);
-        let on = places::nodes_of(nodes);
-        let cards = self.cards;
-        let ts = self.transistors;
-        let issue = self.next;
-        let way = places::may_place(cards, ts, issue, n, on);
-        match way {
-            Way::Stop(f) => refused(self, f),
-            Way::Go(at, free) => {
-                let following = issue + 1;
-                let c = cards[at];
-                let place = at as u32;
-                let t = Transistor {
-                    issue,
-                    card: c.issue,
-                    card_place: place,
-                    nodes: on,
-                };
-                let table = octave::table();
-                let volts = self.volts;
-                let mut totals = self.totals;
-                if worker::put_in(&mut totals, &table, c, &on, &volts) {
-                    return refused(self, Refusal::Overload);
-                }
-                self.transistors[free] = t;
-                self.totals = totals;
-                self.next = following;
-                Answered {
-                    board: self,
-                    answer: Answer::Issue(issue),
-                }
-            }
+        let numbers = self.numbers;
+        let powers = self.powers;
+        let ticks = self.ticks;
+        let switches = self.switches;
+        let held = self.held;
+        let volts = self.volts;
+        let mut next = self.next;
+        let mut totals = self.totals;
+        let mut issues = self.issues;
+        let mut cards = self.cards;
+        let mut seats = self.seats;
+        let mut on = self.nodes;
+        let answer = model::place(
+            &mut issues,
+            &mut cards,
+            &mut seats,
+            &mut on,
+            &mut totals,
+            &mut next,
+            &numbers,
+            &powers,
+            &ticks,
+            &switches,
+            &held,
+            &volts,
+            card,
+            nodes,
+        );
+        self.next = next;
+        self.totals = totals;
+        self.issues = issues;
+        self.cards = cards;
+        self.seats = seats;
+        self.nodes = on;
+        Answered {
+            board: self,
+            answer,
         }
     }
 
     // A node's voltage: 13, then 15 where some transistor would overload.
     pub fn move_to(mut self, node: i64, microvolts: i64) -> Answered
         requires { ⌜ Reached self ⌝ }
-        ensures { λ r. ⌜ r ≡ movedOf self node microvolts ⌝ }
+        ensures { λ r. ⌜ r ≡ givenAs (movedOf (modelOf self) node microvolts) ⌝ }
         ensures { λ r. ⌜ Reached (r .board) ⌝ }
     {
-        let k = places::node_of(node);
-        let n = k as usize;
-        if Board::NODES <= n {
-            return refused(self, Refusal::OutOfRange);
-        }
-        let Voltage::Kept(v) = volts::keep(microvolts) else {
-            return refused(self, Refusal::OutOfRange);
-        };
-        let was = self.volts;
-        let mut volts = was;
-        volts[n] = v;
-        let ts = self.transistors;
-        let cards = self.cards;
+        let numbers = self.numbers;
+        let powers = self.powers;
+        let ticks = self.ticks;
+        let switches = self.switches;
+        let issues = self.issues;
+        let seats = self.seats;
+        let nodes = self.nodes;
+        let mut volts = self.volts;
         let mut totals = self.totals;
-        if worker::settle(&mut totals, cards, ts, &was, &volts, k) {
-            return refused(self, Refusal::Overload);
-        }
+        let answer = model::move_to(
+            &mut volts,
+            &mut totals,
+            &numbers,
+            &powers,
+            &ticks,
+            &switches,
+            &issues,
+            &seats,
+            &nodes,
+            node,
+            microvolts,
+        );
         self.volts = volts;
         self.totals = totals;
         Answered {
             board: self,
-            answer: Answer::Done,
+            answer,
         }
     }
 
     // A transistor taken off, by its issue number: 12.
     pub fn lift(mut self, transistor: i64) -> Answered
         requires { ⌜ Reached self ⌝ }
-        ensures { λ r. ⌜ r ≡ liftedOf self transistor ⌝ }
+        ensures { λ r. ⌜ r ≡ givenAs (liftedOf (modelOf self) transistor) ⌝ }
         ensures { λ r. ⌜ Reached (r .board) ⌝ }
     {
-        let n = places::issue_of(transistor);
-        let ts = self.transistors;
-        let i = places::transistor_at(ts, n);
-        if Board::TRANSISTORS <= i {
-            return refused(self, Refusal::Unknown);
-        }
-        let t = ts[i];
-        let s = worker::card_place_of(t);
-        let c = self.cards[s];
-        let table = octave::table();
+        let numbers = self.numbers;
+        let powers = self.powers;
+        let ticks = self.ticks;
+        let switches = self.switches;
         let volts = self.volts;
         let mut totals = self.totals;
-        let nodes = t.nodes;
-        worker::take_out(&mut totals, &table, c, &nodes, &volts);
-        let none = places::no_transistor();
-        self.transistors[i] = none;
+        let mut issues = self.issues;
+        let mut cards = self.cards;
+        let mut seats = self.seats;
+        let mut nodes = self.nodes;
+        let answer = model::lift(
+            &mut issues,
+            &mut cards,
+            &mut seats,
+            &mut nodes,
+            &mut totals,
+            &numbers,
+            &powers,
+            &ticks,
+            &switches,
+            &volts,
+            transistor,
+        );
         self.totals = totals;
+        self.issues = issues;
+        self.cards = cards;
+        self.seats = seats;
+        self.nodes = nodes;
         Answered {
             board: self,
-            answer: Answer::Done,
+            answer,
         }
     }
 
     // A card given back, by its issue number: 12, 16.
     pub fn withdraw(mut self, card: i64) -> Answered
         requires { ⌜ Reached self ⌝ }
-        ensures { λ r. ⌜ r ≡ withdrawnOf self card ⌝ }
+        ensures { λ r. ⌜ r ≡ givenAs (withdrawnOf (modelOf self) card) ⌝ }
         ensures { λ r. ⌜ Reached (r .board) ⌝ }
     {
-        let n = places::issue_of(card);
-        let mut cards = self.cards;
-        let i = places::card_at(cards, n);
+        let n = given::issue_of(card);
+        let mut held = self.held;
+        let i = places::card_at(&held, n);
         if Board::CARDS <= i {
             return refused(self, Refusal::Unknown);
         }
-        let ts = self.transistors;
-        if places::any_on(ts, n) {
+        let issues = self.issues;
+        let cards = self.cards;
+        if places::any_on(&issues, &cards, n) {
             return refused(self, Refusal::CardInUse);
         }
-        let c = places::no_card();
-        cards[i] = c;
-        self.cards = cards;
+        let mut names = self.names;
+        let blank = [0u8; name::LENGTH];
+        sets::put_name(&mut names, i, &blank);
+        let none = branch::no_ready();
+        let mut numbers = self.numbers;
+        let mut powers = self.powers;
+        let mut ticks = self.ticks;
+        let mut switches = self.switches;
+        deck::put_ready(
+            &mut numbers,
+            &mut powers,
+            &mut ticks,
+            &mut switches,
+            i,
+            none,
+        );
+        held[i] = 0;
+        self.numbers = numbers;
+        self.powers = powers;
+        self.ticks = ticks;
+        self.switches = switches;
+        self.names = names;
+        self.held = held;
         Answered {
             board: self,
             answer: Answer::Done,
@@ -240,15 +299,16 @@ impl Board {
     // The highest issue number among the cards of a name: 2, 4.
     pub fn look_up(self, name: &[u8]) -> Answered
         requires { ⌜ Reached self ⌝ }
-        ensures { λ r. ⌜ r ≡ lookedOf self (now (name .entry)) ⌝ }
+        ensures { λ r. ⌜ r ≡ givenAs (lookedOf (modelOf self) (now (name .entry))) ⌝ }
         ensures { λ r. ⌜ Reached (r .board) ⌝ }
     {
         if !name::is_asked(name) {
             return refused(self, Refusal::BadName);
         }
         let asked = name::pad(name);
-        let cards = self.cards;
-        let n = places::highest(cards, &asked);
+        let held = self.held;
+        let names = self.names;
+        let n = places::highest(&held, &names, &asked);
         if n == 0 {
             return refused(self, Refusal::NameNotHeld);
         }
@@ -261,10 +321,10 @@ impl Board {
     // A node's voltage in microvolts, and its total in ticks: 13.
     pub fn read_node(self, node: i64) -> Answered
         requires { ⌜ Reached self ⌝ }
-        ensures { λ r. ⌜ r ≡ showedOf self node ⌝ }
+        ensures { λ r. ⌜ r ≡ givenAs (showedOf (modelOf self) node) ⌝ }
         ensures { λ r. ⌜ Reached (r .board) ⌝ }
     {
-        let n = places::node_of(node) as usize;
+        let n = given::node_of(node) as usize;
         if Board::NODES <= n {
             return refused(self, Refusal::OutOfRange);
         }

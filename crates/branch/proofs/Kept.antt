@@ -12,8 +12,8 @@ use Rattle.whole.specs.laws.Biased.{below-or-not}
 use Rattle.volts.specs.Volts.{span, offVolts, someOff, keptAs, givenBack, AllNear}
 use Rattle.volts.specs.laws.Keeping.{KeptIs, kept}
 use Rattle.branch.specs.declared.answering.Keeping.{Keeping}
-use Rattle.branch.specs.Rows.{roles}
-use Rattle.branch.specs.inner.Terms.{listUp}
+use Rattle.terms.specs.Rows.{roles}
+use Rattle.branch.specs.inner.FromTerms.{listUp}
 use Rattle.branch.specs.inner.Replied.{Keeps}
 use Rattle.branch.specs.laws.Filled.{Filled, filled-none, filled-more, filled-all, up-map}
 use Rattle.branch.proofs.Tests.{never}

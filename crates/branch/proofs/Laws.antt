@@ -1,45 +1,24 @@
--- What callers may count on: as many ticks as branches, none above the limit in size, and a judged card made ready.
+-- What callers may count on: as many ticks as branches, and none above the limit in size.
 use mathlib.Core.Path.{_≡_, refl}
 use mathlib.Core.Bool.{false}
-use mathlib.Core.Logic.{_⊎_, inl, inr}
 use mathlib.Core.List.{List, [], _∷_, map}
-use Prim.Native.Nat.{ℕ, zero, suc, _+_, _^_, _≤_, _<_, zero-le}
+use Prim.Native.Nat.{ℕ, zero, suc, _+_, _^_, _≤_, zero-le}
 use native.Mathlib.Nat.{le-trans, le-refl}
 use native.Mathlib.Omega.{arith}
-use lib.Dec.{lit≤}
 use lib.ListN.{getD, length, replicate, length-replicate}
-use lib.IntN.{ℤ, pos, natAbs, subℕ}
-use Rattle.refusal.specs.Order.{yes}
-use Rattle.whole.specs.laws.Biased.{below-or-not, sub-up, sub-down}
+use lib.IntN.{ℤ, pos, natAbs}
 use Rattle.whole.specs.Quotient.{quotient-small}
-use Rattle.volts.specs.Volts.{voltsMost, span}
-use Rattle.octave.specs.Table.{entries}
 use Rattle.card.specs.declared.WorkedCard.{WorkedCard}
-use Rattle.card.specs.Judge.{judgeOf}
-use Rattle.card.specs.inner.Worked.{Each, IsWorked}
-use Rattle.card.proofs.WorkedCards.{judged-is-worked}
+use Rattle.card.specs.inner.Worked.{Each}
+use Rattle.terms.specs.Rows.{Role, Summand, unit, root, Divisor, undivided, sumOf, Row, rowsFor, branches}
+use Rattle.terms.specs.Values.{biasOf, tickOf, ratioOf}
 use Rattle.branch.specs.declared.Over.{Over}
 use Rattle.branch.specs.declared.Over.the-variants.{Within, Ticks, Injection}
-use Rattle.branch.specs.Rows.{Role, Summand, unit, root, Divisor, undivided, sumOf, Row, rowsFor, roles, branches}
-use Rattle.branch.specs.Ticks.{biasOf, tickOf, ratioOf, summandOf, dividedBy, rowTicks}
+use Rattle.branch.specs.Ticks.{summandOf, dividedBy, rowTicks}
 use Rattle.branch.specs.Outcome.{tickLimit, ratioLimit, someAbove, ticksIn, ratiosIn, firstOver, outcomeAt}
 use Rattle.branch.specs.Outcome.{outcomeOf}
-use Rattle.branch.specs.inner.Ready.{readyOf, IsReady, Askable}
 use Rattle.branch.proofs.Tests.{passes, both-within}
-use Rattle.branch.proofs.Roots.{root-sized}
-
--- ---- a card made ready
-
-pub ready-card : (c : WorkedCard) → readyOf c .card ≡ c
-unfolding readyOf
-ready-card c = refl
-
-pub ready-made : (c : WorkedCard) → IsWorked c → IsReady (readyOf c)
-unfolding readyOf
-ready-made c h = record { worked = h; is = refl }
-
-pub made-ready : (s : List ℕ) (c : WorkedCard) → judgeOf s ≡ yes c → IsReady (readyOf c)
-made-ready s c e = ready-made c (judged-is-worked s c e)
+use Rattle.branch.proofs.Roots.{root-sized, difference-small}
 
 -- ---- as many ticks as branches
 
@@ -66,13 +45,6 @@ each-at most (x ∷ l) h (suc k) = each-at most l (h .1) k
 zeros : (most n : ℕ) → Each (Sizes most) (replicate n (pos 0))
 zeros most zero = tt
 zeros most (suc n) = (zero-le, zeros most n)
-
-difference-small : (p m most : ℕ) → p ≤ most → m ≤ most → natAbs (subℕ p m) ≤ most
-difference-small p m most h k = go (below-or-not p m)
-  where
-    go : (p < m) ⊎ (m ≤ p) → natAbs (subℕ p m) ≤ most
-    go (inl q) = rw (sub-down p m q) (omega arith)
-    go (inr q) = rw (sub-up p m q) (omega arith)
 
 module _ (c : WorkedCard) (v : Role → Role → ℤ) where
   -- a summand whose ratio is within its limit is 2^20 at least
@@ -118,13 +90,3 @@ unfolding outcomeOf
 ticks-small c v k =
     let rows = rowsFor (c .exsub) in
     each-at tickLimit (outcomeOf c v .ticks) (outcome-small c (biasOf v) rows (firstOver c (biasOf v) 1 rows) refl) k
-
--- ---- what `work_out` asks can be met: by any worked card, with every voltage 0
-
-none-far : (n k : ℕ) → getD (replicate n voltsMost) k 0 ≤ span
-none-far zero k = zero-le
-none-far (suc n) zero = lit≤ tt
-none-far (suc n) (suc k) = none-far n k
-
-pub askable : (c : WorkedCard) → IsWorked c → Askable entries (readyOf c) (replicate roles voltsMost)
-askable c h = record { table-is = refl; ready = ready-made c h; long = refl; near = record { each = none-far roles } }

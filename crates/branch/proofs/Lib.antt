@@ -2,9 +2,6 @@ pub mod Tests
 pub mod Roots
 pub mod RowLaws
 pub mod Loops
-pub mod Scaling
-pub mod Junctions
-pub mod Readied
 pub mod Kept
 pub mod Replying
 pub mod Laws

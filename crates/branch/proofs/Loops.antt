@@ -11,11 +11,11 @@ use Rattle.whole.specs.laws.Biased.{below-or-not}
 use Rattle.branch.specs.declared.Over.{Over}
 use Rattle.branch.specs.declared.Over.the-variants.{Within, Ticks, Injection}
 use Rattle.branch.specs.declared.Outcome.{Outcome}
-use Rattle.branch.specs.declared.Terms.{Terms}
-use Rattle.branch.specs.Rows.{branches}
+use Rattle.terms.specs.declared.Terms.{Terms}
+use Rattle.terms.specs.Rows.{branches}
 use Rattle.branch.specs.Outcome.{tickLimit, ratioLimit, someAbove, outcomeAt}
-use Rattle.branch.specs.inner.Terms.{Small, lastPlaces, Below, Most, rowOver, overUp}
-use Rattle.branch.specs.inner.Terms.{listUp, allTicks, outcomeFrom}
+use Rattle.branch.specs.inner.FromTerms.{Small, lastPlaces, Below, Most, rowOver, overUp}
+use Rattle.branch.specs.inner.FromTerms.{listUp, allTicks, outcomeFrom}
 
 -- what is so below k, and at k, is so below k + 1
 each-more : (P : ℕ → Type 0) {k : ℕ} → ((i : ℕ) → i < k → P i) → P k → (i : ℕ) → i < k + 1 → P i

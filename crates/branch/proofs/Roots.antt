@@ -10,7 +10,7 @@ use Rattle.whole.specs.Root.{IsRoot, rootOf, rootBits, root-is}
 use Rattle.whole.specs.Quotient.{quotientOf, quotient-up, quotient-down, quotient-small, heldSize, held-size-small}
 use Rattle.branch.specs.Ticks.{rootFor}
 use Rattle.branch.specs.Outcome.{tickLimit, ratioLimit}
-use Rattle.branch.specs.inner.Terms.{dividedOf}
+use Rattle.branch.specs.inner.FromTerms.{dividedOf}
 
 pub record RootSize (r : ℕ) : Type 0 where
   pub least : 2 ^ 20 ≤ r

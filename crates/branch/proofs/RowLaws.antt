@@ -8,19 +8,21 @@ use mathlib.Core.Logic.{_⊎_, inl, inr}
 use native.Mathlib.Omega.{arith}
 use lib.ListN.{getD, length}
 use lib.IntN.{ℤ, subℕ}
+use Rattle.refusal.specs.Unique.{unique-by-equation}
 use Rattle.whole.specs.laws.Biased.{below-or-not}
 use Rattle.whole.specs.Quotient.{quotientOf}
 use Rattle.card.specs.declared.WorkedCard.{WorkedCard}
 use Rattle.branch.specs.declared.Over.{Over}
 use Rattle.branch.specs.declared.Over.the-variants.{Within, Ticks, Injection}
-use Rattle.branch.specs.declared.Terms.{Terms}
-use Rattle.branch.specs.Rows.{Role, Summand, unit, root, Divisor, undivided, sumOf, Row, rowsFor, branches}
-use Rattle.branch.specs.Ticks.{tickOf, ratioOf, rootFor, summandOf, dividedBy, rowTicks}
+use Rattle.terms.specs.declared.Terms.{Terms}
+use Rattle.terms.specs.Rows.{Role, Summand, unit, root, Divisor, undivided, sumOf, Row, rowsFor, branches}
+use Rattle.terms.specs.Values.{tickOf, ratioOf}
+use Rattle.terms.specs.inner.Terms.{UpTo, leftOf, rightOf, RowTerms, RowsAt, none, more, TermsOf}
+use Rattle.branch.specs.Ticks.{rootFor, summandOf, dividedBy, rowTicks}
 use Rattle.branch.specs.Outcome.{tickLimit, ratioLimit, someAbove, ratiosIn, firstOver}
 use Rattle.branch.specs.Outcome.{outcomeAt}
-use Rattle.branch.specs.inner.Terms.{UpTo, leftOf, rightOf, RowTerms, RowsAt, none, more, TermsOf, Small, Below}
-use Rattle.branch.specs.inner.Terms.{Most, overUp, dividedOf, ticksAt, listUp, NotOver, Fine}
-use Rattle.branch.specs.inner.Terms.{outcomeFrom}
+use Rattle.branch.specs.inner.FromTerms.{Small, Below, Most, overUp, dividedOf, ticksAt, listUp, NotOver, Fine}
+use Rattle.branch.specs.inner.FromTerms.{outcomeFrom}
 use Rattle.branch.proofs.Tests.{Passes, passes, BothWithin, both-within, none-above}
 use Rattle.branch.proofs.Roots.{root-unit, divided-plain}
 
@@ -103,6 +105,10 @@ module _ (c : WorkedCard) (v : Role → Role → ℤ) where
       go Within e f = rw (← f, e, ticks-are (t .rows) e)
       go (Ticks k) e f = rw (← f, e)
       go (Injection k) e f = rw (← f, e)
+
+  -- whatever terms are permitted, they have one outcome
+  pub unique-outcome : {x y : Terms} → TermsOf c v x → TermsOf c v y → outcomeFrom x ≡ outcomeFrom y
+  unique-outcome t u = unique-by-equation (outcome-is t) (outcome-is u)
 
 -- ---- terms that are within, and rows of which none overloads
 

@@ -14,7 +14,7 @@ use Rattle.branch.specs.declared.Outcome.{Outcome}
 use Rattle.branch.specs.declared.Admission.{Admission}
 use Rattle.branch.specs.declared.Admission.the-variants.{Given, Refused}
 use Rattle.branch.specs.declared.Reply.{Reply}
-use Rattle.branch.specs.Rows.{branches}
+use Rattle.terms.specs.Rows.{branches}
 use Rattle.branch.specs.Outcome.{isOver, outcomeOf}
 
 -- 15 wherever a row overloads, whichever and however; else the ticks

@@ -1,5 +1,3 @@
-pub mod Rows
-pub mod Ends
 pub mod Ticks
 pub mod Outcome
 pub mod Currents

@@ -1,7 +1,7 @@
 -- The currents of a transistor, row by row, or the first row that overloads.
 use mathlib.Core.Bool.{Bool, true, false, _||_}
 use mathlib.Core.List.{List, [], _∷_, map}
-use Prim.Native.Nat.{ℕ, suc, _^_}
+use Prim.Native.Nat.{ℕ, suc}
 use lib.Dec.{ltb}
 use lib.ListN.{replicate, length}
 use lib.IntN.{ℤ, pos}
@@ -9,15 +9,10 @@ use Rattle.card.specs.declared.WorkedCard.{WorkedCard}
 use Rattle.branch.specs.declared.Over.{Over}
 use Rattle.branch.specs.declared.Over.the-variants.{Within, Ticks, Injection}
 use Rattle.branch.specs.declared.Outcome.{Outcome}
-use Rattle.branch.specs.Rows.{Role, Divisor, undivided, sumOf, Row, rowsFor}
-use Rattle.branch.specs.Ticks.{tickOf, ratioOf, rowTicks, biasOf}
-
--- the most ticks that a T may have, and the most that a ratio's floor may
-abbrev pub tickLimit : ℕ
-tickLimit = 2 ^ 53
-
-abbrev pub ratioLimit : ℕ
-ratioLimit = 2 ^ 40
+use Rattle.terms.specs.Rows.{Role, Divisor, undivided, sumOf, Row, rowsFor}
+use Rattle.terms.specs.Values.{tickOf, ratioOf, biasOf}
+pub use Rattle.terms.specs.Values.{tickLimit, ratioLimit}
+use Rattle.branch.specs.Ticks.{rowTicks}
 
 -- some number of the list is above the limit
 abbrev pub someAbove : ℕ → List ℕ → Bool

@@ -1,4 +1,3 @@
 -- Words that inner contracts use, and what callers may count on.
-pub mod Ready
-pub mod Terms
+pub mod FromTerms
 pub mod Replied

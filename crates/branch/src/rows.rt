@@ -1,17 +1,17 @@
 // Which row overloads first, and each row's ticks: one loop each over the rows' terms.
 ghost use mathlib.Core.Path.{_≡_};
 ghost use Prim.Native.Nat.{_≤_, _<_};
-ghost use Rattle.branch.specs.Rows.{branches};
+ghost use Rattle.terms.specs.Rows.{branches};
 ghost use Rattle.branch.specs.Ticks.{rootFor};
 ghost use Rattle.branch.specs.Outcome.{tickLimit, ratioLimit};
-ghost use Rattle.branch.specs.inner.Terms.{Small, Below, Most, Fine, overUp, dividedOf, allTicks, outcomeFrom};
+ghost use Rattle.branch.specs.inner.FromTerms.{Small, Below, Most, Fine, overUp, dividedOf, allTicks, outcomeFrom};
 use crate::BRANCHES;
 use crate::Outcome;
 use crate::Over;
-use crate::PART_PLACES;
 use crate::PARTS_MOST;
-use crate::TICKS_MOST;
-use crate::Terms;
+use terms::PART_PLACES;
+use terms::TICKS_MOST;
+use terms::Terms;
 
 // The unit of ratios, 2^20; Q's shift; and the first size that no row's ticks have.
 const UNIT: u64 = 1 << PART_PLACES;

@@ -10,14 +10,14 @@ use Rattle.refusal.specs.declared.Refusal.{Refusal}
 use Rattle.refusal.specs.declared.Refusal.the-variants.{Malformed, NotFinite}
 use Rattle.refusal.specs.Told.{told}
 use Rattle.refusal.specs.Order.{refuseIf, yes, tells, refused, passes-if}
-use Rattle.card.specs.declared.Answer.the-variants as answer
-use Rattle.card.specs.declared.Clipping.{Clipping}
-use Rattle.card.specs.Limits.{width}
-use Rattle.card.specs.Record.{hasWords, finiteUp}
-use Rattle.card.specs.Clip.{clippedUp, clipOf, Clips}
+use Rattle.clip.specs.declared.Answer.the-variants as answer
+use Rattle.clip.specs.declared.Clipping.{Clipping}
+use Rattle.clip.specs.Limits.{width}
+use Rattle.clip.specs.Record.{hasWords, finiteUp}
+use Rattle.clip.specs.Clip.{clippedUp, clipOf, Clips}
 use Rattle.card.specs.Judge.{judgeNumbers, judgeOf}
 use Rattle.card.specs.inner.Worked.{GoodMlf}
-use Rattle.card.specs.laws.Unique.{clip-taken, clip-refused}
+use Rattle.clip.specs.laws.Unique.{clip-taken, clip-refused}
 use Rattle.card.proofs.Clipped.{good-mlf}
 
 all-finite : (n : ℕ) (s : List ℕ) → clipOf n s ≡ yes tt → finiteUp s n ≡ true

@@ -13,12 +13,12 @@ use Rattle.refusal.specs.Told.{told}
 use Rattle.refusal.specs.Clash.{clash}
 use Rattle.refusal.specs.Order.{Verdict, no, refuseIf, refused, given, tells}
 use Rattle.card.specs.declared.octaves.Octave.the-variants.{Nanovolts, Out}
-use Rattle.card.specs.declared.working.Worked.{Worked}
+use Rattle.working.specs.declared.Worked.{Worked}
 use Rattle.card.specs.declared.WorkedCard.{WorkedCard}
-use Rattle.card.specs.declared.Answer.{Answer}
-use Rattle.card.specs.declared.Answer.the-variants as answer
-use Rattle.card.specs.Limits.{zero, one, tenth}
-use Rattle.card.specs.Work.{workedOf, allFinite}
+use Rattle.clip.specs.declared.Answer.{Answer}
+use Rattle.clip.specs.declared.Answer.the-variants as answer
+use Rattle.clip.specs.Limits.{zero, one, tenth}
+use Rattle.working.specs.Work.{workedOf, allFinite}
 use Rattle.card.specs.Octave.{ten-million, fifty-million, wholePart, octaveGood, secondGood}
 use Rattle.card.specs.Judge.{parametersOf, exsub, rcbli, octave, level, mlf, product, cardFrom, cardOf, level504}
 use Rattle.card.specs.Judge.{isSwitch, withinReach, reachOf, judgeNumbers}

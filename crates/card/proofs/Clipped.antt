@@ -12,10 +12,10 @@ use lib.Ieee.{nan, ofBits}
 use lib.Ieee.Positive.{positive, positive-finite}
 use lib.Ieee.Scale.{finite}
 use Rattle.refusal.specs.Clash.{clash}
-use Rattle.card.specs.Numbers as number
-use Rattle.card.specs.Limits.{tenth}
-use Rattle.card.specs.Record.{numberAt, finiteUp}
-use Rattle.card.specs.Clip.{clippedAt, clippedUp}
+use Rattle.clip.specs.Numbers as number
+use Rattle.clip.specs.Limits.{tenth}
+use Rattle.clip.specs.Record.{numberAt, finiteUp}
+use Rattle.clip.specs.Clip.{clippedAt, clippedUp}
 use Rattle.card.specs.inner.Worked.{GoodMlf}
 use Rattle.card.proofs.Range.{holds}
 use Rattle.card.proofs.Raise.{Raised, raised}

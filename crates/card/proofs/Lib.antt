@@ -1,5 +1,3 @@
-pub mod Taken
-pub mod Turn
 pub mod Whole
 pub mod Range
 pub mod Raise

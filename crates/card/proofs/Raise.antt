@@ -11,8 +11,8 @@ use lib.Ieee.Fits.{up-pos, down-pos}
 use lib.Ieee.Positive.{positive, cross→le, first-pos, num, den}
 use lib.Ieee.Scale.{finite}
 use borrow.Author.Tests.{ltb-false, ne-eqb}
-use Rattle.card.specs.declared.limits.Rule.the-variants.{AtLeast}
-use Rattle.card.specs.Limits.{zero, plainOf, clipTo}
+use Rattle.clip.specs.declared.limits.Rule.the-variants.{AtLeast}
+use Rattle.clip.specs.Limits.{zero, plainOf, clipTo}
 
 pub zero-is : zero ≡ fin false 0 (pos 0)
 unfolding ofBits

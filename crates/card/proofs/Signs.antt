@@ -12,9 +12,9 @@ use lib.Ieee.{sub, mul, div, lt, eq}
 use lib.Ieee.Fits.{up-pos, down-pos}
 use lib.Ieee.Scale.{finite}
 use borrow.Author.Tests.{ltb-false, eq-eqb}
-use Rattle.card.specs.declared.limits.Rule.the-variants.{AtLeast, Between}
-use Rattle.card.specs.Limits as limits
-use Rattle.card.specs.Limits.{plainOf, clipTo}
+use Rattle.clip.specs.declared.limits.Rule.the-variants.{AtLeast, Between}
+use Rattle.clip.specs.Limits as limits
+use Rattle.clip.specs.Limits.{plainOf, clipTo}
 use Rattle.card.specs.laws.Sign.{unsigned}
 use Rattle.card.proofs.Raise.{zero-is}
 

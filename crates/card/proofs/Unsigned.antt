@@ -7,14 +7,14 @@ use native.Mathlib.Omega.{arith}
 use lib.Dec.{T}
 use lib.Ieee.{Float, binary64, ofBits, lt, eq, mul, sub}
 use lib.Ieee.Scale.{finite}
-use Rattle.card.specs.declared.working.Worked.{Worked}
-use Rattle.card.specs.declared.limits.Rule.{Rule}
-use Rattle.card.specs.declared.limits.Rule.the-variants.{Free, AtLeast, Between}
-use Rattle.card.specs.Numbers as number
-use Rattle.card.specs.Limits.{width, zero, one, pico, tenth-milli, tenth-nano, ruleOf, plainOf, clipTo}
-use Rattle.card.specs.Record.{numberAt, finiteUp}
-use Rattle.card.specs.Clip.{clippedAt, clippedUp}
-use Rattle.card.specs.Work.{four, sfOf, workedOf, valuesOf}
+use Rattle.working.specs.declared.Worked.{Worked}
+use Rattle.clip.specs.declared.limits.Rule.{Rule}
+use Rattle.clip.specs.declared.limits.Rule.the-variants.{Free, AtLeast, Between}
+use Rattle.clip.specs.Numbers as number
+use Rattle.clip.specs.Limits.{width, zero, one, pico, tenth-milli, tenth-nano, ruleOf, plainOf, clipTo}
+use Rattle.clip.specs.Record.{numberAt, finiteUp}
+use Rattle.clip.specs.Clip.{clippedAt, clippedUp}
+use Rattle.working.specs.Work.{four, sfOf, workedOf, valuesOf}
 use Rattle.card.specs.Judge.{at, parametersOf}
 use Rattle.card.specs.inner.Worked.{Each}
 use Rattle.card.specs.laws.Sign.{unsigned, Unsigned}

@@ -16,12 +16,12 @@ use Rattle.refusal.specs.declared.Refusal.the-variants.{OutOfReach}
 use Rattle.refusal.specs.Order.{Verdict, yes, refuseIf, passes-if}
 use Rattle.float.specs.Split.{splitB, splitOf, splitBias, IsSplit}
 use Rattle.float.proofs.Kept.{is-split, power-kept}
-use Rattle.card.specs.declared.working.Parameters.{Parameters}
+use Rattle.working.specs.declared.Parameters.{Parameters}
 use Rattle.card.specs.declared.WorkedCard.{WorkedCard}
-use Rattle.card.specs.Limits.{zero, width}
-use Rattle.card.specs.Record.{rightLength, finiteUp}
-use Rattle.card.specs.Clip.{clippedUp}
-use Rattle.card.specs.Work.{workedOf, valuesOf, all}
+use Rattle.clip.specs.Limits.{zero, width}
+use Rattle.clip.specs.Record.{rightLength, finiteUp}
+use Rattle.clip.specs.Clip.{clippedUp}
+use Rattle.working.specs.Work.{workedOf, valuesOf, all}
 use Rattle.card.specs.Octave.{ten-million, fifty-million, secondMost, wholePart, octaveGood, secondGood}
 use Rattle.card.specs.Judge.{parametersOf, mlf, octave, exsub, level, level504, isSwitch, product, cardOf}
 use Rattle.card.specs.Judge.{withinReach, judgeNumbers, judgeOf}

@@ -8,15 +8,15 @@ use Rattle.refusal.specs.declared.Refusal.the-variants.{WrongLevel, BadExsub, B
 use Rattle.refusal.specs.Told.{told}
 use Rattle.refusal.specs.Order.{Verdict, yes, refuseIf, andThen, Answer, refused, given}
 use Rattle.float.specs.Split.{splitOf, noSplit}
-use Rattle.card.specs.declared.working.Parameters.{Parameters}
-use Rattle.card.specs.declared.working.Worked.{Worked}
+use Rattle.working.specs.declared.Parameters.{Parameters}
+use Rattle.working.specs.declared.Worked.{Worked}
 use Rattle.card.specs.declared.WorkedCard.{WorkedCard}
 use Rattle.card.specs.declared.Judged.{Judged}
 use Rattle.card.specs.declared.Judged.the-variants.{Card, Refused}
-use Rattle.card.specs.Numbers as number
-use Rattle.card.specs.Limits.{zero, one, width}
-use Rattle.card.specs.Clip.{clippedUp, clipOf}
-use Rattle.card.specs.Work.{workedOf, allFinite}
+use Rattle.clip.specs.Numbers as number
+use Rattle.clip.specs.Limits.{zero, one, width}
+use Rattle.clip.specs.Clip.{clippedUp, clipOf}
+use Rattle.working.specs.Work.{workedOf, allFinite}
 use Rattle.card.specs.Octave.{wholePart, octaveGood, secondGood}
 
 -- number i of the clipped ones

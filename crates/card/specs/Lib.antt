@@ -1,9 +1,4 @@
--- The paper's definitions, file by file; `inner` has words of inner contracts, and `laws` what follows from them all.
-pub mod Numbers
-pub mod Limits
-pub mod Record
-pub mod Clip
-pub mod Work
+-- The rules of judging, file by file; `inner` has words of inner contracts, and `laws` what follows from them all.
 pub mod Octave
 pub mod Judge
 pub mod inner

@@ -1,5 +1,4 @@
 -- Words that inner contracts use, and what callers may count on.
-pub mod Refused
 pub mod Octaves
 pub mod Tests
 pub mod Worked

@@ -1,4 +1,4 @@
--- What follows from the definitions: the numbers told, one result for one record, an answer's verdict, signs.
+-- What follows from the definitions: the number told, one result for one record, an answer's verdict, signs.
 pub mod Tells
 pub mod Unique
 pub mod Sign

@@ -6,17 +6,16 @@ ghost use Rattle.card.specs.Octave.{octaveGood};
 ghost use Rattle.card.specs.Judge.{parametersOf, octave, cardFrom, isSwitch, reachOf, judgeNumbers, toldJudged};
 ghost use Rattle.card.specs.inner.Tests.{unlessPassed, firstWrong};
 ghost use Rattle.card.specs.inner.Worked.{GoodMlf};
-use crate::Answer;
 use crate::Judged;
-use crate::WIDTH;
 use crate::WorkedCard;
-use crate::numbers;
 use crate::octaves;
 use crate::octaves::Octave;
-use crate::working;
-use crate::working::Parameters;
-use crate::working::Worked;
+use clip::Answer;
+use clip::WIDTH;
+use clip::numbers;
 use refusal::Refusal;
+use working::Parameters;
+use working::Worked;
 
 // Whether a number is 0 or 1.
 fn is_switch(x: f64) -> bool
@@ -92,7 +91,7 @@ fn reach(x: &[f64; WIDTH]) -> Judged
         return Judged::Refused(Refusal::OutOfReach);
     };
     let w = working::work(parameters(x));
-    if working::all_finite(working::values(w)) {
+    if working::all_finite(w) {
         let octave = octaves::nanovolts(x[numbers::OCTAVE]);
         Judged::Card(card(
             w,

@@ -1,35 +1,17 @@
-// A card: its record's numbers clipped, with the mask of those that changed; and judged for loading, worked to what the branches need.
+// A card: its record judged for loading, and worked to what the branches need.
 ghost use mathlib.Core.Path.{_≡_};
 ghost use Rattle.refusal.specs.Order.{tells};
-ghost use Rattle.card.specs.Limits.{width};
-ghost use Rattle.card.specs.Record.{rightLength};
-ghost use Rattle.card.specs.Clip.{Clips};
 ghost use Rattle.card.specs.Judge.{judgeOf, toldJudged, noWorked};
 
-mod numbers; // numbers.rt: the parameters' numbers
-mod limits; // limits.rt: the clip rules
-mod words; // words.rt: the words of a record, one after the other
-mod working; // working.rt: the nine worked values
 mod octaves; // octaves.rt: the octave and the second octave
 mod judging; // judging.rt: the tests of loading, in their order
 
+pub use clip::Answer;
+pub use clip::Clipping;
+pub use clip::WIDTH;
+pub use clip::clip;
+pub use clip::right_length;
 use refusal::Refusal;
-
-// The words of a record.
-pub const WIDTH: usize = 16;
-
-// How clipping went.
-pub enum Answer {
-    Taken,
-    Refused(Refusal),
-}
-
-// The clipped numbers, and bit i of the mask for a number i whose value changed. All are zero where the answer is a refusal.
-pub struct Clipping {
-    pub answer: Answer,
-    pub numbers: [f64; WIDTH],
-    pub mask: u32,
-}
 
 // What the branches need of a card: nine values as a * 2^b, the two octaves in nanovolts, and two switches.
 pub struct WorkedCard {
@@ -74,24 +56,6 @@ pub fn no_card() -> WorkedCard
         second: 0,
         exsub: false,
         rcbli_zero: false,
-    }
-}
-
-// Whether the bytes are as many as a record has.
-pub fn right_length(bytes: &[u8]) -> bool
-    ensures { λ r. ⌜ r ≡ rightLength (now (bytes .entry)) ⌝ }
-{
-    bytes.len() == 8 * WIDTH
-}
-
-// Clipping alone: 1, then 6.
-pub fn clip(bytes: &[u8]) -> Clipping
-    ensures { λ r. ⌜ Clips width (now (bytes .entry)) r ⌝ }
-{
-    if right_length(bytes) {
-        words::clip_all(bytes)
-    } else {
-        words::refused(Refusal::Malformed)
     }
 }
 

@@ -1,15 +1,15 @@
 -- The board follows the desk: after any calls it stands for the desk that the same calls leave, and answers each call
 -- as the desk does.
 use mathlib.Core.Path.{_≡_, refl, sym, ap, _∙_, subst}
-use mathlib.Core.Bool.{Bool, true, false, cond, not}
+use mathlib.Core.Bool.{Bool, true, false, cond, not, _||_}
 use mathlib.Core.List.{List, [], _∷_, map}
-use Prim.Native.Nat.{ℕ, zero, suc, _-_, _≤_, _<_}
+use Prim.Native.Nat.{ℕ, zero, suc, _+_, _-_, _≤_, _<_}
 use native.Mathlib.Numerals.{add-one}
 use native.Mathlib.Omega.{arith}
 use lib.Dec.{eqb, leb, ltb}
-use lib.ListN.{length, getD, set}
+use lib.ListN.{length, getD, set, length-map, length-replicate}
 use lib.IntN.{ℤ, pos, natAbs}
-use borrow.Author.Tests.{eqb-true, eqb-false, leb-false, ltb-false}
+use borrow.Author.Tests.{eqb-true, eqb-false, ne-eqb, leb-false, ltb-false}
 use Rattle.refusal.specs.declared.Refusal.{Refusal}
 use Rattle.refusal.specs.declared.Refusal.the-variants.{CardInUse}
 use Rattle.refusal.specs.Order.{Verdict, no, yes, refuseIf}
@@ -17,24 +17,30 @@ use Rattle.name.specs.Name.{padded, same}
 use Rattle.volts.specs.Volts.{givenBack, keptAs, offVolts}
 use Rattle.volts.specs.laws.Keeping.{kept}
 use Rattle.card.specs.declared.WorkedCard.{WorkedCard}
-use Rattle.branch.specs.inner.Ready.{readyOf}
-use Rattle.branch.proofs.Laws.{ready-card}
-use Rattle.branch.specs.Rows.{roles}
-use Rattle.places.specs.declared.Card.{Card}
-use Rattle.places.specs.declared.Transistor.{Transistor}
-use Rattle.board.specs.declared.Board.{Board}
-use Rattle.board.specs.Counts.{nodesMost, cardsMost, transistorsMost}
-use Rattle.places.specs.Arguments.{Found, none, some, issueOf}
-use Rattle.board.specs.Verdict.{placeVerdict, moveVerdict, liftVerdict, withdrawVerdict, nodeVerdict}
-use Rattle.board.specs.Desk as desk
-use Rattle.board.specs.Desk.{Held, Standing, Desk, Call, load, place, move, lift, withdraw, lookUp, node}
-use Rattle.board.specs.Desk.{overloads, sumOver, anyOf, firstWith, heldAs, standsAs, without, larger, highest}
-use Rattle.board.specs.Desk.{flow, total, someOverloads, step, freshDesk, after}
-use Rattle.board.specs.Model as board
-use Rattle.board.specs.Model.{first, foundAt, isCard, isTransistor, cardPlace, transistorPlace, emptyCard}
-use Rattle.board.specs.Model.{noCard, emptyTransistor, noTransistor, placeGives, placeOverloads}
-use Rattle.board.specs.Model.{freshBoard, voltsOf, freeCard, freeTransistor, standsOn, highestAt, loadedOf}
-use Rattle.board.specs.Model.{placedOf, movedOf, liftedOf, withdrawnOf, lookedOf, showedOf, answered, boardAfter}
+use Rattle.terms.specs.inner.Ready.{readyOf}
+use Rattle.terms.proofs.Laws.{ready-card}
+use Rattle.terms.specs.Rows.{roles}
+use Rattle.places.specs.Gathered.{Card, Transistor}
+use Rattle.model.specs.Board.{Board}
+use Rattle.model.specs.Model.{cardsOf, transistorsOf, transistorAt}
+use Rattle.model.specs.Counts.{nodesMost, cardsMost, transistorsMost}
+use Rattle.given.specs.Arguments.{Found, none, some, issueOf}
+use Rattle.model.specs.Verdict.{placeVerdict, moveVerdict, liftVerdict, withdrawVerdict, nodeVerdict}
+use Rattle.model.specs.Desk as desk
+use Rattle.model.specs.Desk.{Held, Standing, Desk, Call, load, place, move, lift, withdraw, lookUp, node}
+use Rattle.totals.specs.Flow.{overloads, sumOver}
+use Rattle.given.specs.Lists.{anyOf, larger}
+use Rattle.model.specs.Desk.{firstWith, heldAs, standsAs, without, highest}
+use Rattle.totals.specs.Flow.{flow}
+use Rattle.model.specs.Desk.{total, someOverloads, step, freshDesk, after}
+use Rattle.model.specs.Model as board
+use Rattle.places.specs.Finding.{first, foundAt, isCard, isTransistor, cardPlace, transistorPlace}
+use Rattle.places.specs.Gathered.{emptyCard}
+use Rattle.places.specs.Gathered.{noCard, emptyTransistor, noTransistor}
+use Rattle.model.specs.inner.Sums.{placeGives}
+use Rattle.model.specs.Model.{freshBoard, voltsOf, loadedOf}
+use Rattle.places.specs.Finding.{freeCard, freeTransistor, standsOn, highestAt}
+use Rattle.model.specs.Model.{placedOf, movedOf, liftedOf, withdrawnOf, lookedOf, showedOf, answered, boardAfter}
 use Rattle.days.specs.Perm.{empty}
 use Rattle.days.specs.Stands.{occupied, heldOf, standingOf, heldIn, standingIn, heldAt, standingAt, mapFound}
 use Rattle.days.specs.Stands.{standsUnder, Stands, Follow}
@@ -43,10 +49,20 @@ use Rattle.days.proofs.Perms.{perm-without, perm-highest}
 use Rattle.days.proofs.Places.{sum-occupied, any-occupied, full, join, seen, find, find-none}
 use Rattle.days.proofs.Places.{count-occupied, leave}
 use Rattle.totals.proofs.Lists.{getD-map}
-use Rattle.board.proofs.NodeSums.{totals-at}
-use Rattle.board.proofs.Verdicts.{loads, places, moves, lifts, withdraws, shown}
-use Rattle.board.proofs.Invariant.{Invariant, invariant-after, at-card, AtCard, at-transistor, AtTransistor}
-use Rattle.board.proofs.Invariant.{unused-away, worked-same, free-card}
+use Rattle.model.proofs.NodeSums.{totals-at}
+use Rattle.model.proofs.Verdicts.{loads, places, moves, lifts, withdraws, shown}
+use Rattle.model.proofs.Invariant.{Invariant, invariant-after, at-card, AtCard, at-transistor, AtTransistor}
+use Rattle.model.proofs.Invariant.{Away, unused-away, worked-same, free-below, free-away, still, cards-holding}
+use Rattle.model.proofs.Invariant.{transistors-holding, cards-standing, transistors-standing, cards-leveled}
+use Rattle.model.proofs.Invariant.{transistors-leveled, fresh-cards, fresh-transistors}
+use Rattle.model.proofs.Gains.{touched-stands}
+use Rattle.model.proofs.Lists.{padded-long}
+use Rattle.branch.specs.Outcome.{isOver}
+use Rattle.settle.specs.laws.Firsts.{first-over}
+use Rattle.totals.specs.Flow.{overAt}
+use Rattle.places.specs.Gathered.{workedAt}
+use Rattle.name.specs.Name.{nameLength}
+use Rattle.model.specs.Model.{Shift, shifted, touched, oneShift, firstOver, settled, workedOn}
 use Rattle.days.proofs.Orderly.{Orderly, orderly-after}
 use Rattle.days.proofs.Orders.{order-load, order-place, order-move, order-lift, order-withdraw, order-look}
 use Rattle.days.proofs.Orders.{order-read}
@@ -63,12 +79,12 @@ map-refuse g true f v = refl
 map-refuse g false f v = refl
 
 module _ {A B : Type 0} (g : A → B) where
-  map-place : (found : Found A) (worked : B → WorkedCard) (over : B → Bool) (nodes : List ℤ) (noRoom used : Bool) →
-      placeVerdict (mapFound g found) worked over nodes noRoom used ≡ mapVerdict g
-      (placeVerdict found (λ (a : A). worked (g a)) (λ (a : A). over (g a)) nodes noRoom used)
+  map-place : (found : Found A) (joins over : B → Bool) (nodes : List ℤ) (noRoom used : Bool) →
+      placeVerdict (mapFound g found) joins over nodes noRoom used ≡ mapVerdict g
+      (placeVerdict found (λ (a : A). joins (g a)) (λ (a : A). over (g a)) nodes noRoom used)
   unfolding placeVerdict
-  map-place none worked over nodes noRoom used = refl
-  map-place (some a) worked over nodes noRoom used = sym (simp map-refuse)
+  map-place none joins over nodes noRoom used = refl
+  map-place (some a) joins over nodes noRoom used = sym (simp map-refuse)
 
   map-lift : (found : Found A) → liftVerdict (mapFound g found) ≡ mapVerdict g (liftVerdict found)
   unfolding liftVerdict
@@ -104,19 +120,37 @@ highest-held name (c ∷ cards) = go (eqb (c .issue) 0) refl (highest-held name 
     go true e h = rw (eqb-true (c .issue) 0 e) (h ∙ sym (nothing (same (c .name) name) (highestAt name cards)))
     go false e h = ap (larger (cond (same (c .name) name) (c .issue) 0)) h
 
-module _ (b : Board) (d : Desk) (g : Invariant b) (o : Orderly d) (s : Stands b d) where
-  cards-full : leb cardsMost (freeCard (b .cards)) ≡ leb cardsMost (length (d .cards))
-  cards-full =
-      let e = full (λ (c : Card). c .issue) heldOf (b .cards) in
-      rw (← (perm-length (s .cards))) (rw (g .cards-long) at e)
+-- a test that some element passes, and one that none does
+any-one : {A : Type 0} (p : A → Bool) (a : A) (l : List A) (i : ℕ) → i < length l → p (getD l i a) ≡ true →
+    true ≡ anyOf p l
+unfolding anyOf
+any-one p a [] i h e = absurd (omega arith)
+any-one p a (x ∷ l) zero h e = rw e
+any-one p a (x ∷ l) (suc i) h e = go (p x) (any-one p a l i (omega arith) e)
+  where
+    go : (t : Bool) → true ≡ anyOf p l → true ≡ t || anyOf p l
+    go true k = refl
+    go false k = k
 
-  transistors-full : leb transistorsMost (freeTransistor (b .transistors)) ≡ leb transistorsMost (length (d .standing))
+any-none : {A : Type 0} (p : A → Bool) (a : A) (l : List A) → ((i : ℕ) → i < length l → p (getD l i a) ≡ false) →
+    anyOf p l ≡ false
+unfolding anyOf
+any-none p a [] h = refl
+any-none p a (x ∷ l) h = rw (h 0 (omega arith)) (any-none p a l (λ i k. h (suc i) (omega arith)))
+
+module _ (b : Board) (d : Desk) (g : Invariant b) (o : Orderly d) (s : Stands b d) where
+  cards-full : leb cardsMost (freeCard (cardsOf b)) ≡ leb cardsMost (length (d .cards))
+  cards-full =
+      let e = full (λ (c : Card). c .issue) heldOf (cardsOf b) in
+      rw (← (perm-length (s .cards))) (rw (g .holds .cards-long) at e)
+
+  transistors-full : leb transistorsMost (freeTransistor (transistorsOf b)) ≡ leb transistorsMost (length (d .standing))
   transistors-full =
-      let e = full (λ (t : Transistor). t .issue) (standingOf (b .cards)) (b .transistors) in
-      rw (← (perm-length (s .standing))) (rw (g .transistors-long) at e)
+      let e = full (λ (t : Transistor). t .issue) (standingOf (cardsOf b)) (transistorsOf b) in
+      rw (← (perm-length (s .standing))) (rw (g .holds .transistors-long) at e)
 
   card-by : (n : ℕ) →
-      heldAs n (d .cards) ≡ mapFound (heldAt b) (cardPlace n (b .cards))
+      heldAs n (d .cards) ≡ mapFound (heldAt b) (cardPlace n (cardsOf b))
   card-by n =
       sym
       (perm-first (λ (h : Held). eqb (h .issue) n)
@@ -125,15 +159,15 @@ module _ (b : Board) (d : Desk) (g : Invariant b) (o : Orderly d) (s : Stands b 
       ∙ go (eqb n 0) refl
     where
       go : (t : Bool) → eqb n 0 ≡ t →
-          firstWith (λ (h : Held). eqb (h .issue) n) (heldIn (b .cards)) ≡ mapFound (heldAt b)
-          (cond t none (foundAt cardsMost (first (isCard n) (b .cards))))
+          firstWith (λ (h : Held). eqb (h .issue) n) (heldIn (cardsOf b)) ≡ mapFound (heldAt b)
+          (cond t none (foundAt cardsMost (first (isCard n) (cardsOf b))))
       go true e =
           rw (eqb-true n 0 e)
-          (find-none (λ (c : Card). c .issue) heldOf (λ (h : Held). h .issue) (λ c. refl) (b .cards))
+          (find-none (λ (c : Card). c .issue) heldOf (λ (h : Held). h .issue) (λ c. refl) (cardsOf b))
       go false e =
-          rw (← (g .cards-long))
+          rw (← (g .holds .cards-long))
           (find (λ (c : Card). c .issue) heldOf (λ (h : Held). h .issue) (λ c. refl) n (eqb-false n 0 e) noCard
-          (b .cards))
+          (cardsOf b))
 
   pub transistor-by : (n : ℕ) → standsAs n (d .standing) ≡ standsUnder n b
   transistor-by n =
@@ -144,37 +178,71 @@ module _ (b : Board) (d : Desk) (g : Invariant b) (o : Orderly d) (s : Stands b 
       ∙ go (eqb n 0) refl
     where
       go : (t : Bool) → eqb n 0 ≡ t →
-          firstWith (λ (u : Standing). eqb (u .issue) n) (standingIn (b .cards) (b .transistors)) ≡ mapFound
-          (standingAt b) (cond t none (foundAt transistorsMost (first (isTransistor n) (b .transistors))))
+          firstWith (λ (u : Standing). eqb (u .issue) n) (standingIn (cardsOf b) (transistorsOf b)) ≡ mapFound
+          (standingAt b) (cond t none (foundAt transistorsMost (first (isTransistor n) (transistorsOf b))))
       go true e =
           rw (eqb-true n 0 e)
-          (find-none (λ (t : Transistor). t .issue) (standingOf (b .cards)) (λ (u : Standing). u .issue) (λ t. refl)
-          (b .transistors))
+          (find-none (λ (t : Transistor). t .issue) (standingOf (cardsOf b)) (λ (u : Standing). u .issue) (λ t. refl)
+          (transistorsOf b))
       go false e =
-          rw (← (g .transistors-long))
-          (find (λ (t : Transistor). t .issue) (standingOf (b .cards)) (λ (u : Standing). u .issue) (λ t. refl) n
-          (eqb-false n 0 e) noTransistor (b .transistors))
+          rw (← (g .holds .transistors-long))
+          (find (λ (t : Transistor). t .issue) (standingOf (cardsOf b)) (λ (u : Standing). u .issue) (λ t. refl) n
+          (eqb-false n 0 e) noTransistor (transistorsOf b))
 
-  any-standing : (volts : List ℤ) → someOverloads d volts ≡ anyOf (placeOverloads (b .cards) volts) (b .transistors)
-  unfolding placeOverloads
+  -- whether the transistor at a place would overload
+  abbrev placeOver : List ℤ → Transistor → Bool
+  placeOver volts t = cond (eqb (t .issue) 0) false (overloads (workedAt (cardsOf b) (t .seat)) (t .nodes) volts)
+
+  any-standing : (volts : List ℤ) → someOverloads d volts ≡ anyOf (placeOver volts) (transistorsOf b)
   any-standing volts =
       sym (perm-any (λ (t : Standing). overloads (t .worked) (t .nodes) volts) (s .standing))
-      ∙ any-occupied (λ (t : Transistor). t .issue) (standingOf (b .cards))
-      (λ (t : Standing). overloads (t .worked) (t .nodes) volts) (b .transistors)
+      ∙ any-occupied (λ (t : Transistor). t .issue) (standingOf (cardsOf b))
+      (λ (t : Standing). overloads (t .worked) (t .nodes) volts) (transistorsOf b)
 
-  any-on : (n : ℕ) → anyOf (λ (t : Standing). eqb (t .card) n) (d .standing) ≡ anyOf (standsOn n) (b .transistors)
+  -- those worked tell whether anybody overloads: the others do as they did
+  first-standing : (shifts : List Shift) →
+      isOver (firstOver b shifts .over) ≡ someOverloads d (map givenBack (shifted (b .volts) shifts))
+  unfolding overloads
+  first-standing shifts = go (isOver (firstOver b shifts .over)) refl ∙ sym (any-standing will)
+    where
+      will : List ℤ
+      will = map givenBack (shifted (b .volts) shifts)
+
+      quiet : isOver (firstOver b shifts .over) ≡ false → (i : ℕ) → i < length (transistorsOf b) →
+          placeOver will (transistorAt b i) ≡ false
+      quiet e i h = within (eqb (transistorAt b i .issue) 0) refl
+        where
+          within : (t : Bool) → eqb (transistorAt b i .issue) 0 ≡ t →
+              cond t false (overloads (workedOn b i) (transistorAt b i .nodes) will) ≡ false
+          within true p = refl
+          within false p = still g shifts e i (eqb-false _ _ p)
+
+      over : isOver (firstOver b shifts .over) ≡ true → true ≡ anyOf (placeOver will) (transistorsOf b)
+      over e =
+          let f = first-over (λ (i : ℕ). touched shifts (transistorAt b i)) (λ (i : ℕ). transistorAt b i .issue)
+          (λ (i : ℕ). overAt (workedOn b i) (transistorAt b i .nodes) will) transistorsMost e in
+          let h = touched-stands shifts (transistorAt b (f .0)) (f .2) in
+          let o : placeOver will (transistorAt b (f .0)) ≡ true = rw (ne-eqb _ _ h) (f .3) in
+          any-one (placeOver will) noTransistor (transistorsOf b) (f .0) (rw (g .holds .transistors-long) (f .1)) o
+
+      go : (t : Bool) → isOver (firstOver b shifts .over) ≡ t → t ≡ anyOf (placeOver will) (transistorsOf b)
+      go true e = over e
+      go false e = sym (any-none (placeOver will) noTransistor (transistorsOf b) (quiet e))
+
+  any-on : (n : ℕ) → anyOf (λ (t : Standing). eqb (t .card) n) (d .standing) ≡ anyOf (standsOn n) (transistorsOf b)
   any-on n =
       sym (perm-any (λ (t : Standing). eqb (t .card) n) (s .standing))
-      ∙ any-occupied (λ (t : Transistor). t .issue) (standingOf (b .cards)) (λ (t : Standing). eqb (t .card) n)
-      (b .transistors)
+      ∙ any-occupied (λ (t : Transistor). t .issue) (standingOf (cardsOf b)) (λ (t : Standing). eqb (t .card) n)
+      (transistorsOf b)
 
   pub totals-follow : (n : ℕ) → n < nodesMost → getD (b .totals) n (pos 0) ≡ total d n
   unfolding total placeGives
   totals-follow n h =
-      ap (λ (l : List ℤ). getD l n (pos 0)) (g .balanced) ∙ totals-at (b .cards) (b .transistors) (voltsOf b) n h
+      ap (λ (l : List ℤ). getD l n (pos 0)) (g .holds .balanced) ∙ totals-at (cardsOf b) (transistorsOf b) (voltsOf b)
+      n h
       ∙ sym
-      (sum-occupied (λ (t : Transistor). t .issue) (standingOf (b .cards))
-      (λ (t : Standing). flow (t .worked) (t .nodes) (voltsOf b) n) (b .transistors))
+      (sum-occupied (λ (t : Transistor). t .issue) (standingOf (cardsOf b))
+      (λ (t : Standing). flow (t .worked) (t .nodes) (voltsOf b) n) (transistorsOf b))
       ∙ perm-sum (λ (t : Standing). flow (t .worked) (t .nodes) (voltsOf b) n) (s .standing)
       ∙ ap (λ (v : List ℤ). sumOver (λ (t : Standing). flow (t .worked) (t .nodes) v n) (d .standing)) (s .volts)
 
@@ -183,15 +251,14 @@ module _ (b : Board) (d : Desk) (g : Invariant b) (o : Orderly d) (s : Stands b 
 module _ (b : Board) (d : Desk) (g : Invariant b) (o : Orderly d) (s : Stands b d) where
   -- other cards at a place on which nobody stands leave the transistors as they are
   same-standing : (p : ℕ) (c : Card) →
-      ((i : ℕ) → (getD (b .transistors) i noTransistor .issue ≡ 0 → ⊥) → getD (b .transistors) i
-      noTransistor .«card_place» ≡ p → ⊥) →
-      standingIn (set (b .cards) p c) (b .transistors) ≡ standingIn (b .cards) (b .transistors)
+      Away (transistorsOf b) p →
+      standingIn (set (cardsOf b) p c) (transistorsOf b) ≡ standingIn (cardsOf b) (transistorsOf b)
   same-standing p c away =
-      seen (λ (t : Transistor). t .issue) (standingOf (set (b .cards) p c)) (standingOf (b .cards)) noTransistor
-      (b .transistors)
-      (λ i h k. let t = getD (b .transistors) i noTransistor in
+      seen (λ (t : Transistor). t .issue) (standingOf (set (cardsOf b) p c)) (standingOf (cardsOf b)) noTransistor
+      (transistorsOf b)
+      (λ i h k. let t = transistorAt b i in
       ap (λ (w : WorkedCard). record { issue = t .issue; card = t .card; worked = w; nodes = t .nodes })
-      (worked-same (b .cards) p c (voltsOf b) (t .«card_place») (away i k)))
+      (worked-same (cardsOf b) p c (voltsOf b) (t .seat) (away i k)))
 
   given : b .next ≡ 0 → ⊥
   given e = let h = o .begun in let k = s .next in omega arith
@@ -214,15 +281,25 @@ module _ (b : Board) (d : Desk) (g : Invariant b) (o : Orderly d) (s : Stands b 
           Follow (board.loaded b name v) (desk.loaded d name v)
       go (no f) e = record { reply = refl; board = s }
       go (yes c) e =
-          let p = free-card b g (loads name e .room) in
+          let p = freeCard (cardsOf b) in
+          let below = free-below (g .holds) (loads name e .room) in
+          let card : Card = record { issue = b .next; name = padded name; ready = readyOf c } in
           record {
             reply = ap desk.issued (s .next);
-            board = record {
-              cards = perm-join (join (λ (x : Card). x .issue) heldOf (b .cards) _ given (p .below)) (new c) (s .cards);
-              standing = rw (same-standing (freeCard (b .cards)) _ (p .away)) (s .standing);
-              volts = s .volts;
-              next = add-one (b .next) ∙ ap suc (s .next);
-            };
+            board =
+                rw (
+                  cards-holding b (g .sized) p card (b .next + 1) below (padded-long name),
+                  transistors-holding b (g .sized) p card (b .next + 1),
+                )
+                (record {
+                  cards =
+                      perm-join
+                      (join (λ (x : Card). x .issue) heldOf (cardsOf b) card given (rw (g .holds .cards-long) below))
+                      (new c) (s .cards);
+                  standing = rw (same-standing p card (free-away (g .holds) (loads name e .room))) (s .standing);
+                  volts = s .volts;
+                  next = add-one (b .next) ∙ ap suc (s .next);
+                });
           }
 
   follow-place : (card : ℤ) (nodes : List ℤ) (sized : length nodes ≡ roles) →
@@ -244,8 +321,8 @@ module _ (b : Board) (d : Desk) (g : Invariant b) (o : Orderly d) (s : Stands b 
           )
 
       new : (i : ℕ) →
-          standingOf (b .cards)
-          (record { issue = b .next; card = heldAt b i .issue; «card_place» = i; nodes = map natAbs nodes })
+          standingOf (cardsOf b)
+          (record { issue = b .next; card = heldAt b i .issue; seat = i; nodes = map natAbs nodes })
           ≡ record { issue = d .next; card = heldAt b i .issue; worked = heldAt b i .worked; nodes = map natAbs nodes }
       new i = rw (s .next)
 
@@ -253,19 +330,27 @@ module _ (b : Board) (d : Desk) (g : Invariant b) (o : Orderly d) (s : Stands b 
           Follow (board.placed b nodes v) (desk.placed d nodes (mapVerdict (heldAt b) v))
       go (no f) e = record { reply = refl; board = s }
       go (yes i) e =
-          let p = places (cardPlace (issueOf card) (b .cards)) e in
+          let p = places (cardPlace (issueOf card) (cardsOf b)) e in
+          let free = freeTransistor (transistorsOf b) in
+          let below = leb-false transistorsMost free (p .room) in
+          let t = board.newcomer b i nodes in
           record {
             reply = ap desk.issued (s .next);
-            board = record {
-              cards = s .cards;
-              standing =
-                  perm-join
-                  (join (λ (t : Transistor). t .issue) (standingOf (b .cards)) (b .transistors) _ given
-                  (rw (g .transistors-long) (leb-false _ _ (p .room))))
-                  (new i) (s .standing);
-              volts = s .volts;
-              next = add-one (b .next) ∙ ap suc (s .next);
-            };
+            board =
+                rw (
+                  cards-standing b (g .sized) free t _ (b .next + 1),
+                  transistors-standing b (g .sized) free t _ (b .next + 1) below (length-map nodes natAbs ∙ sized),
+                )
+                (record {
+                  cards = s .cards;
+                  standing =
+                      perm-join
+                      (join (λ (u : Transistor). u .issue) (standingOf (cardsOf b)) (transistorsOf b) t given
+                      (rw (g .holds .transistors-long) below))
+                      (new i) (s .standing);
+                  volts = s .volts;
+                  next = add-one (b .next) ∙ ap suc (s .next);
+                });
           }
 
   moved-volts : (v : ℤ) (k : ℕ) → offVolts v ≡ false → map givenBack (set (b .volts) k (keptAs v)) ≡ set (d .volts) k v
@@ -273,12 +358,13 @@ module _ (b : Board) (d : Desk) (g : Invariant b) (o : Orderly d) (s : Stands b 
 
   -- out of range both refuse before they look at what stands
   agree-move : (n v : ℤ) (t : Bool) → offVolts v ≡ t → board.mayMove b n v ≡ desk.mayMove d n v
-  unfolding moveVerdict
+  unfolding moveVerdict shifted
   agree-move n v true e = rw (← (order-move d n v), e)
-  agree-move n v false e = rw (← (order-move d n v), any-standing b d g o s, moved-volts v (natAbs n) e)
+  agree-move n v false e =
+      rw (← (order-move d n v), first-standing b d g o s (oneShift (natAbs n) v), moved-volts v (natAbs n) e)
 
   follow-move : (n v : ℤ) → Follow (movedOf b n v) (step d (move n v))
-  unfolding movedOf step
+  unfolding movedOf shifted step
   follow-move n v =
       subst (λ (w : Verdict ℕ). Follow (movedOf b n v) (desk.moved d v w)) (agree-move n v (offVolts v) refl)
       (go (board.mayMove b n v) refl)
@@ -289,43 +375,47 @@ module _ (b : Board) (d : Desk) (g : Invariant b) (o : Orderly d) (s : Stands b 
           record {
             reply = refl;
             board =
-                record {
+                rw (
+                  cards-leveled g (oneShift k v) (settled b (oneShift k v)),
+                  transistors-leveled g (oneShift k v) (settled b (oneShift k v)),
+                )
+                (record {
                   cards = s .cards;
                   standing = s .standing;
                   volts = moved-volts v k (moves e .near);
                   next = s .next;
-                };
+                });
           }
 
   -- without the one that was found its place is empty
-  without-transistor : (n i : ℕ) → AtTransistor n (b .transistors) i →
-      without (λ (t : Standing). t .issue) (standingAt b i .issue) (standingIn (b .cards) (b .transistors))
-      ≡ standingIn (b .cards) (set (b .transistors) i emptyTransistor)
+  without-transistor : (n i : ℕ) → AtTransistor n (transistorsOf b) i →
+      without (λ (t : Standing). t .issue) (standingAt b i .issue) (standingIn (cardsOf b) (transistorsOf b))
+      ≡ standingIn (cardsOf b) (set (transistorsOf b) i emptyTransistor)
   without-transistor n i a =
       let c =
-      count-occupied (λ (t : Transistor). t .issue) (standingOf (b .cards)) (λ (t : Standing). t .issue)
-      (λ t. refl) n (a .given) (b .transistors) in
+      count-occupied (λ (t : Transistor). t .issue) (standingOf (cardsOf b)) (λ (t : Standing). t .issue)
+      (λ t. refl) n (a .given) (transistorsOf b) in
       let p = perm-count (λ (t : Standing). eqb (t .issue) n) (s .standing) in
       let q = o .standing .single n in
-      ap (λ (k : ℕ). without (λ (t : Standing). t .issue) k (standingIn (b .cards) (b .transistors))) (a .issue-is)
+      ap (λ (k : ℕ). without (λ (t : Standing). t .issue) k (standingIn (cardsOf b) (transistorsOf b))) (a .issue-is)
       ∙ sym
-      (leave (λ (t : Transistor). t .issue) (standingOf (b .cards)) (λ (t : Standing). t .issue) (λ t. refl) n
-      (a .given) emptyTransistor refl (b .transistors) (omega arith))
-      ∙ ap (λ (k : ℕ). standingIn (b .cards) (set (b .transistors) k emptyTransistor)) (sym (a .is))
+      (leave (λ (t : Transistor). t .issue) (standingOf (cardsOf b)) (λ (t : Standing). t .issue) (λ t. refl) n
+      (a .given) emptyTransistor refl (transistorsOf b) (omega arith))
+      ∙ ap (λ (k : ℕ). standingIn (cardsOf b) (set (transistorsOf b) k emptyTransistor)) (sym (a .is))
 
-  without-card : (n i : ℕ) → AtCard n (b .cards) i →
-      without (λ (h : Held). h .issue) (heldAt b i .issue) (heldIn (b .cards)) ≡ heldIn (set (b .cards) i emptyCard)
+  without-card : (n i : ℕ) → AtCard n (cardsOf b) i →
+      without (λ (h : Held). h .issue) (heldAt b i .issue) (heldIn (cardsOf b)) ≡ heldIn (set (cardsOf b) i emptyCard)
   without-card n i a =
       let c =
-      count-occupied (λ (t : Card). t .issue) heldOf (λ (t : Held). t .issue) (λ t. refl) n (a .given) (b .cards)
+      count-occupied (λ (t : Card). t .issue) heldOf (λ (t : Held). t .issue) (λ t. refl) n (a .given) (cardsOf b)
       in
       let p = perm-count (λ (t : Held). eqb (t .issue) n) (s .cards) in
       let q = o .cards .single n in
-      ap (λ (k : ℕ). without (λ (t : Held). t .issue) k (heldIn (b .cards))) (a .issue-is)
+      ap (λ (k : ℕ). without (λ (t : Held). t .issue) k (heldIn (cardsOf b))) (a .issue-is)
       ∙ sym
       (leave (λ (t : Card). t .issue) heldOf (λ (t : Held). t .issue) (λ t. refl) n (a .given) emptyCard refl
-      (b .cards) (omega arith))
-      ∙ ap (λ (k : ℕ). heldIn (set (b .cards) k emptyCard)) (sym (a .is))
+      (cardsOf b) (omega arith))
+      ∙ ap (λ (k : ℕ). heldIn (set (cardsOf b) k emptyCard)) (sym (a .is))
 
   follow-lift : (n : ℤ) → Follow (liftedOf b n) (step d (lift n))
   unfolding liftedOf step
@@ -340,55 +430,69 @@ module _ (b : Board) (d : Desk) (g : Invariant b) (o : Orderly d) (s : Stands b 
       go (no f) e = record { reply = refl; board = s }
       go (yes i) e =
           let a =
-          at-transistor (issueOf n) (b .transistors) i (g .transistors-long)
-          (lifts (transistorPlace (issueOf n) (b .transistors)) e) in
+          at-transistor (issueOf n) (transistorsOf b) i (g .holds .transistors-long)
+          (lifts (transistorPlace (issueOf n) (transistorsOf b)) e) in
+          let below = subst (λ (k : ℕ). i < k) (g .holds .transistors-long) (a .below) in
           record {
             reply = refl;
-            board = record {
-              cards = s .cards;
-              standing =
-                  rw (← (without-transistor (issueOf n) i a))
-                  (perm-without (λ (t : Standing). t .issue) (standingAt b i .issue) (s .standing));
-              volts = s .volts;
-              next = s .next;
-            };
+            board =
+                rw (
+                  cards-standing b (g .sized) i emptyTransistor _ (b .next),
+                  transistors-standing b (g .sized) i emptyTransistor _ (b .next) below (length-replicate roles zero),
+                )
+                (record {
+                  cards = s .cards;
+                  standing =
+                      rw (← (without-transistor (issueOf n) i a))
+                      (perm-without (λ (t : Standing). t .issue) (standingAt b i .issue) (s .standing));
+                  volts = s .volts;
+                  next = s .next;
+                });
           }
 
-  agree-withdraw : (n : ℤ) (found : Found ℕ) → cardPlace (issueOf n) (b .cards) ≡ found →
+  agree-withdraw : (n : ℤ) (found : Found ℕ) → cardPlace (issueOf n) (cardsOf b) ≡ found →
       mapVerdict (heldAt b) (board.mayWithdraw b n) ≡ desk.mayWithdraw d n
   unfolding withdrawVerdict
   agree-withdraw n none e = rw (← (order-withdraw d n), card-by b d g o s (issueOf n), e)
   agree-withdraw n (some i) e =
-      let a = at-card (issueOf n) (b .cards) i (g .cards-long) e in
-      let used : anyOf (standsOn (issueOf n)) (b .transistors) ≡ anyOf (λ (t : Standing). eqb (t .card) (heldAt b i .issue)) (d .standing) =
+      let a = at-card (issueOf n) (cardsOf b) i (g .holds .cards-long) e in
+      let used : anyOf (standsOn (issueOf n)) (transistorsOf b) ≡ anyOf (λ (t : Standing). eqb (t .card)
+      (heldAt b i .issue)) (d .standing) =
       sym (any-on b d g o s (issueOf n))
       ∙ ap (λ (k : ℕ). anyOf (λ (t : Standing). eqb (t .card) k) (d .standing)) (sym (a .issue-is)) in
       rw (← (order-withdraw d n), card-by b d g o s (issueOf n), e)
-      (map-refuse (heldAt b) (anyOf (standsOn (issueOf n)) (b .transistors)) _ _
+      (map-refuse (heldAt b) (anyOf (standsOn (issueOf n)) (transistorsOf b)) _ _
       ∙ ap (λ (t : Bool). refuseIf t CardInUse (yes (heldAt b i))) used)
 
   follow-withdraw : (n : ℤ) → Follow (withdrawnOf b n) (step d (withdraw n))
   unfolding withdrawnOf step
   follow-withdraw n =
       subst (λ (v : Verdict Held). Follow (withdrawnOf b n) (desk.withdrawn d v))
-      (agree-withdraw n (cardPlace (issueOf n) (b .cards)) refl) (go (board.mayWithdraw b n) refl)
+      (agree-withdraw n (cardPlace (issueOf n) (cardsOf b)) refl) (go (board.mayWithdraw b n) refl)
     where
       go : (v : Verdict ℕ) → board.mayWithdraw b n ≡ v →
           Follow (board.withdrawn b v) (desk.withdrawn d (mapVerdict (heldAt b) v))
       go (no f) e = record { reply = refl; board = s }
       go (yes i) e =
-          let w = withdraws (cardPlace (issueOf n) (b .cards)) e in
-          let a = at-card (issueOf n) (b .cards) i (g .cards-long) (w .there) in
+          let w = withdraws (cardPlace (issueOf n) (cardsOf b)) e in
+          let a = at-card (issueOf n) (cardsOf b) i (g .holds .cards-long) (w .there) in
+          let below = subst (λ (k : ℕ). i < k) (g .holds .cards-long) (a .below) in
           record {
             reply = refl;
-            board = record {
-              cards =
-                  rw (← (without-card (issueOf n) i a))
-                  (perm-without (λ (t : Held). t .issue) (heldAt b i .issue) (s .cards));
-              standing = rw (same-standing i emptyCard (unused-away b g (issueOf n) i a (w .unused))) (s .standing);
-              volts = s .volts;
-              next = s .next;
-            };
+            board =
+                rw (
+                  cards-holding b (g .sized) i emptyCard (b .next) below (length-replicate nameLength zero),
+                  transistors-holding b (g .sized) i emptyCard (b .next),
+                )
+                (record {
+                  cards =
+                      rw (← (without-card (issueOf n) i a))
+                      (perm-without (λ (t : Held). t .issue) (heldAt b i .issue) (s .cards));
+                  standing =
+                      rw (same-standing i emptyCard (unused-away (g .holds) (issueOf n) i a (w .unused))) (s .standing);
+                  volts = s .volts;
+                  next = s .next;
+                });
           }
 
   follow-look : (name : List ℕ) → Follow (lookedOf b name) (step d (lookUp name))
@@ -398,7 +502,7 @@ module _ (b : Board) (d : Desk) (g : Invariant b) (o : Orderly d) (s : Stands b 
     where
       agree : board.mayLookUp b name ≡ desk.mayLookUp d name
       agree =
-          rw (← (order-look d name), ← (highest-held (padded name) (b .cards)), perm-highest (padded name) (s .cards))
+          rw (← (order-look d name), ← (highest-held (padded name) (cardsOf b)), perm-highest (padded name) (s .cards))
 
       go : (v : Verdict ℕ) → Follow (board.looked b v) (desk.looked d v)
       go (no f) = record { reply = refl; board = s }
@@ -414,7 +518,7 @@ module _ (b : Board) (d : Desk) (g : Invariant b) (o : Orderly d) (s : Stands b 
       go (yes k) e =
           let h = shown n e in
           let v : givenBack (getD (b .volts) k 0) ≡ getD (d .volts) k (pos 0) =
-          sym (getD-map givenBack (b .volts) k 0 (pos 0) (rw (g .volts-long) h)) ∙ ap
+          sym (getD-map givenBack (b .volts) k 0 (pos 0) (rw (g .sized .volts) h)) ∙ ap
           (λ (l : List ℤ). getD l k (pos 0)) (s .volts) in
           let t = totals-follow b d g o s k h in record { reply = rw (v, t); board = s }
 
@@ -422,7 +526,8 @@ module _ (b : Board) (d : Desk) (g : Invariant b) (o : Orderly d) (s : Stands b 
 
 pub stands-fresh : Stands freshBoard freshDesk
 unfolding freshBoard freshDesk occupied
-stands-fresh = record { cards = empty; standing = empty; volts = refl; next = refl }
+stands-fresh =
+    rw (fresh-cards, fresh-transistors) (record { cards = empty; standing = empty; volts = refl; next = refl })
 
 pub follow : (b : Board) (d : Desk) → Invariant b → Orderly d → Stands b d → (c : Call) →
     Follow (answered b c) (step d c)

@@ -14,12 +14,13 @@ use Rattle.refusal.specs.Order.{Verdict, no, yes}
 use Rattle.refusal.specs.Clash.{clash}
 use Rattle.whole.specs.laws.Biased.{below-or-not}
 use Rattle.card.specs.declared.WorkedCard.{WorkedCard}
-use Rattle.places.specs.Arguments.{Found, none, some, issueOf, known}
-use Rattle.board.specs.Desk as desk
-use Rattle.board.specs.Desk.{Held, Standing, Desk, Call, load, place, move, lift, withdraw, lookUp, node}
-use Rattle.board.specs.Desk.{anyOf, firstWith, ifTrue, standsAs, without, keepIf, step, after}
-use Rattle.board.specs.Model.{boardAfter}
-use Rattle.board.proofs.Invariant.{invariant-after}
+use Rattle.given.specs.Arguments.{Found, none, some, issueOf, known}
+use Rattle.model.specs.Desk as desk
+use Rattle.model.specs.Desk.{Held, Standing, Desk, Call, load, place, move, lift, withdraw, lookUp, node}
+use Rattle.given.specs.Lists.{anyOf}
+use Rattle.model.specs.Desk.{firstWith, ifTrue, standsAs, without, keepIf, step, after}
+use Rattle.model.specs.Model.{boardAfter}
+use Rattle.model.proofs.Invariant.{invariant-after}
 use Rattle.days.specs.Stands.{standsUnder}
 use Rattle.days.specs.Numbers.{asksToLift}
 use Rattle.days.proofs.Perms.{count, more}

@@ -5,13 +5,16 @@ use mathlib.Core.List.{List}
 use Prim.Native.Nat.{ℕ, _≤_}
 use native.Mathlib.Omega.{arith}
 use lib.Dec.{eqb}
-use Rattle.board.specs.declared.Board.{Board}
-use Rattle.board.specs.declared.Answered.{Answered}
-use Rattle.board.specs.Desk.{Held, Standing, Desk, Call, step}
-use Rattle.board.specs.Desk.{freshDesk, after}
-use Rattle.board.specs.Model.{answered, Reached}
+use Rattle.model.specs.Board.{Board}
+use Rattle.model.specs.Desk.{Held, Standing, Desk, Call, step}
+use Rattle.model.specs.Desk.{freshDesk, after}
+use Rattle.model.specs.Model.{Reached}
+use Rattle.model.specs.Model.{answered as replied}
+use Rattle.board.specs.declared.Board as code
+use Rattle.board.specs.declared.Answered as answered
+use Rattle.board.specs.Promise.{modelOf, takenAs}
 use Rattle.board.specs.Unique.{Allows}
-use Rattle.board.proofs.Invariant.{invariant}
+use Rattle.model.proofs.Invariant.{invariant}
 use Rattle.days.specs.Perm.{Perm}
 use Rattle.days.specs.Stands.{Stands, Follow}
 use Rattle.days.specs.Promised.{Promised, by-load, by-place, by-move, by-lift, by-withdraw, by-look-up}
@@ -32,8 +35,8 @@ numbered-as {A} key {xs} {ys} {zs} p q e h = record {
     counts : (k : ℕ) → count (λ (a : A). eqb (key a) k) ys ≡ count (λ (a : A). eqb (key a) k) zs
     counts k = sym (perm-count (λ (a : A). eqb (key a) k) p) ∙ perm-count (λ (a : A). eqb (key a) k) q
 
-orderly-as : {b : Board} {d e : Desk} → Stands b d → Stands b e → Orderly d → Orderly e
-orderly-as p q o =
+orderly-as : (b : Board) {d e : Desk} → Stands b d → Stands b e → Orderly d → Orderly e
+orderly-as b p q o =
     let next = sym (p .next) ∙ q .next in
     record {
       begun = let h = o .begun in omega arith;
@@ -43,13 +46,13 @@ orderly-as p q o =
 
 orderly : {b : Board} {d : Desk} → Reached b → Stands b d → Orderly d
 orderly {b} k s =
-    orderly-as (subst (λ (x : Board). Stands x (after (k .calls))) (k .leaves) (stands-after (k .calls))) s
+    orderly-as b (subst (λ (x : Board). Stands x (after (k .calls))) (k .leaves) (stands-after (k .calls))) s
     (orderly-after (k .calls))
 
 -- ---- each method's promise is that of its call
 
-kept-promise : {b : Board} {c : Call} {r : Answered} → Promised b c r → Allows (answered b c) r
-unfolding answered
+kept-promise : {b : code.Board} {c : Call} {r : answered.Answered} → Promised b c r → Allows (replied (modelOf b) c) r
+unfolding replied
 kept-promise (by-load κs a e p) = p
 kept-promise (by-place κs a e sized p) = p
 kept-promise (by-move κs a e p) = p
@@ -59,24 +62,29 @@ kept-promise (by-look-up κs a e p) = p
 kept-promise (by-read-node κs a e p) = p
 
 -- whatever a method may answer follows the desk
-pub methods-follow : {b : Board} {d : Desk} {c : Call} {r : Answered} → Reached b → Stands b d → Promised b c r →
-    Follow r (step d c) × Reached (r .board)
+pub methods-follow : {b : code.Board} {d : Desk} {c : Call} {r : answered.Answered} → Reached (modelOf b) →
+    Stands (modelOf b) d → Promised b c r → Follow (takenAs r) (step d c) × Reached (modelOf (r .board))
 methods-follow {b} {d} {c} k s p =
-    let a = kept-promise p in
-    (subst (λ (x : Answered). Follow x (step d c)) (sym (a .0)) (follow b d (invariant k) (orderly k s) s c), a .1)
+    let a = kept-promise p in (
+      subst (λ (x : answered.Answered). Follow (takenAs x) (step d c)) (sym (a .0))
+          (follow (modelOf b) d (invariant k) (orderly k s) s c),
+      a .1,
+    )
 
-pub fresh-follows : {b : Board} → PromisedFresh b → Stands b freshDesk × Reached b
-fresh-follows (by-fresh κs a e p) = (subst (λ (x : Board). Stands x freshDesk) (sym (p .0)) stands-fresh, p .1)
+pub fresh-follows : {b : code.Board} → PromisedFresh b → Stands (modelOf b) freshDesk × Reached (modelOf b)
+fresh-follows (by-fresh κs a e p) =
+    (subst (λ (x : code.Board). Stands (modelOf x) freshDesk) (sym (p .0)) stands-fresh, p .1)
 
 -- ---- a day of them
 
-pub days-follow : {calls : List Call} {b : Board} → Day calls b → Stands b (after calls) × Reached b
+pub days-follow : {calls : List Call} {b : code.Board} → Day calls b → Stands (modelOf b) (after calls) × Reached
+    (modelOf b)
 unfolding after
 days-follow (begun p) = fresh-follows p
 days-follow (then day p) =
     let h = days-follow day in let f = methods-follow (h .1) (h .0) p in (f .0 .board, f .1)
 
 -- and the next call of the day is answered as the desk answers it
-pub day-answers : {calls : List Call} {b : Board} {c : Call} {r : Answered} → Day calls b → Promised b c r →
-    Follow r (step (after calls) c)
+pub day-answers : {calls : List Call} {b : code.Board} {c : Call} {r : answered.Answered} → Day calls b →
+    Promised b c r → Follow (takenAs r) (step (after calls) c)
 day-answers day p = let h = days-follow day in methods-follow (h .1) (h .0) p .0

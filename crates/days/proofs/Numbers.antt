@@ -13,23 +13,25 @@ use borrow.Author.Tests.{eq-eqb, ltb-false, le-leb}
 use Rattle.refusal.specs.Order.{Verdict, no, yes}
 use Rattle.refusal.specs.Clash.{clash}
 use Rattle.card.specs.declared.WorkedCard.{WorkedCard}
-use Rattle.branch.specs.Rows.{roles}
-use Rattle.board.specs.declared.Board.{Board}
-use Rattle.board.specs.declared.Answer.the-variants.{Issue}
-use Rattle.board.specs.Counts.{issuesMost}
-use Rattle.places.specs.Arguments.{issueOf}
-use Rattle.board.specs.Verdict.{nodeVerdict}
-use Rattle.board.specs.Desk as desk
-use Rattle.board.specs.Desk.{Held, Standing, Desk, Call, load, place, move, lift, withdraw, lookUp, node}
-use Rattle.board.specs.Desk.{firstWith, without, keepIf, total, step, after}
-use Rattle.board.specs.Model as board
-use Rattle.board.specs.Model.{loadedOf, placedOf, movedOf, liftedOf, withdrawnOf, lookedOf, showedOf, answered}
-use Rattle.board.specs.Model.{boardAfter}
+use Rattle.terms.specs.Rows.{roles}
+use Rattle.model.specs.Board.{Board}
+use Rattle.model.specs.Model.{cardsOf}
+use Rattle.model.specs.declared.Answer.the-variants.{Issue}
+use Rattle.given.specs.Arguments.{issuesMost}
+use Rattle.given.specs.Arguments.{issueOf}
+use Rattle.model.specs.Verdict.{nodeVerdict}
+use Rattle.model.specs.Desk as desk
+use Rattle.model.specs.Desk.{Held, Standing, Desk, Call, load, place, move, lift, withdraw, lookUp, node}
+use Rattle.model.specs.Desk.{firstWith, without, keepIf, total, step, after}
+use Rattle.places.specs.Finding.{cardPlace}
+use Rattle.model.specs.Model as board
+use Rattle.model.specs.Model.{loadedOf, placedOf, movedOf, liftedOf, withdrawnOf, lookedOf, showedOf, answered}
+use Rattle.model.specs.Model.{boardAfter}
 use Rattle.days.specs.Stands.{replyOf}
 use Rattle.days.specs.Numbers.{withNumber, gives, givenBy, Falls, end, next}
 use Rattle.days.proofs.Perms.{count, more}
-use Rattle.board.proofs.Verdicts.{loads, places}
-use Rattle.board.proofs.Invariant.{invariant-after, totals-long}
+use Rattle.model.proofs.Verdicts.{loads, places}
+use Rattle.model.proofs.Invariant.{invariant-after, totals-long}
 use Rattle.days.proofs.Orderly.{Orderly, orderly-after}
 use Rattle.days.proofs.Orders.{order-place}
 use Rattle.days.proofs.Follows.{follows}
@@ -60,7 +62,7 @@ module _ (b : Board) (l : List ℕ) (begun : 1 ≤ b .next) (f : Falls (b .next)
       go : (v : Verdict ℕ) → board.mayPlace b card nodes ≡ v →
           Falls (board.placed b nodes v .board .next) (withNumber (board.placed b nodes v .answer) l)
       go (no g) e = f
-      go (yes i) e = one-more begun (places (board.cardPlace (issueOf card) (b .cards)) e .number) f
+      go (yes i) e = one-more begun (places (cardPlace (issueOf card) (cardsOf b)) e .number) f
 
   falls-call : (c : Call) → Falls (answered b c .board .next) (gives c (answered b c .answer) l)
   unfolding answered movedOf liftedOf withdrawnOf lookedOf showedOf
@@ -97,7 +99,7 @@ pub issues-never-twice : (calls : List Call) → Falls (boardAfter calls .next) 
 unfolding givenBy boardAfter
 issues-never-twice [] = end
 issues-never-twice (c ∷ cs) =
-    falls-call (boardAfter cs) (givenBy cs) (invariant-after cs .begun) (issues-never-twice cs) c
+    falls-call (boardAfter cs) (givenBy cs) (invariant-after cs .holds .begun) (issues-never-twice cs) c
 
 -- ---- lifting the one just placed
 
@@ -132,7 +134,8 @@ take-back d o t later e h =
     (record {
       standing =
           rw (eq-eqb (t .issue) (t .issue) refl, e)
-          (without-none (λ (u : Standing). u .issue) (d .next) (d .standing) (o .standing .below (d .next) (le-refl _)));
+          (without-none (λ (u : Standing). u .issue) (d .next) (d .standing) (o .standing .below (d .next)
+          (le-refl _)));
       volts = refl;
     })
 

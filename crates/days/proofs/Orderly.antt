@@ -9,9 +9,9 @@ use lib.Dec.{eqb, lit≤}
 use borrow.Author.Tests.{eqb-true, ne-eqb}
 use Rattle.refusal.specs.Order.{Verdict, no, yes}
 use Rattle.card.specs.declared.WorkedCard.{WorkedCard}
-use Rattle.board.specs.Desk.{Held, Standing, Desk, Call, load, place, move, lift, withdraw, lookUp, node}
-use Rattle.board.specs.Desk.{without, keepIf, loaded, placed, moved, lifted, withdrawn, looked, showed, mayLoad}
-use Rattle.board.specs.Desk.{mayPlace, mayMove, mayLift, mayWithdraw, mayLookUp, mayRead, step, freshDesk, after}
+use Rattle.model.specs.Desk.{Held, Standing, Desk, Call, load, place, move, lift, withdraw, lookUp, node}
+use Rattle.model.specs.Desk.{without, keepIf, loaded, placed, moved, lifted, withdrawn, looked, showed, mayLoad}
+use Rattle.model.specs.Desk.{mayPlace, mayMove, mayLift, mayWithdraw, mayLookUp, mayRead, step, freshDesk, after}
 use Rattle.days.proofs.Perms.{count, more}
 
 -- things whose keys are their numbers: each number at most once, and below next

@@ -10,12 +10,15 @@ use Rattle.refusal.specs.declared.Refusal.{Refusal}
 use Rattle.refusal.specs.Order.{Verdict, refuseIf}
 use Rattle.name.specs.Name.{padded}
 use Rattle.volts.specs.Volts.{offVolts}
-use Rattle.board.specs.Counts.{cardsMost, transistorsMost}
-use Rattle.places.specs.Arguments.{issueOf, offNode}
-use Rattle.board.specs.Verdict.{loadVerdict, placeVerdict, moveVerdict, liftVerdict, withdrawVerdict, lookVerdict}
-use Rattle.board.specs.Verdict.{nodeVerdict}
-use Rattle.board.specs.Desk.{Held, Standing, Desk, overloads, anyOf, highest, someOverloads, usedUp, heldAs, standsAs}
-use Rattle.board.specs.Desk.{mayLoad, mayPlace, mayMove, mayLift, mayWithdraw, mayLookUp, mayRead}
+use Rattle.model.specs.Counts.{cardsMost, transistorsMost}
+use Rattle.given.specs.Arguments.{issueOf, offNode}
+use Rattle.model.specs.Verdict.{loadVerdict, placeVerdict, moveVerdict, liftVerdict, withdrawVerdict, lookVerdict}
+use Rattle.model.specs.Verdict.{nodeVerdict}
+use Rattle.model.specs.Desk.{Held, Standing, Desk, highest, someOverloads, heldAs, standsAs}
+use Rattle.totals.specs.Flow.{overloads}
+use Rattle.given.specs.Lists.{anyOf}
+use Rattle.given.specs.Arguments.{usedUp}
+use Rattle.model.specs.Desk.{mayLoad, mayPlace, mayMove, mayLift, mayWithdraw, mayLookUp, mayRead}
 
 -- a range of two tests is one test
 either-test : {A : Type 0} (t u : Bool) (f : Refusal) (v : Verdict A) →
@@ -30,7 +33,7 @@ module _ (d : Desk) where
   order-load name bytes = refl
 
   pub order-place : (card : ℤ) (nodes : List ℤ) →
-      placeVerdict (heldAs (issueOf card) (d .cards)) (λ (h : Held). h .worked)
+      placeVerdict (heldAs (issueOf card) (d .cards)) (λ (h : Held). h .worked .«rcbli_zero»)
       (λ (h : Held). overloads (h .worked) (map natAbs nodes) (d .volts)) nodes
       (leb transistorsMost (length (d .standing))) (usedUp (d .next))
       ≡ mayPlace d card nodes

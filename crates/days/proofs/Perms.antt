@@ -10,7 +10,9 @@ use lib.ListN.{length}
 use lib.IntN.{ℤ, _+ℤ_, +ℤ-assoc, +ℤ-comm}
 use borrow.Author.Tests.{ltb-true, ltb-false}
 use Rattle.name.specs.Name.{same}
-use Rattle.board.specs.Desk.{sumOver, anyOf, firstWith, ifTrue, without, keepIf, larger, Held, highest}
+use Rattle.totals.specs.Flow.{sumOver}
+use Rattle.given.specs.Lists.{anyOf, larger}
+use Rattle.model.specs.Desk.{firstWith, ifTrue, without, keepIf, Held, highest}
 use Rattle.days.specs.Perm.{Perm, empty, keep, swap, then}
 
 pub perm-self : {A : Type 0} (xs : List A) → Perm xs xs

@@ -3,8 +3,10 @@ use mathlib.Core.List.{List, map}
 use Prim.Native.Nat.{ℕ}
 use lib.IntN.{ℤ}
 use Rattle.card.specs.declared.WorkedCard.{WorkedCard}
-use Rattle.board.specs.declared.Board.{Board}
-use Rattle.board.specs.Desk.{Standing, sumOver}
+use Rattle.model.specs.Board.{Board}
+use Rattle.model.specs.Model.{cardsOf, transistorsOf}
+use Rattle.model.specs.Desk.{Standing}
+use Rattle.totals.specs.Flow.{sumOver}
 use Rattle.days.specs.Stands.{standingIn}
 
 unfoldable pub sumAll : List ℤ → ℤ
@@ -20,4 +22,4 @@ abbrev pub fittedOf : Standing → Fitted
 fittedOf t = record { worked = t .worked; nodes = t .nodes }
 
 abbrev pub fittedIn : Board → List Fitted
-fittedIn b = map fittedOf (standingIn (b .cards) (b .transistors))
+fittedIn b = map fittedOf (standingIn (cardsOf b) (transistorsOf b))

@@ -3,12 +3,12 @@ use mathlib.Core.Bool.{Bool, false}
 use mathlib.Core.List.{List, [], _∷_}
 use Prim.Native.Nat.{ℕ, _≤_, _<_}
 use lib.Dec.{eqb}
-use Rattle.board.specs.declared.Answer.{Answer}
-use Rattle.board.specs.declared.Answer.the-variants.{Issue, Done, Node, Refused}
-use Rattle.board.specs.Counts.{issuesMost}
-use Rattle.places.specs.Arguments.{issueOf}
-use Rattle.board.specs.Desk.{Call, load, place, move, lift, withdraw, lookUp, node}
-use Rattle.board.specs.Model.{answered, boardAfter}
+use Rattle.model.specs.declared.Answer.{Answer}
+use Rattle.model.specs.declared.Answer.the-variants.{Issue, Done, Node, Refused}
+use Rattle.given.specs.Arguments.{issuesMost}
+use Rattle.given.specs.Arguments.{issueOf}
+use Rattle.model.specs.Desk.{Call, load, place, move, lift, withdraw, lookUp, node}
+use Rattle.model.specs.Model.{answered, boardAfter}
 
 -- the number that a call gives: only loading and placing give one
 abbrev pub withNumber : Answer → List ℕ → List ℕ

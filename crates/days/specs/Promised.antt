@@ -7,10 +7,10 @@ use lib.ListN.{length}
 use contract.Lifetimes.{Lfts}
 use denote.Triple.Clauses.{AtExit}
 use borrow.Fn.Kinds.{PK, RK, Dens, endedOf}
-use Rattle.branch.specs.Rows.{roles}
+use Rattle.terms.specs.Rows.{roles}
 use Rattle.board.specs.declared.Board.{Board}
 use Rattle.board.specs.declared.Answered.{Answered}
-use Rattle.board.specs.Desk.{Call, load, place, move, lift, withdraw, lookUp, node}
+use Rattle.model.specs.Desk.{Call, load, place, move, lift, withdraw, lookUp, node}
 use Rattle.board.proofs.Board.fresh.Kinds as fresh-kinds
 use Rattle.board.proofs.Board.fresh.Reads as fresh-reads
 use Rattle.board.proofs.Board.load.Kinds as load-kinds

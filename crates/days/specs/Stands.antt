@@ -6,15 +6,18 @@ use mathlib.Core.List.{List, [], _∷_}
 use Prim.Native.Nat.{ℕ}
 use lib.Dec.{eqb}
 use lib.ListN.{getD}
-use Rattle.places.specs.declared.Card.{Card}
-use Rattle.places.specs.declared.Transistor.{Transistor}
-use Rattle.board.specs.declared.Board.{Board}
-use Rattle.board.specs.declared.Answer.{Answer}
-use Rattle.board.specs.declared.Answer.the-variants.{Issue, Done, Node, Refused}
-use Rattle.board.specs.declared.Answered.{Answered}
-use Rattle.places.specs.Arguments.{Found, none, some}
-use Rattle.board.specs.Desk.{Held, Standing, Desk, Step, Reply, issued, done, shows, refused, keepIf}
-use Rattle.board.specs.Model.{noCard, noTransistor, workedAt, transistorPlace, voltsOf}
+use lib.IntN.{ℤ}
+use Rattle.places.specs.Gathered.{Card, Transistor}
+use Rattle.model.specs.Board.{Board}
+use Rattle.model.specs.Model.{cardsOf, transistorsOf, transistorAt}
+use Rattle.model.specs.declared.Answer.{Answer}
+use Rattle.model.specs.declared.Answer.the-variants.{Issue, Done, Node, Refused}
+use Rattle.model.specs.Board.{Answered}
+use Rattle.given.specs.Arguments.{Found, none, some}
+use Rattle.model.specs.Desk.{Held, Standing, Desk, Step, Reply, issued, done, shows, refused, keepIf}
+use Rattle.places.specs.Gathered.{noCard, noTransistor, workedAt}
+use Rattle.places.specs.Finding.{transistorPlace}
+use Rattle.model.specs.Model.{voltsOf}
 use Rattle.days.specs.Perm.{Perm}
 
 -- what stands on the places of l, each seen through f; a place whose key is 0 is empty
@@ -27,7 +30,7 @@ heldOf c = record { issue = c .issue; name = c .name; worked = c .ready .card }
 
 abbrev pub standingOf : List Card → Transistor → Standing
 standingOf cards t =
-    record { issue = t .issue; card = t .card; worked = workedAt cards (t .«card_place»); nodes = t .nodes }
+    record { issue = t .issue; card = t .card; worked = workedAt cards (t .seat); nodes = t .nodes }
 
 -- the cards and the transistors of a board
 abbrev pub heldIn : List Card → List Held
@@ -38,10 +41,10 @@ standingIn cards ts = occupied (λ (t : Transistor). t .issue) (standingOf cards
 
 -- the card and the transistor at a place
 abbrev pub heldAt : Board → ℕ → Held
-heldAt b i = heldOf (getD (b .cards) i noCard)
+heldAt b i = heldOf (getD (cardsOf b) i noCard)
 
 abbrev pub standingAt : Board → ℕ → Standing
-standingAt b i = standingOf (b .cards) (getD (b .transistors) i noTransistor)
+standingAt b i = standingOf (cardsOf b) (transistorAt b i)
 
 -- what was found, seen through a function
 abbrev pub mapFound : {A B : Type 0} → (A → B) → Found A → Found B
@@ -50,13 +53,17 @@ mapFound g (some a) = some (g a)
 
 -- who stands on a board under an issue number
 abbrev pub standsUnder : ℕ → Board → Found Standing
-standsUnder k b = mapFound (standingAt b) (transistorPlace k (b .transistors))
+standsUnder k b = mapFound (standingAt b) (transistorPlace k (transistorsOf b))
 
-pub record Stands (b : Board) (d : Desk) : Type 0 where
-  pub cards : Perm (heldIn (b .cards)) (d .cards)
-  pub standing : Perm (standingIn (b .cards) (b .transistors)) (d .standing)
-  pub volts : voltsOf b ≡ d .volts
-  pub next : b .next ≡ d .next
+-- places, voltages and a next number that stand for a desk
+pub record StandFor (cs : List Card) (ts : List Transistor) (vs : List ℤ) (n : ℕ) (d : Desk) : Type 0 where
+  pub cards : Perm (heldIn cs) (d .cards)
+  pub standing : Perm (standingIn cs ts) (d .standing)
+  pub volts : vs ≡ d .volts
+  pub next : n ≡ d .next
+
+abbrev pub Stands : Board → Desk → Type 0
+Stands b d = StandFor (cardsOf b) (transistorsOf b) (voltsOf b) (b .next) d
 
 -- a board's answer in the desk's words
 abbrev pub replyOf : Answer → Reply

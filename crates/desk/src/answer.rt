@@ -1,88 +1,46 @@
-// The answers to a line.
-use crate::command::Command;
+// The answers to a line, as `answers` words them.
 use crate::out::ROOM;
-use crate::out::put;
-use crate::out::put_text;
+use crate::out::part;
 use crate::out::puts;
-use crate::words::part;
-use crate::words::word;
-use board::Answer;
+use answers::ANSWER_ROOM;
+use answers::Answer;
 use card::Clipping;
 use refusal::Refusal;
-use whole::Int;
 
-pub fn put_label(label: &[u8], n: u64, out: &mut [u8; ROOM], at: &mut usize) {
-    put_text(sheet::label_line(label, n), out, at);
+// Room for the answer to the longest path that an argument or a line gives.
+const PATH_ROOM: usize = 131104;
+
+// The first n bytes of a text.
+fn put_part(text: &[u8; ANSWER_ROOM], n: usize, out: &mut [u8; ROOM], at: &mut usize) {
+    puts(part(text, 0, n), out, at);
+}
+
+pub fn put_answer(a: Answer, out: &mut [u8; ROOM], at: &mut usize) {
+    let mut text = [0u8; ANSWER_ROOM];
+    let n = answers::answer_line(a, &mut text);
+    put_part(&text, n, out, at);
 }
 
 pub fn put_refused(f: Refusal, out: &mut [u8; ROOM], at: &mut usize) {
-    put_label(b"refused", refusal::number(f) as u64, out, at);
+    put_answer(Answer::Refused(f), out, at);
 }
 
-// `error` and the line's first word, cut at 32 bytes.
-pub fn put_error(line: &[u8], out: &mut [u8; ROOM], at: &mut usize) {
-    let first = word(line, 0);
-    puts(b"error ", out, at);
-    if first.len() < 32 {
-        puts(first, out, at);
-    } else {
-        puts(part(first, 0, 32), out, at);
-    }
-    put(b'\n', out, at);
+// To a line that is no command, by its first word.
+pub fn put_error(first: &[u8], out: &mut [u8; ROOM], at: &mut usize) {
+    let mut text = [0u8; ANSWER_ROOM];
+    let n = answers::error_line(first, &mut text);
+    put_part(&text, n, out, at);
 }
 
 pub fn put_unreadable(path: &[u8], out: &mut [u8; ROOM], at: &mut usize) {
-    puts(b"error cannot read ", out, at);
-    puts(path, out, at);
-    put(b'\n', out, at);
+    let mut text = [0u8; PATH_ROOM];
+    let n = answers::unreadable_line(path, &mut text);
+    puts(part(&text, 0, n), out, at);
 }
 
-// The bits of a number; a clipped one is never the one without a value.
-fn bits(x: f64) -> u64 {
-    if x == x { f64::to_bits(x) } else { 0 }
-}
-
-// The clip mask and the bits of each clipped number.
 pub fn put_clipping(clipping: Clipping, out: &mut [u8; ROOM], at: &mut usize) {
     let numbers = clipping.numbers;
-    puts(b"clip ", out, at);
-    put_text(sheet::mask_digits(clipping.mask), out, at);
-    for i in 0..card::WIDTH {
-        put(b' ', out, at);
-        put_text(sheet::word_digits(bits(numbers[i])), out, at);
-    }
-    put(b'\n', out, at);
-}
-
-fn put_issue(c: Command, issue: u64, out: &mut [u8; ROOM], at: &mut usize) {
-    match c {
-        Command::Place => put_label(b"transistor", issue, out, at),
-        _ => put_label(b"card", issue, out, at),
-    }
-}
-
-fn put_done(c: Command, out: &mut [u8; ROOM], at: &mut usize) {
-    match c {
-        Command::Move => puts(b"moved\n", out, at),
-        Command::Lift => puts(b"lifted\n", out, at),
-        _ => puts(b"withdrawn\n", out, at),
-    }
-}
-
-// The number of a node that the board has.
-fn node_number(node: i64) -> u32 {
-    match whole::open(node) {
-        Int::Pos(n) => { if n < 32 { n as u32 } else { 32 } }
-        Int::NegSuc(_) => 32,
-    }
-}
-
-// What the board answered to a command, which named the node where it names one.
-pub fn put_answer(c: Command, node: i64, answer: Answer, out: &mut [u8; ROOM], at: &mut usize) {
-    match answer {
-        Answer::Issue(i) => put_issue(c, i as u64, out, at),
-        Answer::Done => put_done(c, out, at),
-        Answer::Node(v, t) => put_text(sheet::node_line(node_number(node), v, t), out, at),
-        Answer::Refused(f) => put_refused(f, out, at),
-    }
+    let mut text = [0u8; ANSWER_ROOM];
+    let n = answers::clip_line(clipping.mask, &numbers, &mut text);
+    put_part(&text, n, out, at);
 }

@@ -1,29 +1,24 @@
 // A line obeyed. Each function that changes the board takes it and gives the next one.
-ghost use Rattle.board.specs.Model.{Reached};
+ghost use Rattle.board.specs.Promise.{Reached};
 use crate::answer::put_answer;
 use crate::answer::put_clipping;
 use crate::answer::put_error;
-use crate::answer::put_label;
 use crate::answer::put_refused;
 use crate::answer::put_unreadable;
-use crate::command::Command;
-use crate::command::word_count;
 use crate::out::ROOM;
+use crate::out::part;
 use crate::out::put_text;
-use crate::out::puts;
 use crate::shelf;
 use crate::shelf::File;
 use crate::shelf::MOST;
-use crate::words::NUMBERS;
-use crate::words::numbers;
-use crate::words::part;
-use crate::words::word;
-use board::Answer;
-use board::Answered;
+use answers::Answer;
 use board::Board;
 use library::Located;
 use library::Reading;
-use sheet::Hex;
+use script::Command;
+use script::MOST_BYTES;
+use script::MOST_NUMBERS;
+use script::Verb;
 
 // The n bytes that were read become the library held, where they are a library.
 fn keep_library(
@@ -37,7 +32,7 @@ fn keep_library(
     match shelf::judge(bytes) {
         Reading::Cards(cards) => {
             shelf::keep(bytes, held);
-            put_label(b"library", cards as u64, out, at);
+            put_answer(Answer::Library(cards), out, at);
         }
         Reading::Refused(f) => put_refused(f, out, at),
     }
@@ -53,7 +48,7 @@ fn take_library(path: &[u8], held: &mut [u8; MOST], out: &mut [u8; ROOM], at: &m
 
 fn find(name: &[u8], library: &[u8], out: &mut [u8; ROOM], at: &mut usize) {
     match library::locate(library, name) {
-        Located::Record { at: place, size: _ } => put_label(b"record", place as u64, out, at),
+        Located::Record { at: place, size: _ } => put_answer(Answer::Offset(place), out, at),
         Located::Refused(f) => put_refused(f, out, at),
     }
 }
@@ -74,6 +69,47 @@ fn clip(name: &[u8], library: &[u8], out: &mut [u8; ROOM], at: &mut usize) {
     }
 }
 
+// What is printed of the board's answer to a call that gives a card's number, or a transistor's.
+fn put_card(answer: board::Answer, out: &mut [u8; ROOM], at: &mut usize) {
+    match answer {
+        board::Answer::Issue(i) => put_answer(Answer::Card(i), out, at),
+        board::Answer::Refused(f) => put_refused(f, out, at),
+        _ => {}
+    }
+}
+
+fn put_transistor(answer: board::Answer, out: &mut [u8; ROOM], at: &mut usize) {
+    match answer {
+        board::Answer::Issue(i) => put_answer(Answer::Transistor(i), out, at),
+        board::Answer::Refused(f) => put_refused(f, out, at),
+        _ => {}
+    }
+}
+
+// To a call that gives nothing: what was done.
+fn put_done(answer: board::Answer, done: Answer, out: &mut [u8; ROOM], at: &mut usize) {
+    match answer {
+        board::Answer::Refused(f) => put_refused(f, out, at),
+        _ => put_answer(done, out, at),
+    }
+}
+
+// The number of a node that the board has.
+fn node_number(node: i64) -> u32 {
+    match whole::open(node) {
+        whole::Int::Pos(n) => { if n < 32 { n as u32 } else { 32 } }
+        whole::Int::NegSuc(_) => 32,
+    }
+}
+
+fn put_reading(node: i64, answer: board::Answer, out: &mut [u8; ROOM], at: &mut usize) {
+    match answer {
+        board::Answer::Node(v, t) => put_answer(Answer::Reading(node_number(node), v, t), out, at),
+        board::Answer::Refused(f) => put_refused(f, out, at),
+        _ => {}
+    }
+}
+
 fn load_record(
     board: Board,
     name: &[u8],
@@ -86,7 +122,7 @@ fn load_record(
 {
     let asked = board.load(name, bytes);
     let answer = asked.answer;
-    put_answer(Command::Load, 0, answer, out, at);
+    put_card(answer, out, at);
     asked.board
 }
 
@@ -109,62 +145,65 @@ fn load(board: Board, name: &[u8], library: &[u8], out: &mut [u8; ROOM], at: &mu
     }
 }
 
-// The record in hex digits; a line has room for fewer than 2,048 bytes.
-fn load_digits(board: Board, line: &[u8], out: &mut [u8; ROOM], at: &mut usize) -> Board
-    requires { ⌜ Reached board ⌝ }
-    ensures { λ r. ⌜ Reached r ⌝ }
-{
-    let mut bytes = [0u8; 2048];
-    match sheet::hex_bytes(word(line, 2), &mut bytes) {
-        Hex::Bytes(n) => load_record(board, word(line, 1), part(&bytes, 0, n), out, at),
-        Hex::Bad => {
-            put_error(line, out, at);
-            board
-        }
-    }
-}
-
 fn look_up(board: Board, name: &[u8], out: &mut [u8; ROOM], at: &mut usize)
     requires { ⌜ Reached board ⌝ }
 {
     let asked = board.look_up(name);
     let answer = asked.answer;
-    put_answer(Command::Lookup, 0, answer, out, at);
+    put_card(answer, out, at);
 }
 
-fn ask(board: Board, c: Command, v: [i64; NUMBERS]) -> Answered
-    requires { ⌜ Reached board ⌝ }
-    ensures { λ r. ⌜ Reached (r .board) ⌝ }
-{
-    match c {
-        Command::Place => board.place(v[0], [v[1], v[2], v[3], v[4], v[5], v[6], v[7]]),
-        Command::Move => board.move_to(v[0], v[1]),
-        Command::Lift => board.lift(v[0]),
-        Command::Withdraw => board.withdraw(v[0]),
-        _ => board.read_node(v[0]),
-    }
-}
-
-// A command whose words are numbers.
-fn ask_numbers(board: Board, c: Command, line: &[u8], out: &mut [u8; ROOM], at: &mut usize) -> Board
+fn place(board: Board, v: [i64; MOST_NUMBERS], out: &mut [u8; ROOM], at: &mut usize) -> Board
     requires { ⌜ Reached board ⌝ }
     ensures { λ r. ⌜ Reached r ⌝ }
 {
-    let given = numbers(line, word_count(c));
-    let v = given.value;
-    if !given.good {
-        put_error(line, out, at);
-        return board;
-    }
-    let asked = ask(board, c, v);
+    let asked = board.place(v[0], [v[1], v[2], v[3], v[4], v[5], v[6], v[7]]);
     let answer = asked.answer;
-    put_answer(c, v[0], answer, out, at);
+    put_transistor(answer, out, at);
     asked.board
 }
 
-fn put_row(node: u32, answer: Answer, out: &mut [u8; ROOM], at: &mut usize) {
+fn move_to(board: Board, node: i64, microvolts: i64, out: &mut [u8; ROOM], at: &mut usize) -> Board
+    requires { ⌜ Reached board ⌝ }
+    ensures { λ r. ⌜ Reached r ⌝ }
+{
+    let asked = board.move_to(node, microvolts);
+    let answer = asked.answer;
+    put_done(answer, Answer::Moved, out, at);
+    asked.board
+}
+
+fn lift(board: Board, transistor: i64, out: &mut [u8; ROOM], at: &mut usize) -> Board
+    requires { ⌜ Reached board ⌝ }
+    ensures { λ r. ⌜ Reached r ⌝ }
+{
+    let asked = board.lift(transistor);
+    let answer = asked.answer;
+    put_done(answer, Answer::Lifted, out, at);
+    asked.board
+}
+
+fn withdraw(board: Board, card: i64, out: &mut [u8; ROOM], at: &mut usize) -> Board
+    requires { ⌜ Reached board ⌝ }
+    ensures { λ r. ⌜ Reached r ⌝ }
+{
+    let asked = board.withdraw(card);
+    let answer = asked.answer;
+    put_done(answer, Answer::Withdrawn, out, at);
+    asked.board
+}
+
+fn read_node(board: Board, node: i64, out: &mut [u8; ROOM], at: &mut usize)
+    requires { ⌜ Reached board ⌝ }
+{
+    let asked = board.read_node(node);
+    let answer = asked.answer;
+    put_reading(node, answer, out, at);
+}
+
+fn put_row(node: u32, answer: board::Answer, out: &mut [u8; ROOM], at: &mut usize) {
     match answer {
-        Answer::Node(v, t) => put_text(sheet::sheet_line(node, v, t), out, at),
+        board::Answer::Node(v, t) => put_text(sheet::sheet_line(node, v, t), out, at),
         _ => {}
     }
 }
@@ -172,11 +211,20 @@ fn put_row(node: u32, answer: Answer, out: &mut [u8; ROOM], at: &mut usize) {
 fn put_sheet(board: Board, out: &mut [u8; ROOM], at: &mut usize)
     requires { ⌜ Reached board ⌝ }
 {
-    puts(b"sheet 32\n", out, at);
+    put_answer(Answer::Sheet, out, at);
     for n in 0u32..32 {
         let asked = board.read_node(n as i64);
         let answer = asked.answer;
         put_row(n, answer, out, at);
+    }
+}
+
+// Whether the board is asked.
+pub fn asks_board(v: Verb) -> bool {
+    match v {
+        Verb::Nothing | Verb::TooLong | Verb::Error | Verb::Library | Verb::Find | Verb::Clip =>
+            false,
+        _ => true,
     }
 }
 
@@ -188,20 +236,24 @@ pub fn obey_apart(
     out: &mut [u8; ROOM],
     at: &mut usize,
 ) {
-    match c {
-        Command::Nothing => {}
-        Command::Library => take_library(word(line, 1), held, out, at),
-        Command::Find => find(word(line, 1), shelf::held(held), out, at),
-        Command::Clip => clip(word(line, 1), shelf::held(held), out, at),
-        _ => put_error(line, out, at),
+    let words = c.words;
+    let verb = c.verb;
+    match verb {
+        Verb::Nothing => {}
+        Verb::TooLong => put_answer(Answer::TooLong, out, at),
+        Verb::Library => take_library(script::word(line, words, 1), held, out, at),
+        Verb::Find => find(script::word(line, words, 1), shelf::held(held), out, at),
+        Verb::Clip => clip(script::word(line, words, 1), shelf::held(held), out, at),
+        _ => put_error(script::word(line, words, 0), out, at),
     }
 }
 
-// A command that asks the board.
+// A command that asks the board; the bytes that its hex digits spell begin `spelled`.
 pub fn obey(
     board: Board,
     c: Command,
     line: &[u8],
+    spelled: &[u8; MOST_BYTES],
     library: &[u8],
     out: &mut [u8; ROOM],
     at: &mut usize,
@@ -209,17 +261,28 @@ pub fn obey(
     requires { ⌜ Reached board ⌝ }
     ensures { λ r. ⌜ Reached r ⌝ }
 {
-    match c {
-        Command::Load => load(board, word(line, 1), library, out, at),
-        Command::Record => load_digits(board, line, out, at),
-        Command::Lookup => {
-            look_up(board, word(line, 1), out, at);
+    let words = c.words;
+    let name = script::word(line, words, 1);
+    let v = c.numbers;
+    let verb = c.verb;
+    match verb {
+        Verb::Load => load(board, name, library, out, at),
+        Verb::Record => load_record(board, name, part(spelled, 0, c.bytes), out, at),
+        Verb::Place => place(board, v, out, at),
+        Verb::Move => move_to(board, v[0], v[1], out, at),
+        Verb::Lift => lift(board, v[0], out, at),
+        Verb::Withdraw => withdraw(board, v[0], out, at),
+        Verb::Lookup => {
+            look_up(board, name, out, at);
             board
         }
-        Command::Sheet => {
+        Verb::Node => {
+            read_node(board, v[0], out, at);
+            board
+        }
+        _ => {
             put_sheet(board, out, at);
             board
         }
-        _ => ask_numbers(board, c, line, out, at),
     }
 }

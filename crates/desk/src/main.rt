@@ -1,11 +1,9 @@
 // The desk at work: obeys the commands of standard input or, given arguments, those of each script that an argument names, one script after the other.
 mod out; // out.rt: bytes that wait to be written
-mod words; // words.rt: the words of a line
-mod command; // command.rt: the command that a line names
 mod shelf; // shelf.rt: the library held
-mod answer; // answer.rt: the answers to a line
+mod answer; // answer.rt: the answers to a line, as `answers` words them
 mod desk; // desk.rt: a line obeyed
-mod script; // script.rt: a script obeyed, line by line
+mod lines; // lines.rt: a script obeyed, line by line
 
 fn is_dash(word: &[u8]) -> bool {
     if word.len() != 1 {
@@ -17,11 +15,11 @@ fn is_dash(word: &[u8]) -> bool {
 // `-` is standard input. What does not open has a descriptor that does not read.
 fn obey_script(path: &[u8]) {
     if is_dash(path) {
-        script::run(libc::STDIN_FILENO, path);
+        lines::run(libc::STDIN_FILENO, path);
         return;
     }
     let fd = os::open_read(path);
-    script::run(fd, path);
+    lines::run(fd, path);
     libc::close(fd);
 }
 
@@ -34,7 +32,7 @@ fn obey_argument(i: usize) {
 fn main() {
     let count = os::arg_count();
     if count < 2 {
-        script::run(libc::STDIN_FILENO, b"-");
+        lines::run(libc::STDIN_FILENO, b"-");
         return;
     }
     for i in 1..count {

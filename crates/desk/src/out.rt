@@ -1,9 +1,18 @@
 // Bytes that wait to be written. `at` is how many wait; they are written when there is no room for another, and when a script has been obeyed as far as it was read.
-use crate::words::part;
 use libc::STDOUT_FILENO;
 use sheet::Text;
 
 pub const ROOM: usize = 65536;
+
+// The n bytes from a place on; none where there are not so many.
+pub fn part(s: &[u8], at: usize, n: usize) -> &[u8] {
+    if at <= s.len() {
+        if n <= s.len() - at {
+            return &s[at..at + n];
+        }
+    }
+    &s[..0]
+}
 
 // Writes what waits.
 pub fn flush(out: &[u8; ROOM], at: &mut usize) {

@@ -1,5 +1,5 @@
 // The library held. It fills the start of a buffer, and its own header says how long it is.
-use crate::words::part;
+use crate::out::part;
 use library::Reading;
 
 // One byte more than the longest library.

@@ -9,7 +9,7 @@ use lib.ListN.{length, take, drop, getD, set, replicate, length-set, length-appe
 use lib.Seq.{length-take-le, paste, paste-zero, paste-suc, take-all, take-at, drop-at, take-suc, drop-drop}
 use Rattle.bytes_le.specs.Le.{bytesOf, length-bytes, byteValues, wordBytes}
 use Rattle.bytes_le.proofs.Laws.{rest}
-use Rattle.library.specs.Format.{wordsOf, wholeOf, bytesOfAll, headerOf, headerBytes, recordsAt}
+use Rattle.directory.specs.Format.{wordsOf, wholeOf, bytesOfAll, headerOf, headerBytes, recordsAt}
 use Rattle.library.proofs.WordsRead.{at-place}
 use Rattle.bytes_le.specs.Buffer.{over}
 

@@ -1,69 +1,33 @@
--- Each way out of reading and of locating, over plain values: the tests that lead there give the definition's verdict.
-use mathlib.Core.Path.{_≡_, refl, sym, _∙_, ap, ap₂}
-use mathlib.Core.Bool.{Bool, true, false, not, _||_}
-use mathlib.Core.List.{List}
-use Prim.Native.Nat.{ℕ, _+_, _*_, _-_, _/_, _<_, _≤_}
-use native.Mathlib.Nat.{mul-le-mul-left, mul-suc}
+-- Each way out of reading, over plain values: the tests that lead there give the definition's verdict.
+use mathlib.Core.Path.{_≡_, refl, sym, _∙_, ap}
+use mathlib.Core.Bool.{Bool, true, false, cond, _||_}
+use mathlib.Core.List.{List, []}
+use Prim.Native.Nat.{ℕ, _*_, _-_, _/_, _≤_}
 use native.Mathlib.Omega.{arith}
-use borrow.Author.Tests.{ltb-true, lt-ltb, le-ltb, not-false}
-use lib.Dec.{ltb}
+use borrow.Author.Tests.{leb-true, leb-false, lt-ltb, le-ltb}
+use lib.Dec.{leb, ltb}
 use lib.ListN.{length, take, drop, length-drop}
-use lib.Seq.{length-take-le}
 use Rattle.bytes_le.proofs.Laws.{rest}
-use Rattle.name.specs.Name.{asked, padded}
 use Rattle.refusal.specs.declared.Refusal.{Refusal}
-use Rattle.refusal.specs.declared.Refusal.the-variants.{Malformed, BadName, NameNotHeld, ShortOutput}
+use Rattle.refusal.specs.declared.Refusal.the-variants.{ShortOutput}
 use Rattle.refusal.specs.Order.{Verdict, no, yes, refuseIf, tells}
 use Rattle.library.specs.declared.Reading.{Reading}
 use Rattle.library.specs.declared.Reading.the-variants.{Cards, Refused}
-use Rattle.library.specs.Answers.{Reads, left, libraryJudged, locating, namesJudged, read, recordOf, verdictRead}
-use Rattle.library.specs.Directory.{among, nameBytes, namesHeld, namesIn, placeOf}
-use Rattle.library.proofs.Names.{among-place, length-pieces, or-false}
-use Rattle.library.specs.Format.{count, directory, headed, headerBytes, mostCards, records, recordsAt, version, wholeOf, wordsIn, wordsOf}
-use Rattle.library.proofs.Headers.{directory-part, directoryPart, few, known-width, narrow, sized}
-use Rattle.library.proofs.Verdicts.{library-yes, passed, refuse-yes, then-yes}
+use Rattle.library.specs.Answers.{Reads, left, read, verdictRead}
+use Rattle.directory.specs.Judged.{libraryJudged}
+use Rattle.directory.specs.Directory.{nameBytes}
+use Rattle.directory.proofs.Names.{or-false}
+use Rattle.directory.specs.Format.{directory, records, recordsAt, wordsIn}
+use Rattle.directory.proofs.Headers.{directory-part, directoryPart}
+use Rattle.directory.proofs.Inspections.{Inspected}
 use Rattle.bytes_le.specs.Le.{wordBytes}
-use Rattle.library.specs.inner.Inspecting.{mostWords}
 use Rattle.bytes_le.specs.Buffer.{over}
 
--- ---- a library inspected
+-- ---- the records of a library
 
 -- the part of a library that is its records
 abbrev pub recordsPart : List ℕ → ℕ → List ℕ
 recordsPart s n = take (length s - recordsAt n) (drop (recordsAt n) s)
-
-pub by-header : (s : List ℕ) {n k : ℕ} → headed s ≡ true → n ≡ count s → k ≡ wordsOf (version s) → {v : Verdict (ℕ × ℕ)}
-    → v ≡ namesJudged (directoryPart s n) (n, k) → v ≡ libraryJudged s
-unfolding libraryJudged
-by-header s {n} {k} h en ek e =
-    e ∙ ap (λ (d : List ℕ). namesJudged d (n, k)) (directory-part s en)
-    ∙ ap₂ (λ (a b : ℕ). namesJudged (directory s) (a, b)) en ek ∙ sym (passed (ap not h) Malformed _)
-
--- a sound library of n cards with k words each
-pub record Inspected (s : List ℕ) (n k : ℕ) : Type 0 where
-  pub is-count : n ≡ count s
-  pub cards : n ≤ mostCards
-  pub width : k ≤ mostWords
-  pub words : k * n ≤ mostWords * mostCards
-  pub long : length s ≡ wholeOf k n
-  pub judged : libraryJudged s ≡ yes (n, k)
-
-pub inspected : (s : List ℕ) {n k : ℕ} → libraryJudged s ≡ yes (n, k) → Inspected s n k
-inspected s {n} {k} e =
-    let g = library-yes s e in
-    let z = sized s (g .0 .header) in
-    let en : n ≡ count s = sym (ap (λ (q : ℕ × ℕ). q .0) (g .1)) in
-    let ek : k ≡ wordsOf (version s) = sym (ap (λ (q : ℕ × ℕ). q .1) (g .1)) in
-    let hn : n ≤ mostCards = omega arith in
-    let hk : k ≤ mostWords = omega (arith, narrow (version s)) in
-    record {
-      is-count = en;
-      cards = hn;
-      width = hk;
-      words = few hk hn;
-      long = z .long ∙ sym (ap₂ wholeOf ek en);
-      judged = e;
-    }
 
 pub records-part : {s : List ℕ} {n k : ℕ} → Inspected s n k → recordsPart s n ≡ records s
 records-part {s} {n} v = rest s (recordsAt n) ∙ ap (λ (m : ℕ). drop (recordsAt m) s) (v .is-count)
@@ -72,6 +36,15 @@ pub records-words : {s : List ℕ} {n k : ℕ} → Inspected s n k → length (r
 records-words {s} {n} v = let l = v .long in rw (rest s (recordsAt n), length-drop (recordsAt n) s) (omega arith)
 
 -- ---- the ways out of reading
+
+-- the words that are handed on, all where w is room enough, have room
+pub words-room : {s : List ℕ} {n k : ℕ} → Inspected s n k → (w : ℕ) {q : List ℕ}
+    → q ≡ cond (leb (k * n) w) (recordsPart s n) [] → length q / wordBytes ≤ w
+words-room {s} {n} {k} v w e = rw e (by-test (leb (k * n) w) refl)
+  where
+    by-test : (t : Bool) → leb (k * n) w ≡ t → length (cond t (recordsPart s n) []) / wordBytes ≤ w
+    by-test true g = let i : k * n ≤ w = leb-true (k * n) w g in rw (records-words v) i
+    by-test false g = omega arith
 
 module _ (s ns ws : List ℕ) where
   reads-by : (v : Verdict ℕ) → read s (length ns) (length ws) ≡ v → (r : Reading) → verdictRead r ≡ v
@@ -100,81 +73,20 @@ module _ (s ns ws : List ℕ) where
     pub read-yes : nameBytes * n ≤ length ns → k * n ≤ length ws → read s (length ns) (length ws) ≡ yes n
     read-yes hn hw = to-five (or-false (le-ltb (length ns) (nameBytes * n) hn) ∙ le-ltb (length ws) (k * n) hw)
 
-    -- d and q are what the directory's part and the records' part left in the buffers
-    pub read-cards : nameBytes * n ≤ length ns → k * n ≤ length ws → {d q : List ℕ} → d ≡ over (directoryPart s n) ns
-        → q ≡ over (wordsIn (recordsPart s n)) ws → Reads s ns ws (Cards n) d q
-    read-cards hn hw ed eq =
-        rw (ed, eq, directory-part s (v .is-count), records-part v)
-        (reads-by (yes n) (read-yes hn hw) (Cards n) refl)
+    -- d and q are what was handed on of the directory's part and of the records' part, and d′ and q′ what that left in
+    -- the buffers
+    module _ (hn : nameBytes * n ≤ length ns) {d q d′ q′ : List ℕ}
+        (ed : d ≡ cond (leb (k * n) (length ws)) (directoryPart s n) [])
+        (eq : q ≡ cond (leb (k * n) (length ws)) (recordsPart s n) [])
+        (ed′ : d′ ≡ over d ns) (eq′ : q′ ≡ over (wordsIn q) ws) where
+      pub read-cards : leb (k * n) (length ws) ≡ true → Reads s ns ws (Cards n) d′ q′
+      read-cards h =
+          rw (ed′, eq′, ed, eq, h, directory-part s (v .is-count), records-part v)
+          (reads-by (yes n) (read-yes hn (leb-true (k * n) (length ws) h)) (Cards n) refl)
 
--- ---- the ways out of locating
-
--- as many names as cards
-names-count : {s : List ℕ} {n k : ℕ} → Inspected s n k → length (namesIn (directory s)) ≡ n
-names-count {s} {n} {k} v =
-    let e = v .is-count in
-    let h : nameBytes * count s ≤ length (drop headerBytes s) = let l = v .long in rw length-drop (omega arith) in
-    let l : length (directory s) ≡ nameBytes * count s = length-take-le (nameBytes * count s) (drop headerBytes s) h in
-    length-pieces nameBytes (namesHeld (directory s)) (directory s) ∙ omega arith
-
--- a record of k words among those of n cards
-pub record-within : (k : ℕ) {i n : ℕ} → i < n → k * i + k ≤ k * n
-record-within k {i} {n} h = let m = mul-le-mul-left k h in omega (arith, mul-suc k i, m)
-
-module _ (s x : List ℕ) where
-  pub locate-refused : {f : Refusal} → libraryJudged s ≡ no f → no f ≡ locating s x
-  unfolding locating
-  locate-refused e = rw e
-
-  module _ {n k : ℕ} (v : Inspected s n k) where
-    pub locate-name : asked x ≡ false → no BadName ≡ locating s x
-    unfolding locating
-    locate-name h = rw (v .judged, h)
-
-    -- i is what searching the directory's part gave
-    module _ (h : asked x ≡ true) {i : ℕ} {w : List ℕ} (ew : w ≡ padded x)
-        (ei : i ≡ placeOf w (namesIn (directoryPart s n))) where
-      place : placeOf (padded x) (namesIn (directory s)) ≡ i
-      place = sym (ei ∙ ap₂ (λ (a b : List ℕ). placeOf a (namesIn b)) ew (directory-part s (v .is-count)))
-
-      held : among (padded x) (namesIn (directory s)) ≡ ltb i n
-      held = among-place (padded x) (namesIn (directory s)) ∙ ap₂ ltb place (names-count v)
-
-      pub locate-none : n ≤ i → no NameNotHeld ≡ locating s x
-      unfolding locating
-      locate-none l = rw (v .judged, h, held, le-ltb i n l)
-
-      pub locate-at : i < n → yes (recordOf (n, k) i) ≡ locating s x
-      unfolding locating
-      locate-at l = rw (v .judged, h, held, lt-ltb i n l, place)
-
--- a record that is located is one of the library's width, and lies within it
-pub record Within (s : List ℕ) (at size : ℕ) : Type 0 where
-  pub inside : at + size ≤ length s
-  pub wide : size ≡ wordBytes * wordsOf (version s)
-  pub known : 0 < wordsOf (version s)
-
-pub located-within : (s x : List ℕ) {at size : ℕ} → locating s x ≡ yes (at, size) → Within s at size
-unfolding locating
-located-within s x {at} {size} e =
-    let i : ℕ = placeOf (padded x) (namesIn (directory s)) in
-    let g = then-yes (libraryJudged s) _ e in
-    let b = library-yes s (g .first) in
-    let p = refuse-yes (not (asked x)) BadName (g .after) in
-    let q = refuse-yes (not (among (padded x) (namesIn (directory s)))) NameNotHeld (p .1) in
-    let n : ℕ = g .value .0 in
-    let k : ℕ = g .value .1 in
-    let v : Inspected s n k = inspected s (g .first) in
-    let h : i < n =
-    ltb-true i n
-    (ap (ltb i) (sym (names-count v)) ∙ sym (among-place (padded x) (namesIn (directory s))) ∙ not-false _ (q .0)) in
-    let r : k * i + k ≤ k * n = record-within k h in
-    let o : _≡_ {A = ℕ × ℕ} (recordOf (g .value) i) (at, size) = cc in
-    let a : at ≡ recordsAt n + wordBytes * (k * i) = sym (ap (λ (w : ℕ × ℕ). w .0) o) in
-    let z : size ≡ wordBytes * k = sym (ap (λ (w : ℕ × ℕ). w .1) o) in
-    let l = v .long in
-    record {
-      inside = omega arith;
-      wide = z ∙ ap (λ (w : ℕ × ℕ). wordBytes * w .1) (sym (b .1));
-      known = known-width s (b .0 .header);
-    }
+      pub read-none : leb (k * n) (length ws) ≡ false → Reads s ns ws (Refused ShortOutput) d′ q′
+      read-none h =
+          rw (ed′, eq′, ed, eq, h)
+          (read-short
+          (or-false (le-ltb (length ns) (nameBytes * n) hn) ∙ lt-ltb (length ws) (k * n)
+          (leb-false (k * n) (length ws) h)))

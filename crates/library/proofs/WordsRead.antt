@@ -9,10 +9,10 @@ use lib.ListN.{length, take, drop, getD, set, length-drop, length-map}
 use Rattle.bytes_le.specs.Le.{le, Word, wordBytes}
 use Rattle.bytes_le.proofs.Laws.{rest}
 use Rattle.name.proofs.Laws.{Filled, fill-first, fill-more, fill-all}
-use Rattle.library.specs.Directory.{cut}
-use Rattle.library.specs.Format.{wordsIn}
-use Rattle.library.proofs.Names.{cut-none, cut-more, length-pieces}
-use Rattle.library.proofs.Verdicts.{never}
+use Rattle.directory.specs.Directory.{cut}
+use Rattle.directory.specs.Format.{wordsIn}
+use Rattle.directory.proofs.Names.{length-pieces, cut-none, cut-more}
+use Rattle.directory.proofs.Verdicts.{never}
 use Rattle.bytes_le.specs.Buffer.{over}
 
 pub words-none : (s : List ℕ) → length s < wordBytes → wordsIn s ≡ []

@@ -1,52 +1,20 @@
--- What each operation answers, the refusals in their order, and what it leaves in a lent buffer.
+-- What reading and writing answer, the refusals in their order, and what they leave in a lent buffer.
 use mathlib.Core.Path.{_≡_}
-use mathlib.Core.Bool.{not, _||_}
-use mathlib.Core.List.{List, []}
-use Prim.Native.Nat.{ℕ, _+_, _*_}
+use mathlib.Core.Bool.{_||_}
+use mathlib.Core.List.{List}
+use Prim.Native.Nat.{ℕ, _*_}
 use lib.Dec.{ltb}
-use lib.ListN.{length, take, drop}
-use denote.Ref.{RefT, ptr, now}
-use Rattle.bytes_le.specs.Le.{wordBytes}
+use lib.ListN.{length}
 use Rattle.bytes_le.specs.Buffer.{over}
-use Rattle.name.specs.Name.{asked, padded}
-use Rattle.refusal.specs.declared.Refusal.the-variants.{Malformed, BadName, NameTwice, NameNotHeld, ShortOutput}
+use Rattle.refusal.specs.declared.Refusal.the-variants.{ShortOutput}
 use Rattle.refusal.specs.Order.{Verdict, no, yes, refuseIf, andThen, Answer, tells}
 use Rattle.library.specs.declared.Reading.{Reading}
 use Rattle.library.specs.declared.Reading.the-variants as reading
-use Rattle.library.specs.declared.Located.{Located}
-use Rattle.library.specs.declared.Located.the-variants as located
 use Rattle.library.specs.declared.Writing.{Writing}
 use Rattle.library.specs.declared.Writing.the-variants as writing
-use Rattle.library.specs.Directory.{nameBytes, namesIn, namesHeld, allNamed, among, twice, placeOf}
-use Rattle.library.specs.Format.{wordsOf, recordsAt, wholeOf, version, count, headed, directory, records, wordsIn, libraryOf, offered}
-
--- ---- 1, 2, 3
-
--- 2 for a malformed name anywhere in a directory, then 3 for a name that stands twice; else a
-unfoldable pub namesJudged : {A : Type 0} → List ℕ → A → Verdict A
-namesJudged d a =
-    refuseIf (not (allNamed (namesIn d))) BadName
-    (refuseIf (twice (namesIn d)) NameTwice (yes a))
-
--- the count of a library's cards, and the words of a record
-abbrev pub numbersOf : List ℕ → ℕ × ℕ
-numbersOf s = (count s, wordsOf (version s))
-
--- 1 of a library, then 2 and 3 of its names; else its two numbers
-unfoldable pub libraryJudged : List ℕ → Verdict (ℕ × ℕ)
-libraryJudged s =
-    refuseIf (not (headed s)) Malformed
-    (namesJudged (directory s) (numbersOf s))
-
--- a library to which none of 1, 2, 3 is given
-abbrev pub Sound : List ℕ → Type 0
-Sound s = libraryJudged s ≡ yes (numbersOf s)
-
--- 1 of names and words that are to become a library of version v, then 2 and 3 of the names; else its two numbers
-unfoldable pub offerJudged : ℕ → List ℕ → List ℕ → Verdict (ℕ × ℕ)
-offerJudged v ns ws =
-    refuseIf (not (offered v ns ws)) Malformed
-    (namesJudged ns (namesHeld ns, wordsOf v))
+use Rattle.directory.specs.Directory.{nameBytes}
+use Rattle.directory.specs.Judged.{libraryJudged, offerJudged}
+use Rattle.directory.specs.Format.{wholeOf, directory, records, wordsIn, libraryOf}
 
 -- ---- what is left of a lent buffer
 
@@ -76,43 +44,6 @@ pub record Reads (s ns ws : List ℕ) (r : Reading) (ns′ ws′ : List ℕ) : T
   pub answer : toldRead r ≡ tells (read s (length ns) (length ws))
   pub names : ns′ ≡ left (read s (length ns) (length ws)) (directory s) ns
   pub words : ws′ ≡ left (read s (length ns) (length ws)) (wordsIn (records s)) ws
-
--- ---- what locating and finding answer
-
-abbrev pub verdictLocated : Located → Verdict (ℕ × ℕ)
-verdictLocated (located.Record at size) = yes (at, size)
-verdictLocated (located.Refused f) = no f
-
-abbrev pub toldLocated : Located → Answer (ℕ × ℕ)
-toldLocated r = tells (verdictLocated r)
-
--- among n records of k words, the place of card i's and its size, in bytes
-abbrev pub recordOf : ℕ × ℕ → ℕ → ℕ × ℕ
-recordOf p i = (recordsAt (p .0) + wordBytes * (p .1 * i), wordBytes * p .1)
-
--- 1, 2, 3, then 2 for the name that is asked for, then 4 where it is not held; else its card's record
-unfoldable pub locating : List ℕ → List ℕ → Verdict (ℕ × ℕ)
-locating s x =
-    andThen (libraryJudged s)
-    (λ (p : ℕ × ℕ).
-    refuseIf (not (asked x)) BadName
-    (refuseIf (not (among (padded x) (namesIn (directory s)))) NameNotHeld
-    (yes (recordOf p (placeOf (padded x) (namesIn (directory s)))))))
-
--- the bytes that are handed out: a record's, or none
-abbrev pub handed : Verdict (ℕ × ℕ) → List ℕ → List ℕ
-handed (no f) s = []
-handed (yes p) s = take (p .1) (drop (p .0) s)
-
--- where they stand, the block and the byte in it: a record at its place in the library
-abbrev pub standing : Verdict (ℕ × ℕ) → RefT (List ℕ) → ℕ × ℕ
-standing (no f) l = ptr l
-standing (yes p) l = (ptr l .0, p .0 + ptr l .1)
-
--- finding x in the library l: the bytes of r, and that they are the library's own
-pub record Finds (l : RefT (List ℕ)) (x : List ℕ) (r : RefT (List ℕ)) : Type 0 where
-  pub bytes : now r ≡ handed (locating (now l) x) (now l)
-  pub place : ptr r ≡ standing (locating (now l) x) l
 
 -- ---- what writing answers
 

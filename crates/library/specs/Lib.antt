@@ -1,6 +1,3 @@
--- The library: its form, its directory, what each operation answers; `inner` has the words of inner contracts.
-pub mod Directory
-pub mod Format
+-- The library: what each operation answers.
 pub mod Answers
 pub mod Unique
-pub mod inner

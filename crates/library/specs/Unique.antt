@@ -3,26 +3,19 @@ use mathlib.Core.Path.{_≡_, ap}
 use mathlib.Core.List.{List}
 use Prim.Native.Nat.{ℕ}
 use lib.ListN.{length}
-use denote.Ref.{RefT, ptr, now}
 use Rattle.refusal.specs.Unique.{unique-by-equation}
 use Rattle.refusal.specs.Order.{Verdict, no, yes, tells, tells-one}
 use Rattle.library.specs.declared.Reading.{Reading}
 use Rattle.library.specs.declared.Reading.the-variants as reading
-use Rattle.library.specs.declared.Located.{Located}
-use Rattle.library.specs.declared.Located.the-variants as located
 use Rattle.library.specs.declared.Writing.{Writing}
 use Rattle.library.specs.declared.Writing.the-variants as writing
-use Rattle.library.specs.Answers.{toldRead, read, Reads, toldLocated, locating, Finds, toldWritten, written, Writes}
+use Rattle.library.specs.Answers.{toldRead, read, Reads, toldWritten, written, Writes}
 
 -- the answer that a verdict is: one whatever tells it
 
 abbrev pub asReading : Verdict ℕ → Reading
 asReading (yes n) = reading.Cards n
 asReading (no f) = reading.Refused f
-
-abbrev pub asLocated : Verdict (ℕ × ℕ) → Located
-asLocated (yes p) = located.Record (p .0) (p .1)
-asLocated (no f) = located.Refused f
 
 abbrev pub asWriting : Verdict ℕ → Writing
 asWriting (yes n) = writing.Bytes n
@@ -31,10 +24,6 @@ asWriting (no f) = writing.Refused f
 pub reading-told : (r : Reading) (v : Verdict ℕ) → toldRead r ≡ tells v → r ≡ asReading v
 reading-told (reading.Cards n) v e = ap asReading (tells-one (yes n) v e)
 reading-told (reading.Refused f) v e = ap asReading (tells-one (no f) v e)
-
-pub located-told : (r : Located) (v : Verdict (ℕ × ℕ)) → toldLocated r ≡ tells v → r ≡ asLocated v
-located-told (located.Record at size) v e = ap asLocated (tells-one (yes (at, size)) v e)
-located-told (located.Refused f) v e = ap asLocated (tells-one (no f) v e)
 
 pub writing-told : (r : Writing) (v : Verdict ℕ) → toldWritten r ≡ tells v → r ≡ asWriting v
 writing-told (writing.Bytes n) v e = ap asWriting (tells-one (yes n) v e)
@@ -48,15 +37,6 @@ unique-read {s} {ns} {ws} {r} {r′} a b =
       unique-by-equation (a .names) (b .names),
       unique-by-equation (a .words) (b .words),
     )
-
-pub unique-locate : (s x : List ℕ) (r r′ : Located)
-    → toldLocated r ≡ tells (locating s x) → toldLocated r′ ≡ tells (locating s x) → r ≡ r′
-unique-locate s x r r′ a b =
-    let v = locating s x in unique-by-equation (located-told r v a) (located-told r′ v b)
-
-pub unique-find : {l : RefT (List ℕ)} {x : List ℕ} {r r′ : RefT (List ℕ)}
-    → Finds l x r → Finds l x r′ → (now r ≡ now r′) × (ptr r ≡ ptr r′)
-unique-find a b = (unique-by-equation (a .bytes) (b .bytes), unique-by-equation (a .place) (b .place))
 
 pub unique-write : {v : ℕ} {ns ws l : List ℕ} {r r′ : Writing} {m m′ : List ℕ}
     → Writes v ns ws l r m → Writes v ns ws l r′ m′ → (r ≡ r′) × (m ≡ m′)

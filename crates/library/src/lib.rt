@@ -1,35 +1,25 @@
-// The card library: read, written, and searched for a card by its name.
+// The card library: read and written. It is searched for a card by the functions of `finding`, which are passed on.
 use refusal::Refusal;
 ghost use mathlib.Core.Path.{_≡_};
-ghost use mathlib.Core.Bool.{_&&_};
-ghost use mathlib.Core.List.{_++_};
-ghost use Prim.Native.Nat.{_+_, _*_, _/_, _%_, _^_, _<_, _≤_};
-ghost use lib.Dec.{ltb};
+ghost use mathlib.Core.Bool.{cond};
+ghost use mathlib.Core.List.{[], _++_};
+ghost use Prim.Native.Nat.{_+_, _*_, _/_, _≤_};
 ghost use lib.ListN.{length, take, drop};
 ghost use Rattle.bytes_le.specs.Le.{wordBytes, bytesOf};
-ghost use Rattle.refusal.specs.Order.{tells};
-ghost use Rattle.name.specs.Name.{same};
 ghost use Rattle.bytes_le.specs.Buffer.{over};
-ghost use Rattle.library.specs.inner.Inspecting.{found, mostWords, slots, slotOf};
-ghost use Rattle.library.specs.Directory.{nameBytes, namesIn, allNamed, among, twice, placeOf};
-ghost use Rattle.library.specs.Format.{mostCards, wordsOf, writtenVersion, agree, wordsIn, bytesOfAll, headerOf};
-ghost use Rattle.library.specs.Answers.{namesJudged, libraryJudged, offerJudged, Reads, toldLocated, locating, Finds, Writes};
+ghost use Rattle.directory.specs.Format.{mostCards, writtenVersion, wordsIn, bytesOfAll, headerOf};
+ghost use Rattle.library.specs.Answers.{Reads, Writes};
 use bytes_le::WORD_BYTES;
-
-// The bytes of the header, and so where the directory starts.
-const HEADER_BYTES: usize = 16;
-
-// The bytes of a name with its padding.
-const NAME_BYTES: usize = 16;
-
-// The most cards that a library holds.
-const MOST_CARDS: usize = 256;
+use directory::HEADER_BYTES;
+use directory::Inspection;
+use directory::NAME_BYTES;
+pub use finding::Located;
+pub use finding::find;
+pub use finding::locate;
+pub use finding::record_at;
 
 // The version that is written.
 const WRITTEN_VERSION: u16 = 1;
-
-// How many marks the search for a name that stands twice keeps.
-const SLOTS: usize = 4093;
 
 // What reading answers: the count of cards, or why not.
 pub enum Reading {
@@ -41,169 +31,6 @@ pub enum Reading {
 pub enum Writing {
     Bytes(u32),
     Refused(Refusal),
-}
-
-// What locating answers: the place of a record's first byte and its count of bytes, or why not.
-pub enum Located {
-    Record { at: usize, size: usize },
-    Refused(Refusal),
-}
-
-// A library, or what is to become one, inspected: its count of cards and the words of a record, or what is wrong.
-enum Inspection {
-    Numbers { cards: usize, words: usize },
-    Refused(Refusal),
-}
-
-// How many words a record of a version has; 0 where there is no such version.
-fn width(version: u16) -> usize
-    ensures { λ r. ⌜ (r ≡ wordsOf version) × (r ≤ mostWords) ⌝ }
-{
-    match version {
-        1 => 16,
-        _ => 0,
-    }
-}
-
-// Whether the numbers of a header agree with each other and with the length.
-fn agrees(version: u16, count: u16, directory: u32, records: u32, whole: u32, length: usize) -> bool
-    ensures { λ r. ⌜ r ≡ agree version count directory records whole length ⌝ }
-{
-    let k = width(version);
-    if k == 0 {
-        return false;
-    }
-    let n = count as usize;
-    if MOST_CARDS < n {
-        return false;
-    }
-    if directory as usize != HEADER_BYTES {
-        return false;
-    }
-    let e = HEADER_BYTES + NAME_BYTES * n;
-    if records as usize != e {
-        return false;
-    }
-    let all = e + WORD_BYTES * (k * n);
-    if whole as usize != all {
-        return false;
-    }
-    length == all
-}
-
-// Whether every name of a directory is well-formed.
-fn all_named(d: &[u8]) -> bool
-    ensures { λ r. ⌜ r ≡ allNamed (namesIn (now (d .entry))) ⌝ }
-{
-    let mut t = d;
-    while NAME_BYTES <= t.len() {
-        if name::is_well_formed(&t[..NAME_BYTES]) {
-            t = &t[NAME_BYTES..];
-        } else {
-            return false;
-        }
-    }
-    true
-}
-
-// Whether a directory starts with the name that has these two words.
-fn starts(d: &[u8], low: u64, high: u64) -> bool
-    requires { ⌜ nameBytes ≤ length (now d) ⌝ }
-    ensures { λ r. ⌜ r ≡ same (bytesOf wordBytes low ++ bytesOf wordBytes high) (take nameBytes (now (d .entry))) ⌝ }
-{
-    let x = bytes_le::u64_at(d, 0);
-    let y = bytes_le::u64_at(d, WORD_BYTES);
-    if low != x {
-        return false;
-    }
-    high == y
-}
-
-// Whether the name with these two words stands in a directory.
-fn holds(d: &[u8], low: u64, high: u64) -> bool
-    ensures { λ r. ⌜ r ≡ among (bytesOf wordBytes low ++ bytesOf wordBytes high) (namesIn (now (d .entry))) ⌝ }
-{
-    let mut t = d;
-    while NAME_BYTES <= t.len() {
-        if starts(t, low, high) {
-            return true;
-        }
-        t = &t[NAME_BYTES..];
-    }
-    false
-}
-
-// The number of a mark, from a name's two words, so that one name always has the same.
-fn slot(low: u64, high: u64) -> usize
-    ensures { λ r. ⌜ (r ≡ slotOf low high) × (r < slots) ⌝ }
-{
-    (std::num::wrapping_add_u64(low, high) % SLOTS as u64) as usize
-}
-
-// Whether a name stands in the directory, which is looked through only where its mark has been made.
-fn again(mark: u8, d: &[u8], low: u64, high: u64) -> bool
-    ensures { λ r. ⌜ r ≡ (ltb 0 mark && among (bytesOf wordBytes low ++ bytesOf wordBytes high) (namesIn (now (d .entry)))) ⌝ }
-{
-    if mark == 0 {
-        return false;
-    }
-    holds(d, low, high)
-}
-
-// Whether some name of a directory stands twice: from the last name on, each makes its mark, and is compared with those after it where that was made before.
-fn doubled(d: &[u8]) -> bool
-    ensures { λ r. ⌜ r ≡ twice (namesIn (now (d .entry))) ⌝ }
-{
-    let mut marks = [0u8; SLOTS];
-    let mut i = d.len() / NAME_BYTES;
-    while 0 < i {
-        i -= 1;
-        let t = &d[NAME_BYTES * i..];
-        let low = bytes_le::u64_at(t, 0);
-        let high = bytes_le::u64_at(t, WORD_BYTES);
-        let k = slot(low, high);
-        if again(marks[k], &t[NAME_BYTES..], low, high) {
-            return true;
-        }
-        marks[k] = 1;
-    }
-    false
-}
-
-// What is wrong with a directory, or else the numbers that are handed in.
-fn judge(d: &[u8], cards: usize, words: usize) -> Inspection
-    ensures { λ r. ⌜ found r ≡ namesJudged (now (d .entry)) (cards, words) ⌝ }
-{
-    if all_named(d) {
-        if doubled(d) {
-            Inspection::Refused(Refusal::NameTwice)
-        } else {
-            Inspection::Numbers { cards, words }
-        }
-    } else {
-        Inspection::Refused(Refusal::BadName)
-    }
-}
-
-// A library inspected.
-fn inspect(s: &[u8]) -> Inspection
-    ensures { λ r. ⌜ found r ≡ libraryJudged (now (s .entry)) ⌝ }
-{
-    let version = bytes_le::u16_at(s, 0);
-    let count = bytes_le::u16_at(s, 2);
-    let directory = bytes_le::u32_at(s, 4);
-    let records = bytes_le::u32_at(s, 8);
-    let whole = bytes_le::u32_at(s, 12);
-    if agrees(version, count, directory, records, whole, s.len()) {
-        let n = count as usize;
-        judge(
-            &s[HEADER_BYTES..HEADER_BYTES + NAME_BYTES * n],
-            n,
-            width(version),
-        )
-    } else {
-        Inspection::Refused(Refusal::Malformed)
-    }
 }
 
 // Copies bytes to the start of a buffer.
@@ -232,84 +59,34 @@ fn load(src: &[u8], dst: &mut [u64])
     }
 }
 
+// The bytes where there is room for all, none of them where there is not.
+fn where_room(room: bool, bytes: &[u8]) -> &[u8]
+    ensures { λ r. ⌜ (now r ≡ cond room (now (bytes .entry)) []) × (length (now r) ≤ length (now (bytes .entry))) ⌝ }
+{
+    if room { bytes } else { &bytes[..0] }
+}
+
 // Reads a library: the names and the words go to the start of the two buffers, and a refusal changes neither.
 pub fn read(library: &[u8], names: &mut [u8], words: &mut [u64]) -> Reading
     ensures { λ r. ⌜ Reads (now (library .entry)) (now (names .entry)) (now (words .entry)) r (now (names .exit)) (now (words .exit)) ⌝ }
 {
-    match inspect(library) {
+    match directory::inspect(library) {
         Inspection::Refused(f) => Reading::Refused(f),
         Inspection::Numbers { cards, words: k } => {
             let a = NAME_BYTES * cards;
             if names.len() < a {
                 return Reading::Refused(Refusal::ShortOutput);
             }
-            if words.len() < k * cards {
-                return Reading::Refused(Refusal::ShortOutput);
-            }
             let e = HEADER_BYTES + a;
             let n = cards as u32;
-            copy(&library[HEADER_BYTES..e], names);
-            load(&library[e..], words);
-            Reading::Cards(n)
-        }
-    }
-}
-
-// Whether a directory starts with the padded name x: its bytes are copied before they are compared.
-fn begins(d: &[u8], x: &[u8; NAME_BYTES]) -> bool
-    requires { ⌜ nameBytes ≤ length (now d) ⌝ }
-    ensures { λ r. ⌜ r ≡ same (now (x .entry)) (take nameBytes (now (d .entry))) ⌝ }
-{
-    let held = name::pad(&d[..NAME_BYTES]);
-    name::is_same(x, &held)
-}
-
-// The place of a padded name among those of a directory; their count where it is none of them.
-fn search(d: &[u8], x: &[u8; NAME_BYTES]) -> usize
-    ensures { λ r. ⌜ r ≡ placeOf (now (x .entry)) (namesIn (now (d .entry))) ⌝ }
-{
-    let mut t = d;
-    let mut i = 0;
-    while NAME_BYTES <= t.len() {
-        if begins(t, x) {
-            return i;
-        }
-        t = &t[NAME_BYTES..];
-        i += 1;
-    }
-    i
-}
-
-// The place of a card's record in a library, by the card's name.
-pub fn locate(library: &[u8], name: &[u8]) -> Located
-    ensures { λ r. ⌜ toldLocated r ≡ tells (locating (now (library .entry)) (now (name .entry))) ⌝ }
-{
-    match inspect(library) {
-        Inspection::Refused(f) => Located::Refused(f),
-        Inspection::Numbers { cards, words } => {
-            if !name::is_asked(name) {
-                return Located::Refused(Refusal::BadName);
+            let room = k * cards <= words.len();
+            copy(where_room(room, &library[HEADER_BYTES..e]), names);
+            load(where_room(room, &library[e..]), words);
+            if room {
+                return Reading::Cards(n);
             }
-            let e = HEADER_BYTES + NAME_BYTES * cards;
-            let wanted = name::pad(name);
-            let i = search(&library[HEADER_BYTES..e], &wanted);
-            if cards <= i {
-                return Located::Refused(Refusal::NameNotHeld);
-            }
-            let at = e + WORD_BYTES * (words * i);
-            let size = WORD_BYTES * words;
-            Located::Record { at, size }
+            Reading::Refused(Refusal::ShortOutput)
         }
-    }
-}
-
-// The record of a card as a part of the library, by the card's name; the empty part where `locate` refuses.
-pub fn find<'a>(library: &'a [u8], name: &[u8]) -> &'a [u8]
-    ensures { λ r. ⌜ Finds (library .entry) (now (name .entry)) r ⌝ }
-{
-    match locate(library, name) {
-        Located::Record { at, size } => &library[at..at + size],
-        Located::Refused(_) => &library[..0],
     }
 }
 
@@ -355,7 +132,7 @@ fn header(version: u16, count: usize) -> [u8; HEADER_BYTES]
     ensures { λ r. ⌜ r ≡ headerOf version count ⌝ }
 {
     let records = HEADER_BYTES + NAME_BYTES * count;
-    let whole = records + WORD_BYTES * (width(version) * count);
+    let whole = records + WORD_BYTES * (directory::width(version) * count);
     let mut h = [0u8; HEADER_BYTES];
     put(&mut h, 0, 2, version as u64);
     put(&mut h, 2, 2, count as u64);
@@ -365,32 +142,11 @@ fn header(version: u16, count: usize) -> [u8; HEADER_BYTES]
     h
 }
 
-// Names and words inspected for a library of a version.
-fn offer(version: u16, names: &[u8], words: &[u64]) -> Inspection
-    ensures { λ r. ⌜ found r ≡ offerJudged version (now (names .entry)) (now (words .entry)) ⌝ }
-{
-    let k = width(version);
-    if k == 0 {
-        return Inspection::Refused(Refusal::Malformed);
-    }
-    let n = names.len() / NAME_BYTES;
-    if names.len() != NAME_BYTES * n {
-        return Inspection::Refused(Refusal::Malformed);
-    }
-    if MOST_CARDS < n {
-        return Inspection::Refused(Refusal::Malformed);
-    }
-    if words.len() != k * n {
-        return Inspection::Refused(Refusal::Malformed);
-    }
-    judge(names, n, k)
-}
-
 // Writes names and words as a library of a version.
 fn write_as(version: u16, names: &[u8], words: &[u64], library: &mut [u8]) -> Writing
     ensures { λ r. ⌜ Writes version (now (names .entry)) (now (words .entry)) (now (library .entry)) r (now (library .exit)) ⌝ }
 {
-    match offer(version, names, words) {
+    match directory::offer(version, names, words) {
         Inspection::Refused(f) => Writing::Refused(f),
         Inspection::Numbers { cards, words: k } => {
             let e = HEADER_BYTES + NAME_BYTES * cards;

@@ -16,26 +16,25 @@ fn show(t: Text) {
     put(&bytes, t.len);
 }
 
-fn list_card(library: &[u8], padded: &[u8]) {
-    let name = sheet::bare_name(padded);
-    let bytes = library::find(library, name);
-    show(sheet::listing_line(name, bytes));
+fn list_card(padded: &[u8], record: &[u8]) {
+    show(sheet::listing_line(sheet::bare_name(padded), record));
 }
 
-// The cards of the first n names.
+// The cards of the first n names, each with the record of its number.
 fn list_cards(library: &[u8], names: &[u8], n: u32) {
     let mut rest = names;
-    let mut left = n;
-    while 0 < left {
+    let mut k = 0;
+    while k < n as usize {
         if rest.len() < name::LENGTH {
             return;
         }
-        list_card(library, &rest[0..name::LENGTH]);
+        list_card(&rest[0..name::LENGTH], library::record_at(library, k));
         rest = &rest[name::LENGTH..];
-        left -= 1;
+        k += 1;
     }
 }
 
+// The library is judged once, in reading it.
 fn list(library: &[u8]) {
     let mut names = [0u8; 4096];
     let mut words = [0u64; 4096];

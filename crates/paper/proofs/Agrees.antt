@@ -15,23 +15,31 @@ use Rattle.octave.specs.Table.{entries, entryOf}
 use Rattle.float.specs.declared.Split.{Split}
 use Rattle.float.specs.Split.{keptPower}
 use Rattle.card.specs.declared.WorkedCard.{WorkedCard}
-use Rattle.card.specs.Record.{finiteUp}
-use Rattle.card.specs.Clip.{clippedUp, clippedAt, maskUp, clipOf}
+use Rattle.clip.specs.Record.{finiteUp}
+use Rattle.clip.specs.Clip.{clippedUp, clippedAt, maskUp, clipOf}
 use Rattle.card.specs.Judge.{judgeOf}
 use Rattle.card.specs.inner.Worked.{IsWorked}
 use Rattle.card.proofs.WorkedCards.{judged-is-worked}
-use Rattle.branch.specs.Rows.{roles}
-use Rattle.branch.specs.Ticks.{expOf, rootFor}
+use Rattle.terms.specs.Rows.{roles}
+use Rattle.terms.specs.Values.{expOf}
+use Rattle.branch.specs.Ticks.{rootFor}
 use Rattle.branch.specs.Outcome.{outcomeOf}
-use Rattle.branch.specs.inner.Ready.{readyOf, Askable}
-use Rattle.branch.proofs.Laws.{askable}
-use Rattle.board.specs.declared.Board.{Board}
-use Rattle.board.specs.Counts.{cardsMost}
-use Rattle.board.specs.Verdict.{loadOrder, loadVerdict, placeVerdict, moveVerdict}
+use Rattle.terms.specs.inner.Ready.{readyOf, Askable}
+use Rattle.terms.proofs.Laws.{askable}
 use Rattle.totals.specs.Gives.{rowsGive}
-use Rattle.board.specs.Desk.{overloads, flow, sumOver, anyOf, usedUp}
-use Rattle.board.specs.Model.{first, freeCard, placeGives, placeOverloads, tabulate, totalsOf, freshBoard, loaded}
-use Rattle.board.specs.Model.{loadedOf, placedOf, movedOf}
+use Rattle.totals.specs.Flow.{overAt, overloads, flow, sumBelow, withMore}
+use Rattle.branch.specs.inner.FromTerms.{listUp}
+use Rattle.given.specs.Lists.{anyOf}
+use Rattle.given.specs.Arguments.{usedUp}
+use Rattle.deck.specs.Stretch.{stretch, written}
+use Rattle.deck.specs.Layout.{readyAt, cardsMost}
+use Rattle.places.specs.Gathered.{cardsIn, transistorsIn}
+use Rattle.places.specs.Finding.{first, freeCard}
+use Rattle.settle.specs.Change.{backFlow, changeBy, changes}
+use Rattle.settle.specs.First.{firstBelow}
+use Rattle.model.specs.Board.{Board}
+use Rattle.model.specs.Verdict.{loadOrder, loadVerdict, placeVerdict, moveVerdict}
+use Rattle.model.specs.Model.{cardsOf, transistorsOf, shifted, freshBoard, loaded, loadedOf, placedOf, movedOf}
 use Rattle.paper.specs.Words.{recordOf}
 use Rattle.paper.specs.Cases.{theCard, theBoard, Case, boardCase, cases}
 
@@ -61,7 +69,7 @@ a1 = 0x61 ∷ 0x31 ∷ []
 loadedFrom : Verdict WorkedCard → Board
 loadedFrom judged =
     loaded freshBoard a1
-    (loadOrder a1 (recordOf theCard) judged (leb cardsMost (freeCard (freshBoard .cards))) (usedUp (freshBoard .next)))
+    (loadOrder a1 (recordOf theCard) judged (leb cardsMost (freeCard (cardsOf freshBoard))) (usedUp (freshBoard .next)))
     .board
 
 runFrom : Board → Board
@@ -73,7 +81,7 @@ unfolding theBoard runFrom loadedFrom loadedOf loadVerdict
 board-from = refl
 
 totals-from : take 4 (runFrom (loadedFrom (yes worked)) .totals) ≡ negsuc 2047 ∷ pos 1024 ∷ pos 1024 ∷ pos 0 ∷ []
-unfolding runFrom loadedFrom loadedOf placedOf movedOf freshBoard recordOf entryOf entries expOf rootFor rootOf rootBits readyOf outcomeOf asked padded placeVerdict moveVerdict overloads rowsGive flow sumOver anyOf first placeGives placeOverloads tabulate totalsOf
+unfolding runFrom loadedFrom loadedOf placedOf movedOf freshBoard recordOf entryOf entries expOf rootFor rootOf rootBits readyOf outcomeOf asked padded placeVerdict moveVerdict overAt overloads rowsGive flow sumBelow withMore listUp anyOf first stretch written readyAt cardsIn transistorsIn backFlow changeBy changes firstBelow cardsOf transistorsOf shifted
 totals-from = refl
 
 board-row : boardCase .worked ≡ boardCase .paper

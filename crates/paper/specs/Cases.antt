@@ -10,15 +10,15 @@ use Rattle.octave.specs.Table.{entryOf}
 use Rattle.float.specs.declared.Split.{Split}
 use Rattle.float.specs.Split.{keptPower}
 use Rattle.card.specs.declared.WorkedCard.{WorkedCard}
-use Rattle.card.specs.Limits.{width}
-use Rattle.card.specs.Clip.{clipOf, numbersOf, maskOf}
+use Rattle.clip.specs.Limits.{width}
+use Rattle.clip.specs.Clip.{clipOf, numbersOf, maskOf}
 use Rattle.card.specs.Judge.{judgeOf}
 use Rattle.branch.specs.declared.Over.{Over}
 use Rattle.branch.specs.declared.Over.the-variants.{Within, Ticks, Injection}
-use Rattle.branch.specs.Rows.{roles}
+use Rattle.terms.specs.Rows.{roles}
 use Rattle.branch.specs.Outcome.{outcomeOf}
-use Rattle.board.specs.declared.Board.{Board}
-use Rattle.board.specs.Model.{freshBoard, loadedOf, placedOf, movedOf}
+use Rattle.model.specs.Board.{Board}
+use Rattle.model.specs.Model.{freshBoard, loadedOf, placedOf, movedOf}
 use Rattle.paper.specs.Words.{one, two, four, minus-zero, two-to-minus-40, two-to-minus-38, wordsOf, recordOf}
 
 -- the paper's card

@@ -1,4 +1,2 @@
 pub mod Scans
-pub mod CallerNumbers
-pub mod Founds
 pub mod Ways

@@ -2,20 +2,24 @@
 -- any kind.
 use mathlib.Core.Path.{_≡_, refl, sym, ap, _∙_}
 use mathlib.Core.Bool.{Bool, true, false, cond, _||_}
-use mathlib.Core.List.{List, [], _∷_, map}
+use mathlib.Core.List.{List, [], _∷_}
 use Prim.Native.Nat.{ℕ, zero, suc, _+_, _-_, _≤_, _<_, zero-le}
 use native.Mathlib.Nat.{zero-add}
 use native.Mathlib.Numerals.{add-one}
 use native.Mathlib.Omega.{arith}
 use lib.Dec.{ltb}
 use lib.ListN.{length, getD, drop, drop-of-length-le}
-use lib.Seq.{drop-cons}
-use borrow.Author.Tests.{ltb-false}
-use Rattle.name.specs.Name.{same}
-use Rattle.branch.specs.laws.Filled.{Filled, filled-all, up-map}
-use Rattle.places.specs.declared.Card.{Card}
-use Rattle.places.specs.Arguments.{none, some}
-use Rattle.places.specs.Finding.{anyOf, larger, first, foundAt, highestAt, noCard}
+use lib.Seq.{drop-cons, ext-getD}
+use borrow.Author.Tests.{ltb-false, lt-ltb}
+use Rattle.refusal.specs.Clash.{clash}
+use Rattle.branch.specs.laws.Filled.{Filled}
+use Rattle.deck.specs.Stretch.{stretch}
+use Rattle.deck.specs.laws.Ups.{length-up, getD-up}
+use Rattle.deck.specs.laws.Stretches.{length-stretch, getD-stretch}
+use Rattle.given.specs.Lists.{anyOf, larger}
+use Rattle.given.specs.Arguments.{none, some}
+use Rattle.places.specs.Finding.{first, foundAt}
+use Rattle.places.specs.inner.Flat.{below, isAt, firstAt, largest}
 use Rattle.places.specs.inner.Parts.{placeOr}
 
 -- none of the first i passes the test, so that the first that does is looked for in the rest
@@ -76,13 +80,6 @@ module _ {A : Type 0} {p : A → Bool} {l : List A} where
       joined true y z = refl
       joined false y z = refl
 
-  pub among-quiet : {i : ℕ} {b : Bool} (d : A) → i < length l → p (getD l i d) ≡ false → AnyAmong p l i b →
-      AnyAmong p l (i + 1) b
-  unfolding anyOf
-  among-quiet {i} {b} d h e s =
-      let a : anyOf p (drop i l) ≡ anyOf p (drop (suc i) l) = rw (drop-cons l i d h, e) in
-      record { with-rest = rw add-one (s .with-rest ∙ ap (λ (x : Bool). b || x) a) }
-
   pub among-all : {i : ℕ} {b : Bool} → length l ≤ i → AnyAmong p l i b → b ≡ anyOf p l
   unfolding anyOf
   among-all {i} {b} h s =
@@ -93,7 +90,20 @@ module _ {A : Type 0} {p : A → Bool} {l : List A} where
       alone true = refl
       alone false = refl
 
-pub first-most : {A : Type 0} (p : A → Bool) (l : List A) → first p l ≤ length l
+pub none-of : {A : Type 0} (p : A → Bool) (l : List A) (d : A) → anyOf p l ≡ false → (i : ℕ) → i < length l →
+    p (getD l i d) ≡ false
+unfolding anyOf
+none-of p [] d e i h = absurd (omega arith)
+none-of p (a ∷ rest) d e i h = go (p a) refl e i h (λ k j q. none-of p rest d k j q)
+  where
+    go : (t : Bool) → p a ≡ t → t || anyOf p rest ≡ false → (i : ℕ) → i < suc (length rest) →
+        (anyOf p rest ≡ false → (j : ℕ) → j < length rest → p (getD rest j d) ≡ false) →
+        p (getD (a ∷ rest) i d) ≡ false
+    go true q e i h next = clash cc
+    go false q e zero h next = q
+    go false q e (suc i) h next = next e i (omega arith)
+
+first-most : {A : Type 0} (p : A → Bool) (l : List A) → first p l ≤ length l
 unfolding first
 first-most p [] = zero-le
 first-most p (a ∷ rest) = go (p a) (first-most p rest)
@@ -101,6 +111,11 @@ first-most p (a ∷ rest) = go (p a) (first-most p rest)
     go : (t : Bool) → first p rest ≤ length rest → cond t 0 (suc (first p rest)) ≤ suc (length rest)
     go true h = zero-le
     go false h = omega arith
+
+pub first-place : (most n : ℕ) (numbers : List ℕ) → firstAt most n numbers ≤ most
+first-place most n numbers =
+    let m = first-most (isAt n numbers) (below most) in
+    let l = length-up (λ (i : ℕ). i) most 0 in omega arith
 
 -- a place found among so many, as a number
 pub place-is : (most i : ℕ) → i ≤ most → i ≡ placeOr most (foundAt most i)
@@ -110,21 +125,28 @@ place-is most i h = go (ltb i most) refl
     go true e = refl
     go false e = let k = ltb-false i most e in omega arith
 
--- the highest issue of a name among the places from i - 1 on, by that among those from i on
-pub highest-more : (name : List ℕ) (l : List Card) (i : ℕ) → 0 < i → i ≤ length l →
-    highestAt name (drop (i - 1) l) ≡ larger
-    (cond (same (getD l (i - 1) noCard .name) name) (getD l (i - 1) noCard .issue) 0) (highestAt name (drop i l))
-unfolding highestAt
-highest-more name l zero z h = absurd (omega arith)
-highest-more name l (suc i) z h =
-    let e : suc i - 1 ≡ i = omega arith in rw (e, drop-cons l i noCard (omega arith))
+-- the numbers below n, each at its own place
+pub below-at : (n i : ℕ) → i < n → getD (below n) i 0 ≡ i
+below-at n i h = getD-up (λ (j : ℕ). j) n 0 i 0 h ∙ zero-add i
 
-pub highest-none : (name : List ℕ) (l : List Card) (i : ℕ) → length l ≤ i → 0 ≡ highestAt name (drop i l)
-unfolding highestAt
-highest-none name l i h = rw (drop-of-length-le l h)
+pub none-larger : (n : ℕ) → n ≡ larger 0 n
+none-larger zero = refl
+none-larger (suc n) = rw (lt-ltb 0 (suc n) (omega arith))
 
--- ---- a list filled from its start with what a function makes of another
+-- the largest from place i - 1 on, by that from i on
+pub largest-more : (l : List ℕ) (i : ℕ) → 0 < i → i ≤ length l →
+    largest (drop (i - 1) l) ≡ larger (getD l (i - 1) 0) (largest (drop i l))
+unfolding largest
+largest-more l zero z h = absurd (omega arith)
+largest-more l (suc i) z h = let e : suc i - 1 ≡ i = omega arith in rw (e, drop-cons l i 0 (omega arith))
 
-pub filled-map : {A B : Type 0} (g : A → B) (a : A) (l : List A) {d : B} {n k : ℕ} {r : List B} → length l ≡ n →
-    n ≤ k → Filled d n (λ (i : ℕ). g (getD l i a)) k r → r ≡ map g l
-filled-map g a l h m s = filled-all m s ∙ rw (← h) (up-map g a l l 0 (λ i. ap (λ (j : ℕ). getD l j a) (zero-add i)))
+pub largest-none : (l : List ℕ) (i : ℕ) → length l ≤ i → 0 ≡ largest (drop i l)
+unfolding largest
+largest-none l i h = rw (drop-of-length-le l h)
+
+-- a list filled from its start with a stretch of another
+pub filled-stretch : {A : Type 0} {d : A} (l : List A) (at : ℕ) {n k : ℕ} {r : List A} → n ≤ k →
+    Filled d n (λ (j : ℕ). getD l (at + j) d) k r → r ≡ stretch d l at n
+filled-stretch {d = d} l at {n = n} {r = r} h s =
+    ext-getD d r (stretch d l at n) (s .long ∙ sym (length-stretch d l at n))
+    (λ j q. let m = s .long in s .at j (omega arith) ∙ sym (getD-stretch d l at n j (omega arith)))

@@ -1,31 +1,13 @@
--- Cards and transistors in places: looking through them, and what stands at an empty one.
-use mathlib.Core.Bool.{Bool, false, cond, _||_}
+-- Cards and transistors in places: looking through them.
+use mathlib.Core.Bool.{Bool, false, cond}
 use mathlib.Core.List.{List, [], _∷_}
 use Prim.Native.Nat.{ℕ, suc}
 use lib.Dec.{eqb, ltb}
-use lib.ListN.{getD, replicate}
-use Rattle.name.specs.Name.{nameLength, same}
-use Rattle.card.specs.declared.WorkedCard.{WorkedCard}
-use Rattle.branch.specs.inner.Ready.{noReady}
-use Rattle.branch.specs.Rows.{roles}
-use Rattle.places.specs.declared.Card.{Card}
-use Rattle.places.specs.declared.Transistor.{Transistor}
-use Rattle.places.specs.Counts.{cardsMost, transistorsMost, issuesMost}
-use Rattle.places.specs.Arguments.{Found, none, some}
-
--- ---- looking through what is there
-
-unfoldable pub anyOf : {A : Type 0} → (A → Bool) → List A → Bool
-anyOf p [] = false
-anyOf p (a ∷ rest) = p a || anyOf p rest
-
-abbrev pub larger : ℕ → ℕ → ℕ
-larger m n = cond (ltb m n) n m
-
-abbrev pub usedUp : ℕ → Bool
-usedUp next = ltb issuesMost next
-
--- ---- places
+use Rattle.name.specs.Name.{same}
+use Rattle.given.specs.Lists.{anyOf, larger}
+use Rattle.given.specs.Arguments.{Found, none, some}
+use Rattle.places.specs.Counts.{cardsMost, transistorsMost}
+use Rattle.places.specs.Gathered.{Card, Transistor}
 
 -- the first place that passes the test; the number of places where none does
 unfoldable pub first : {A : Type 0} → (A → Bool) → List A → ℕ
@@ -50,34 +32,35 @@ cardPlace n cards = cond (eqb n 0) none (foundAt cardsMost (first (isCard n) car
 abbrev pub transistorPlace : ℕ → List Transistor → Found ℕ
 transistorPlace n ts = cond (eqb n 0) none (foundAt transistorsMost (first (isTransistor n) ts))
 
--- what a fresh board has at each place, and what is read past the last place
-abbrev pub emptyCard : Card
-emptyCard = record { issue = 0; name = replicate nameLength 0; ready = noReady }
-
-abbrev pub noCard : Card
-noCard = record { issue = 0; name = []; ready = noReady }
-
-abbrev pub emptyTransistor : Transistor
-emptyTransistor = record { issue = 0; card = 0; «card_place» = 0; nodes = replicate roles 0 }
-
-abbrev pub noTransistor : Transistor
-noTransistor = record { issue = 0; card = 0; «card_place» = 0; nodes = [] }
-
--- the worked card at a place
-abbrev pub workedAt : List Card → ℕ → WorkedCard
-workedAt cards i = getD cards i noCard .ready .card
-
 abbrev pub freeCard : List Card → ℕ
 freeCard cards = first (isCard 0) cards
 
 abbrev pub freeTransistor : List Transistor → ℕ
 freeTransistor ts = first (isTransistor 0) ts
 
--- a transistor stands on the card of this issue
+-- a transistor of this issue and this card's issue stands on the card n
+abbrev pub onCard : ℕ → ℕ → ℕ → Bool
+onCard n issue card = cond (eqb issue 0) false (eqb card n)
+
 abbrev pub standsOn : ℕ → Transistor → Bool
-standsOn n t = cond (eqb (t .issue) 0) false (eqb (t .card) n)
+standsOn n t = onCard n (t .issue) (t .card)
+
+-- an issue number where the name is the one asked for, else 0
+abbrev pub issueIf : List ℕ → ℕ → List ℕ → ℕ
+issueIf asked issue name = cond (same name asked) issue 0
 
 -- the highest issue among the places that hold a card of the name
 unfoldable pub highestAt : List ℕ → List Card → ℕ
-highestAt name [] = 0
-highestAt name (c ∷ cs) = larger (cond (same (c .name) name) (c .issue) 0) (highestAt name cs)
+highestAt asked [] = 0
+highestAt asked (c ∷ cs) = larger (issueIf asked (c .issue) (c .name)) (highestAt asked cs)
+
+-- one of the nodes is n
+abbrev pub names : ℕ → List ℕ → Bool
+names n nodes = anyOf (λ (m : ℕ). eqb m n) nodes
+
+-- a transistor of this issue, on these nodes, stands and names the node n
+abbrev pub onNode : ℕ → ℕ → List ℕ → Bool
+onNode n issue nodes = cond (eqb issue 0) false (names n nodes)
+
+abbrev pub standsAt : ℕ → Transistor → Bool
+standsAt n t = onNode n (t .issue) (t .nodes)

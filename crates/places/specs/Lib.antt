@@ -1,4 +1,6 @@
 pub mod Counts
-pub mod Arguments
+pub mod Gathered
 pub mod Finding
+pub mod Sets
 pub mod inner
+pub mod laws

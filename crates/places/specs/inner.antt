@@ -1,3 +1,4 @@
--- Words of inner contracts: what looking through the places and placing's tests give.
+-- Words of inner contracts: what looking through the flat arrays, sets of places and placing's tests give.
 pub mod Parts
+pub mod Flat
 pub mod Placing

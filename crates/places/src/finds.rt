@@ -1,34 +1,33 @@
 // Looking through the places of cards and transistors. A place whose issue is 0 is empty.
 ghost use mathlib.Core.Path.{_≡_};
-ghost use mathlib.Core.Bool.{cond};
-ghost use Rattle.name.specs.Name.{same};
+ghost use Prim.Native.Nat.{_*_, _<_};
+ghost use Rattle.name.specs.Name.{nameLength};
+ghost use Rattle.deck.specs.Stretch.{stretch};
+ghost use Rattle.given.specs.Lists.{larger};
 ghost use Rattle.places.specs.Counts.{cardsMost, transistorsMost};
-ghost use Rattle.places.specs.Finding.{anyOf, larger};
-ghost use Rattle.places.specs.Finding.{first, isCard, isTransistor, cardPlace, transistorPlace, standsOn, highestAt};
+ghost use Rattle.places.specs.Finding.{onCard, issueIf};
 ghost use Rattle.places.specs.inner.Parts.{placeOr};
+ghost use Rattle.places.specs.inner.Flat.{firstAt, numberPlace, anyOn, highestIn};
+use crate::ALL_NAMES;
 use crate::CARDS;
-use crate::Card;
 use crate::TRANSISTORS;
-use crate::Transistor;
 
-pub fn find_card(cards: [Card; CARDS], n: u32) -> usize
-    ensures { λ r. ⌜ r ≡ first (isCard n) cards ⌝ }
+pub fn find_card(held: &[u32; CARDS], n: u32) -> usize
+    ensures { λ r. ⌜ r ≡ firstAt cardsMost n (now (held .entry)) ⌝ }
 {
     for i in 0..CARDS {
-        let c = cards[i];
-        if c.issue == n {
+        if held[i] == n {
             return i;
         }
     }
     CARDS
 }
 
-pub(crate) fn find_transistor(ts: [Transistor; TRANSISTORS], n: u32) -> usize
-    ensures { λ r. ⌜ r ≡ first (isTransistor n) ts ⌝ }
+pub(crate) fn find_transistor(issues: &[u32; TRANSISTORS], n: u32) -> usize
+    ensures { λ r. ⌜ r ≡ firstAt transistorsMost n (now (issues .entry)) ⌝ }
 {
     for i in 0..TRANSISTORS {
-        let t = ts[i];
-        if t.issue == n {
+        if issues[i] == n {
             return i;
         }
     }
@@ -36,56 +35,55 @@ pub(crate) fn find_transistor(ts: [Transistor; TRANSISTORS], n: u32) -> usize
 }
 
 // The place of an issue number, or the number of places.
-pub fn card_at(cards: [Card; CARDS], n: u32) -> usize
-    ensures { λ r. ⌜ r ≡ placeOr cardsMost (cardPlace n cards) ⌝ }
+pub fn card_at(held: &[u32; CARDS], n: u32) -> usize
+    ensures { λ r. ⌜ r ≡ placeOr cardsMost (numberPlace cardsMost n (now (held .entry))) ⌝ }
 {
     if n == 0 {
         return CARDS;
     }
-    find_card(cards, n)
+    find_card(held, n)
 }
 
-pub fn transistor_at(ts: [Transistor; TRANSISTORS], n: u32) -> usize
-    ensures { λ r. ⌜ r ≡ placeOr transistorsMost (transistorPlace n ts) ⌝ }
+pub fn transistor_at(issues: &[u32; TRANSISTORS], n: u32) -> usize
+    ensures { λ r. ⌜ r ≡ placeOr transistorsMost (numberPlace transistorsMost n (now (issues .entry))) ⌝ }
 {
     if n == 0 {
         return TRANSISTORS;
     }
-    find_transistor(ts, n)
+    find_transistor(issues, n)
 }
 
 // Whether a transistor stands on the card.
-fn is_on(t: Transistor, n: u32) -> bool
-    ensures { λ r. ⌜ r ≡ standsOn n t ⌝ }
+fn is_on(issue: u32, card: u32, n: u32) -> bool
+    ensures { λ r. ⌜ r ≡ onCard n issue card ⌝ }
 {
-    if t.issue == 0 {
+    if issue == 0 {
         return false;
     }
-    t.card == n
+    card == n
 }
 
-pub fn any_on(ts: [Transistor; TRANSISTORS], n: u32) -> bool
-    ensures { λ r. ⌜ r ≡ anyOf (standsOn n) ts ⌝ }
+pub fn any_on(issues: &[u32; TRANSISTORS], cards: &[u32; TRANSISTORS], n: u32) -> bool
+    ensures { λ r. ⌜ r ≡ anyOn n (now (issues .entry)) (now (cards .entry)) ⌝ }
 {
     for i in 0..TRANSISTORS {
-        let t = ts[i];
-        if is_on(t, n) {
+        if is_on(issues[i], cards[i], n) {
             return true;
         }
     }
     false
 }
 
-// The card's issue where it has the name, else 0.
-fn issue_if(c: Card, name: &[u8; name::LENGTH]) -> u32
-    ensures { λ r. ⌜ r ≡ cond (same (c .name) (now (name .entry))) (c .issue) 0 ⌝ }
+fn name_at(names: &[u8; ALL_NAMES], i: usize) -> [u8; name::LENGTH]
+    requires { ⌜ i < cardsMost ⌝ }
+    ensures { λ r. ⌜ r ≡ stretch 0 (now (names .entry)) (nameLength * i) nameLength ⌝ }
 {
-    let own = c.name;
-    if name::is_same(&own, name) {
-        c.issue
-    } else {
-        0
+    let mut own = [0u8; name::LENGTH];
+    let at = name::LENGTH * i;
+    for k in 0..name::LENGTH {
+        own[k] = names[at + k];
     }
+    own
 }
 
 fn larger_of(a: u32, b: u32) -> u32
@@ -94,17 +92,26 @@ fn larger_of(a: u32, b: u32) -> u32
     if a < b { b } else { a }
 }
 
+// The best issue so far, or this one where it has the name and is higher.
+fn better_of(issue: u32, own: &[u8; name::LENGTH], asked: &[u8; name::LENGTH], best: u32) -> u32
+    ensures { λ r. ⌜ r ≡ larger (issueIf (now (asked .entry)) issue (now (own .entry))) best ⌝ }
+{
+    if name::is_same(own, asked) {
+        return larger_of(issue, best);
+    }
+    best
+}
+
 // The highest issue among the cards of a name.
-pub fn highest(cards: [Card; CARDS], name: &[u8; name::LENGTH]) -> u32
-    ensures { λ r. ⌜ r ≡ highestAt (now (name .entry)) cards ⌝ }
+pub fn highest(held: &[u32; CARDS], names: &[u8; ALL_NAMES], asked: &[u8; name::LENGTH]) -> u32
+    ensures { λ r. ⌜ r ≡ highestIn (now (asked .entry)) (now (held .entry)) (now (names .entry)) ⌝ }
 {
     let mut best: u32 = 0;
     let mut i = CARDS;
     while 0 < i {
         i -= 1;
-        let c = cards[i];
-        let n = issue_if(c, name);
-        let m = larger_of(n, best);
+        let own = name_at(names, i);
+        let m = better_of(held[i], &own, asked, best);
         best = m;
     }
     best

@@ -1,22 +1,25 @@
 // Placing's tests in their order, up to the last, which needs the currents.
 ghost use mathlib.Core.Path.{_≡_};
 ghost use mathlib.Core.Bool.{_&&_};
+ghost use Prim.Native.Nat.{_<_};
 ghost use lib.Dec.{leb};
 ghost use Rattle.totals.specs.Gives.{nodesMost};
-ghost use Rattle.places.specs.Counts.{transistorsMost};
-ghost use Rattle.places.specs.Finding.{anyOf, usedUp, cardPlace, workedAt, freeTransistor};
+ghost use Rattle.given.specs.Lists.{anyOf};
+ghost use Rattle.given.specs.Arguments.{usedUp};
+ghost use Rattle.places.specs.Counts.{cardsMost, transistorsMost};
+ghost use Rattle.places.specs.inner.Flat.{numberPlace, freePlace, joinedAt};
 ghost use Rattle.places.specs.inner.Placing.{apartOn, placing, wayOf};
 use crate::CARDS;
-use crate::Card;
-use crate::ISSUES;
 use crate::TRANSISTORS;
-use crate::Transistor;
 use crate::Way;
 use crate::finds;
-use branch::C1;
-use branch::C4;
 use branch::ROLES;
+use deck::ALL_SWITCHES;
+use deck::SWITCHES;
+use given::ISSUES;
 use refusal::Refusal;
+use terms::C1;
+use terms::C4;
 use totals::NODES;
 
 // Whether a node is none of the board's.
@@ -33,12 +36,11 @@ fn any_off(on: [u8; ROLES]) -> bool
 }
 
 // Whether C4 stands apart from C1 on a card that joins them.
-fn is_split(c: Card, on: [u8; ROLES]) -> bool
-    ensures { λ r. ⌜ r ≡ (c .ready .card .«rcbli_zero» && apartOn on) ⌝ }
+fn is_split(switches: &[bool; ALL_SWITCHES], i: usize, on: &[u8; ROLES]) -> bool
+    requires { ⌜ i < cardsMost ⌝ }
+    ensures { λ r. ⌜ r ≡ (joinedAt (now (switches .entry)) i && apartOn (now (on .entry))) ⌝ }
 {
-    let ready = c.ready;
-    let worked = ready.card;
-    if worked.rcbli_zero {
+    if switches[SWITCHES * i + 1] {
         on[C4] != on[C1]
     } else {
         false
@@ -46,26 +48,27 @@ fn is_split(c: Card, on: [u8; ROLES]) -> bool
 }
 
 pub fn may_place(
-    cards: [Card; CARDS],
-    ts: [Transistor; TRANSISTORS],
+    held: &[u32; CARDS],
+    switches: &[bool; ALL_SWITCHES],
+    issues: &[u32; TRANSISTORS],
     next: u32,
     n: u32,
-    on: [u8; ROLES],
+    on: &[u8; ROLES],
 ) -> Way
-    ensures { λ r. ⌜ r ≡ wayOf (freeTransistor ts) (placing (cardPlace n cards) (workedAt cards) on (leb transistorsMost (freeTransistor ts)) (usedUp next)) ⌝ }
+    ensures { λ r. ⌜ r ≡ wayOf (freePlace (now (issues .entry))) (placing (numberPlace cardsMost n (now (held .entry))) (joinedAt (now (switches .entry))) (now (on .entry)) (leb transistorsMost (freePlace (now (issues .entry)))) (usedUp next)) ⌝ }
 {
-    let i = finds::card_at(cards, n);
+    let i = finds::card_at(held, n);
     if CARDS <= i {
         return Way::Stop(Refusal::Unknown);
     }
-    if any_off(on) {
+    let own = *on;
+    if any_off(own) {
         return Way::Stop(Refusal::OutOfRange);
     }
-    let c = cards[i];
-    if is_split(c, on) {
+    if is_split(switches, i, on) {
         return Way::Stop(Refusal::SplitCollector);
     }
-    let free = finds::find_transistor(ts, 0);
+    let free = finds::find_transistor(issues, 0);
     if TRANSISTORS <= free {
         return Way::Stop(Refusal::NoRoom);
     }

@@ -3,9 +3,9 @@ use mathlib.Core.Path.{_≡_}
 use mathlib.Core.List.{List}
 use Prim.Native.Nat.{ℕ}
 use Rattle.refusal.specs.Order.{numberTold}
-use Rattle.card.specs.declared.Clipping.{Clipping}
-use Rattle.card.specs.Limits.{width}
-use Rattle.card.specs.Clip.{maskOf, Clips}
+use Rattle.clip.specs.declared.Clipping.{Clipping}
+use Rattle.clip.specs.Limits.{width}
+use Rattle.clip.specs.Clip.{maskOf, Clips}
 use Rattle.card.specs.Judge.{judgeOf}
 use Rattle.sheet.specs.declared.Text.{Text}
 use Rattle.sheet.specs.Text.{Adds}

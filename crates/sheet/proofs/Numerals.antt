@@ -1,26 +1,21 @@
 -- Digits added to a text, and signed numbers taken apart.
-use mathlib.Core.Path.{_≡_, refl, ap, subst, _∙_}
+use mathlib.Core.Path.{_≡_, ap, subst}
 use mathlib.Core.List.{List, [], _∷_, _++_}
-use mathlib.Core.Bool.{Bool, true, false, _&&_}
-use Prim.Native.Nat.{ℕ, zero, suc, _-_, _/_, _%_, _^_, _<_, _≤_, min}
-use native.Mathlib.Nat.{not-suc-le-zero, le-refl}
+use mathlib.Core.Bool.{Bool, _&&_}
+use Prim.Native.Nat.{ℕ, zero, suc, _-_, _/_, _%_, _^_, _<_, _≤_}
+use native.Mathlib.Nat.{not-suc-le-zero}
 use native.Mathlib.Omega.{arith}
-use borrow.Author.Tests.{lt-ltb, le-ltb, eq-eqb, ne-eqb}
+use borrow.Author.Tests.{lt-ltb, le-ltb}
 use Rattle.sheet.specs.declared.Text.{Text}
 use Rattle.sheet.specs.declared.digits.Opened.{Opened}
 use Rattle.sheet.specs.Text.{Adds}
-use lib.Dec.{ltb, eqb}
-use lib.ListN.{length, take, drop, getD, length-drop}
-use lib.Seq.{take-all}
+use lib.Dec.{ltb}
 use mir.Syntax.{w64}
 use mir.Val.{SFits, toZ, ofZ}
 use Rattle.whole.proofs.Halves.{back}
-use lib.IntN.{ℤ, pos, negsuc, negℤ, natAbs}
+use lib.IntN.{ℤ, natAbs}
 use Rattle.sheet.specs.Digits.{glyphOf, digitsOf, plainDigits, decimalOf, signOf, belowZero, openedOf, signedDigits, picoOf, ampereDigits, decimals}
 use Rattle.sheet.specs.Lines.{readingOf}
-use Rattle.sheet.specs.declared.Parsed.{Parsed}
-use Rattle.sheet.specs.declared.Parsed.the-variants.{Number, Nothing}
-use Rattle.sheet.specs.Number.{allDigits, decimalValue, nearest, parsedWith, parsedAfter, parsedOf, firstBeyond}
 use Rattle.sheet.proofs.Texts.{then}
 
 -- ---- a digit after those before it
@@ -57,30 +52,6 @@ pub plain-last : {t s : Text} {g : ℕ} (k x : ℕ) → 0 < k → x < 10 → g �
     → Adds t (plainDigits k x) s
 plain-last k x h l e q = rw (plain-one k x h l) (rw e at q)
 
--- ---- a number held among those of 64 bits
-
-pub near-below : (x : ℕ) → x ≤ firstBeyond → (x ≡ 0 → ⊥) → negsuc (x - 1) ≡ nearest true x
-near-below zero h n = absurd (n refl)
-near-below (suc x) h n = let e : min (suc x) firstBeyond ≡ suc x = omega arith in rw e (ap negsuc (omega arith))
-
-pub near-zero : (x : ℕ) → x ≡ 0 → pos 0 ≡ nearest true x
-near-zero x e = rw e
-
-pub near-inside : (x : ℕ) → x < firstBeyond → pos x ≡ nearest false x
-near-inside x h = let e : x ≡ min x (firstBeyond - 1) = omega arith in ap pos e
-
-pub near-end : (x : ℕ) → firstBeyond ≤ x → pos (firstBeyond - 1) ≡ nearest false x
-near-end x h = let e : firstBeyond - 1 ≡ min x (firstBeyond - 1) = omega arith in ap pos e
-
--- held at the first beyond them a number is as near to them as before
-pub held-near : (below : Bool) (n : ℕ) → nearest below (min n firstBeyond) ≡ nearest below n
-held-near false n =
-    let e : min (min n firstBeyond) (firstBeyond - 1) ≡ min n (firstBeyond - 1) = omega arith in
-    ap pos e
-held-near true n =
-    let e : min (min n firstBeyond) firstBeyond ≡ min n firstBeyond = omega arith in
-    ap (λ (m : ℕ). negℤ (pos m)) e
-
 -- ---- signed numbers in digits
 
 module _ {t r : Text} (v : ℤ) (h : SFits w64 v) where
@@ -103,40 +74,3 @@ module _ {t r s : Text} {o : Opened} (z : ℤ) (e : o ≡ openedOf z) where
       let size : o .size ≡ natAbs z = ap (λ (u : Opened). u .size) e in
       let below : o .below ≡ belowZero z = ap (λ (u : Opened). u .below) e in
       then (rw (g, f, size, below) at p) (rw (f, size) at q)
-
--- ---- a numeral read
-
-module _ (s : List ℕ) (below : Bool) where
-  pub empty-numeral : length s ≤ 0 → Nothing ≡ parsedWith below s
-  unfolding parsedWith
-  empty-numeral h = rw (le-ltb 0 (length s) h)
-
-  pub bad-numeral : false ≡ allDigits s → 0 < length s → Nothing ≡ parsedWith below s
-  unfolding parsedWith
-  bad-numeral e h = rw (lt-ltb 0 (length s) h, ← e)
-
-  pub good-numeral : true ≡ allDigits s → 0 < length s → {x : ℕ} → x ≡ min (decimalValue s) firstBeyond → {z : ℤ}
-      → z ≡ nearest below x → Number z ≡ parsedWith below s
-  unfolding parsedWith
-  good-numeral e h f g =
-      rw (lt-ltb 0 (length s) h, ← e) (ap Number (g ∙ ap (nearest below) f ∙ held-near below (decimalValue s)))
-
-module _ (w : List ℕ) where
-  pub no-numeral : length w ≡ 0 → Nothing ≡ parsedOf w
-  unfolding parsedOf parsedWith
-  no-numeral e = by w e
-    where
-      by : (w : List ℕ) → length w ≡ 0 → Nothing ≡ parsedAfter (eqb (getD w 0 0) 45) w
-      by [] e = refl
-      by (b ∷ w) e = absurd (omega arith)
-
-  pub with-minus : {r : Parsed} → getD w 0 0 ≡ 45 → r ≡ parsedWith true (take (length w - 1) (drop 1 w))
-      → r ≡ parsedOf w
-  unfolding parsedOf
-  with-minus z e =
-      rw (eq-eqb (getD w 0 0) 45 z)
-      (e ∙ ap (parsedWith true) (take-all (length w - 1) (drop 1 w) (rw length-drop (le-refl _))))
-
-  pub without-minus : {r : Parsed} → (getD w 0 0 ≡ 45 → ⊥) → r ≡ parsedWith false w → r ≡ parsedOf w
-  unfolding parsedOf
-  without-minus z e = rw (ne-eqb (getD w 0 0) 45 z) e

@@ -1,8 +1,6 @@
--- What is printed and parsed: texts, digits, lines, numbers, bytes in hex; `laws` has what follows.
+-- What is printed: texts, digits, lines; `laws` has what follows.
 pub mod Text
 pub mod Digits
 pub mod Lines
-pub mod Number
-pub mod Hex
 pub mod Unique
 pub mod laws

@@ -5,16 +5,11 @@ use Prim.Native.Nat.{ℕ}
 use lib.Dec.{eqb, leb}
 use lib.IntN.{ℤ}
 use Rattle.refusal.specs.Order.{numberTold}
-use Rattle.card.specs.Limits.{width}
-use Rattle.card.specs.Clip.{maskOf}
+use Rattle.clip.specs.Limits.{width}
+use Rattle.clip.specs.Clip.{maskOf}
 use Rattle.card.specs.Judge.{judgeOf}
+use Rattle.spelling.specs.Bytes.{space, newline}
 use Rattle.sheet.specs.Digits.{maskDigits, hexDigits, decimalOf, signedDigits, ampereDigits}
-
-abbrev pub space : ℕ
-space = 32
-
-abbrev pub newline : ℕ
-newline = 10
 
 -- a word and a number
 unfoldable pub labelLine : List ℕ → ℕ → List ℕ

@@ -102,10 +102,11 @@ pub(crate) fn signed(t: Text, v: i64) -> Text
     decimal(sign(t, s.below), s.size)
 }
 
-// t ticks in whole picoamperes: four decimals of an ampere at a time.
-fn picoamperes(t: u64) -> u64
-    ensures { λ r. ⌜ r ≡ picoOf t ⌝ }
+// Ticks in whole picoamperes, cut toward zero whatever the sign: four decimals of an ampere at a time.
+fn picoamperes(s: Opened) -> u64
+    ensures { λ r. ⌜ r ≡ picoOf (s .size) ⌝ }
 {
+    let t = s.size;
     let a = t % AMPERE_TICKS * FOUR;
     let b = a % AMPERE_TICKS * FOUR;
     let c = b % AMPERE_TICKS * FOUR;
@@ -125,7 +126,7 @@ pub(crate) fn amperes(t: Text, ticks: i64) -> Text
     ensures { λ r. ⌜ Adds t (ampereDigits ticks) r ⌝ }
 {
     let s = open(ticks);
-    let p = picoamperes(s.size);
+    let p = picoamperes(s);
     let signed = sign(t, shows_minus(s.below, p));
     let above = decimal(signed, p / AMPERE_PICOS);
     let point = gather::push(above, b'.');

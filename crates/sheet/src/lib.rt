@@ -1,16 +1,12 @@
-// What the desk's programs print and parse. A text that is printed comes back as bytes with their count; a word that is parsed is lent.
+// What the desk's programs print. A text comes back as bytes with their count.
 ghost use mathlib.Core.Path.{_≡_};
 ghost use Rattle.sheet.specs.Text.{textOf};
 ghost use Rattle.sheet.specs.Digits.{maskDigits, wordDigits, hexDigits};
 ghost use Rattle.sheet.specs.Lines.{labelLine, unpadded, listingLine, nodeLine, sheetLine};
-ghost use Rattle.sheet.specs.Number.{parsedOf};
-ghost use Rattle.sheet.specs.Hex.{ReadsHex};
 
 mod gather; // gather.rt: bytes gathered one after the other
 mod digits; // digits.rt: numbers in digits
 mod lines; // lines.rt: what a line is made of
-mod numeral; // numeral.rt: a decimal numeral read
-mod pairs; // pairs.rt: hex digits read in pairs
 
 // How many hexadecimal digits a clip mask has, and a word of 64 bits.
 const MASK_DIGITS: usize = 4;
@@ -24,18 +20,6 @@ pub const ROOM: usize = 104;
 pub struct Text {
     pub bytes: [u8; ROOM],
     pub len: usize,
-}
-
-// What a word is where a number is wanted.
-pub enum Parsed {
-    Number(i64),
-    Nothing,
-}
-
-// What a word is where bytes in hex digits are wanted: how many, or that it is none.
-pub enum Hex {
-    Bytes(usize),
-    Bad,
 }
 
 // A word and a number, as in `cards 3`.
@@ -107,35 +91,4 @@ pub fn sheet_line(node: u32, microvolts: i64, ticks: i64) -> Text
     let spaced = gather::push(read, b' ');
     let current = digits::amperes(spaced, ticks);
     gather::push(current, b'\n')
-}
-
-// The number that a word spells. One beyond 64 bits is answered by the nearest, which every call refuses too.
-pub fn number(word: &[u8]) -> Parsed
-    ensures { λ r. ⌜ r ≡ parsedOf (now (word .entry)) ⌝ }
-{
-    if word.len() == 0 {
-        return Parsed::Nothing;
-    }
-    if word[0] == b'-' {
-        numeral::read(&word[1..], true)
-    } else {
-        numeral::read(word, false)
-    }
-}
-
-// The bytes that a word's hex digits spell, put at the start of `out`. A word that spells none, or more than `out` holds, leaves it as it was.
-pub fn hex_bytes(word: &[u8], out: &mut [u8]) -> Hex
-    ensures { λ r. ⌜ ReadsHex (now (word .entry)) (now (out .entry)) r (now (out .exit)) ⌝ }
-{
-    if pairs::is_dash(word) {
-        return Hex::Bytes(0);
-    }
-    if out.len() < word.len() / 2 {
-        return Hex::Bad;
-    }
-    if pairs::are_pairs(word) {
-        pairs::fill(word, out);
-        return Hex::Bytes(word.len() / 2);
-    }
-    Hex::Bad
 }

@@ -5,7 +5,7 @@ use Prim.Native.Nat.{ℕ}
 use lib.Dec.{eqb}
 use lib.ListN.{getD}
 use lib.IntN.{ℤ, pos, _+ℤ_, _-ℤ_}
-use Rattle.branch.specs.Rows.{Row, roleIndex}
+use Rattle.terms.specs.Rows.{Row, roleIndex}
 
 -- how many nodes there are
 abbrev pub nodesMost : ℕ

@@ -2,14 +2,14 @@
 ghost use Prim.Native.Nat.{ℕ, _≤_, _<_};
 ghost use lib.ListN.{getD};
 ghost use lib.IntN.{natAbs, pos};
-ghost use Rattle.branch.specs.Rows.{roles, branches};
-ghost use Rattle.branch.specs.Outcome.{tickLimit};
-ghost use Rattle.branch.specs.Ends.{fromRoles, toRoles};
+ghost use Rattle.terms.specs.Rows.{roles, branches};
+ghost use Rattle.terms.specs.Values.{tickLimit};
+ghost use Rattle.terms.specs.Ends.{fromRoles, toRoles};
 ghost use Rattle.totals.specs.Gives.{nodesMost, atNode};
 ghost use Rattle.totals.specs.inner.Sizes.{flowMost, roomMost, handedMost};
 ghost use Rattle.totals.specs.inner.Sums.{More, Within, Room, Wired, Givable, ends, endsGive, spread, rolesGive};
-use branch::BRANCHES;
-use branch::ROLES;
+use terms::BRANCHES;
+use terms::ROLES;
 
 // The nodes.
 pub const NODES: usize = 32;
@@ -72,8 +72,8 @@ pub fn put(l: &mut [i64; NODES], nodes: &[u8; ROLES], ticks: &[i64; BRANCHES])
     requires { ⌜ Givable (now l) (now nodes) (now ticks) ⌝ }
     ensures { λ _. ⌜ More nodesMost (now (l .entry)) (now (l .exit)) (rolesGive (now (nodes .entry)) fromRoles toRoles (now (ticks .entry))) ⌝ }
 {
-    let from = branch::from_roles();
-    let to = branch::to_roles();
+    let from = terms::from_roles();
+    let to = terms::to_roles();
     let mut a = [0i64; ROLES];
     branches(&mut a, &from, &to, ticks);
     hand_out(l, nodes, &a);
@@ -84,8 +84,8 @@ pub fn take(l: &mut [i64; NODES], nodes: &[u8; ROLES], ticks: &[i64; BRANCHES])
     requires { ⌜ Givable (now l) (now nodes) (now ticks) ⌝ }
     ensures { λ _. ⌜ More nodesMost (now (l .entry)) (now (l .exit)) (rolesGive (now (nodes .entry)) toRoles fromRoles (now (ticks .entry))) ⌝ }
 {
-    let from = branch::from_roles();
-    let to = branch::to_roles();
+    let from = terms::from_roles();
+    let to = terms::to_roles();
     let mut a = [0i64; ROLES];
     branches(&mut a, &to, &from, ticks);
     hand_out(l, nodes, &a);

@@ -10,7 +10,7 @@ use Rattle.volts.specs.Volts.{keptAs, someOff}
 use Rattle.branch.specs.declared.Admission.the-variants.{Given, Refused}
 use Rattle.branch.specs.declared.Reply.{Reply}
 use Rattle.branch.specs.declared.answering.Keeping.{Keeping}
-use Rattle.branch.specs.Rows.{branches}
+use Rattle.terms.specs.Rows.{branches}
 
 abbrev pub refusedReply : Refusal → Reply
 refusedReply f = record { admission = Refused f; ticks = replicate branches (pos 0) }

@@ -8,7 +8,7 @@ use lib.Dec.{eqb}
 use lib.ListN.{length, getD, set, length-set}
 use lib.Seq.{getD-set-same, getD-set-other}
 use borrow.Author.Tests.{eqb-true, eqb-false}
-use Rattle.branch.specs.inner.Terms.{listUp}
+use Rattle.branch.specs.inner.FromTerms.{listUp}
 
 -- r has n places, the first k of which hold f 0, f 1, ..
 pub record Filled {A : Type 0} (d : A) (n : ℕ) (f : ℕ → A) (k : ℕ) (r : List A) : Type 0 where

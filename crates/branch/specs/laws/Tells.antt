@@ -10,9 +10,9 @@ use Rattle.refusal.specs.Order.{then-if}
 use Rattle.refusal.specs.Unique.{unique-by-equation}
 use Rattle.volts.specs.Volts.{someOff}
 use Rattle.card.specs.declared.WorkedCard.{WorkedCard}
-use Rattle.card.specs.Limits.{width}
-use Rattle.card.specs.Record.{hasWords, finiteUp}
-use Rattle.card.specs.Clip.{clippedUp}
+use Rattle.clip.specs.Limits.{width}
+use Rattle.clip.specs.Record.{hasWords, finiteUp}
+use Rattle.clip.specs.Clip.{clippedUp}
 use Rattle.card.specs.Octave.{octaveGood}
 use Rattle.card.specs.Judge.{level, level504, exsub, octave, isSwitch, withinReach, cardOf}
 use Rattle.card.specs.laws.Tells.{judge-order}

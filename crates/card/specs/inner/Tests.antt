@@ -4,8 +4,8 @@ use mathlib.Core.List.{List}
 use lib.Ieee.{Float, eq}
 use Rattle.refusal.specs.declared.Refusal.{Refusal}
 use Rattle.refusal.specs.declared.Refusal.the-variants.{WrongLevel, BadExsub, BadOctave}
-use Rattle.card.specs.declared.Answer.{Answer}
-use Rattle.card.specs.declared.Answer.the-variants as answer
+use Rattle.clip.specs.declared.Answer.{Answer}
+use Rattle.clip.specs.declared.Answer.the-variants as answer
 use Rattle.card.specs.Octave.{octaveGood}
 use Rattle.card.specs.Judge.{level, level504, exsub, isSwitch, octave}
 

@@ -7,7 +7,7 @@ use lib.Ieee.Scale.{finite}
 use Rattle.float.specs.declared.Split.{Split}
 use Rattle.float.specs.Split.{IsSplit}
 use Rattle.card.specs.declared.WorkedCard.{WorkedCard}
-use Rattle.card.specs.Limits.{tenth}
+use Rattle.clip.specs.Limits.{tenth}
 use Rattle.card.specs.Octave.{octaveLeast, octaveMost, secondMost}
 use Rattle.card.specs.Judge.{mlf}
 

@@ -1,4 +1,4 @@
--- The number told is that of the first test that fails, in the paper's order; 0 where the record is taken.
+-- The number that loading tells is that of the first test that fails, in the rules' order; 0 where the record is taken.
 use mathlib.Core.Path.{_≡_, ap, _∙_}
 use mathlib.Core.Bool.{not}
 use mathlib.Core.List.{List}
@@ -6,17 +6,13 @@ use Prim.Native.Nat.{ℕ}
 use lib.Ieee.{Float, eq}
 use Rattle.refusal.specs.declared.Refusal.the-variants.{Malformed, NotFinite}
 use Rattle.refusal.specs.Order.{refuseIf, numberTold, numberIf, number-first, then-if}
-use Rattle.card.specs.Limits.{width}
-use Rattle.card.specs.Record.{hasWords, finiteUp}
-use Rattle.card.specs.Clip.{clippedUp, clipOf}
+use Rattle.clip.specs.Limits.{width}
+use Rattle.clip.specs.Record.{hasWords, finiteUp}
+use Rattle.clip.specs.Clip.{clippedUp, clipOf}
 use Rattle.card.specs.Octave.{octaveGood}
 use Rattle.card.specs.Judge.{level, level504, exsub, octave, isSwitch, withinReach, judgeNumbers, judgeOf}
 
--- clipping alone
-abbrev pub clipNumber : ℕ → List ℕ → ℕ
-clipNumber n s = numberIf (not (hasWords n s)) 1 (numberIf (not (finiteUp s n)) 6 0)
-
--- loading, the name and the board apart: on clipped numbers, then from the bytes
+-- the name and the board apart: on clipped numbers, then from the bytes
 abbrev pub numbersNumber : List Float → ℕ
 numbersNumber x =
     numberIf (not (eq (level x) level504)) 7
@@ -26,10 +22,6 @@ numbersNumber x =
 abbrev pub judgeNumber : List ℕ → ℕ
 judgeNumber s =
     numberIf (not (hasWords width s)) 1 (numberIf (not (finiteUp s width)) 6 (numbersNumber (clippedUp s width)))
-
-pub clip-tells : (n : ℕ) (s : List ℕ) → numberTold (clipOf n s) ≡ clipNumber n s
-unfolding clipOf
-clip-tells n s = simp number-first
 
 -- loading's order whole: clipping's tests, and then those of the clipped numbers
 pub judge-order : (s : List ℕ)

@@ -1,30 +1,16 @@
--- What an answer's telling leaves open: nothing. One record has one clipping, and one answer to loading.
-use mathlib.Core.Path.{_≡_, sym, ap, ap₂, _∙_}
+-- What an answer's telling leaves open: nothing. One record has one answer to loading.
+use mathlib.Core.Path.{_≡_, sym, ap, _∙_}
 use mathlib.Core.List.{List}
 use Prim.Native.Nat.{ℕ}
-use lib.Ieee.{Float}
 use Rattle.refusal.specs.declared.Refusal.{Refusal}
 use Rattle.refusal.specs.Order.{Verdict, no, yes, tells, tells-one}
 use Rattle.refusal.specs.Unique.{unique-by-equation}
-use Rattle.card.specs.declared.Answer.{Answer}
-use Rattle.card.specs.declared.Answer.the-variants as answer
-use Rattle.card.specs.declared.Clipping.{Clipping}
 use Rattle.card.specs.declared.WorkedCard.{WorkedCard}
 use Rattle.card.specs.declared.Judged.{Judged}
 use Rattle.card.specs.declared.Judged.the-variants.{Card, Refused}
-use Rattle.card.specs.Clip.{clipOf, Clips, toldAnswer}
 use Rattle.card.specs.Judge.{judgeOf, toldJudged}
 
 -- ---- an answer from its verdict
-answerFrom : Verdict (Unit {0}) → Answer
-answerFrom (no f) = answer.Refused f
-answerFrom (yes t) = answer.Taken
-
-answer-from : (a : Answer) (v : Verdict (Unit {0})) → toldAnswer a ≡ tells v → a ≡ answerFrom v
-unfolding answerFrom
-answer-from answer.Taken v e = ap answerFrom (tells-one (yes tt) v e)
-answer-from (answer.Refused f) v e = ap answerFrom (tells-one (no f) v e)
-
 judgedFrom : Verdict WorkedCard → Judged
 judgedFrom (no f) = Refused f
 judgedFrom (yes c) = Card c
@@ -35,13 +21,6 @@ judged-from (Card c) v e = ap judgedFrom (tells-one (yes c) v e)
 judged-from (Refused f) v e = ap judgedFrom (tells-one (no f) v e)
 
 -- ---- a verdict from its answer
-pub clip-taken : {a : Answer} (v : Verdict (Unit {0})) → toldAnswer a ≡ tells v → a ≡ answer.Taken → v ≡ yes tt
-clip-taken v e k = sym (tells-one (yes tt) v (ap toldAnswer (sym k) ∙ e))
-
-pub clip-refused : {a : Answer} (v : Verdict (Unit {0})) {f : Refusal} → toldAnswer a ≡ tells v → a ≡ answer.Refused f
-    → v ≡ no f
-clip-refused v {f} e k = sym (tells-one (no f) v (ap toldAnswer (sym k) ∙ e))
-
 pub judged-card : {r : Judged} (v : Verdict WorkedCard) {c : WorkedCard} → toldJudged r ≡ tells v → r ≡ Card c
     → v ≡ yes c
 judged-card v {c} e k = sym (tells-one (yes c) v (ap toldJudged (sym k) ∙ e))
@@ -51,19 +30,6 @@ pub judged-refused : {r : Judged} (v : Verdict WorkedCard) {f : Refusal} → tol
 judged-refused v {f} e k = sym (tells-one (no f) v (ap toldJudged (sym k) ∙ e))
 
 -- ---- one result
-clipping-same : (r r′ : Clipping) → r .answer ≡ r′ .answer → r .numbers ≡ r′ .numbers → r .mask ≡ r′ .mask → r ≡ r′
-clipping-same r r′ a n m =
-    ap (λ (x : Answer). record { answer = x; numbers = r .numbers; mask = r .mask }) a
-    ∙ ap₂ (λ (l : List Float) (k : ℕ). record { answer = r′ .answer; numbers = l; mask = k }) n m
-
-pub unique-clip : (n : ℕ) (s : List ℕ) (r r′ : Clipping) → Clips n s r → Clips n s r′ → r ≡ r′
-unique-clip n s r r′ p q =
-    clipping-same r r′
-    (unique-by-equation (answer-from (r .answer) (clipOf n s) (p .answer))
-    (answer-from (r′ .answer) (clipOf n s) (q .answer)))
-    (unique-by-equation (p .numbers) (q .numbers))
-    (unique-by-equation (p .mask) (q .mask))
-
 pub unique-judge : (s : List ℕ) (r r′ : Judged) → toldJudged r ≡ tells (judgeOf s) → toldJudged r′ ≡ tells (judgeOf s)
     → r ≡ r′
 unique-judge s r r′ e e′ = unique-by-equation (judged-from r (judgeOf s) e) (judged-from r′ (judgeOf s) e′)

@@ -1,13 +1,13 @@
 -- `library::header` meets its contract: five numbers, one after the other.
 use Prim.Native.Nat.{_≤_, _*_}
 use native.Mathlib.Omega.{arith}
-use Rattle.library.proofs.Headers.{few}
+use Rattle.directory.proofs.Headers.{few}
 use Rattle.library.proofs.BytesWritten.{header-put}
 use borrow.Author.Needs.{needs}
 use Rattle.library.proofs.header.Statement.{statement}
 use Rattle.library.proofs.header.Tie as tie
-use Rattle.library.specs.Format.{mostCards}
-use Rattle.library.specs.inner.Inspecting.{mostWords}
+use Rattle.directory.specs.Format.{mostCards}
+use Rattle.directory.specs.Format.{mostWords}
 
 fits : (c : tie.After-width) → c .width .result * c .before .args .count ≤ mostWords * mostCards
 fits c = few (c .width .ensures .1) (c .before .pre)

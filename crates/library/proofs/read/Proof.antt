@@ -1,32 +1,17 @@
 -- `library::read` meets its contract: 1, 2, 3 as judged, then 5, and else both buffers filled.
 use mathlib.Core.Path.{sym, ap, _∙_}
 use native.Mathlib.Omega.{arith}
-use borrow.Author.Tests.{lt-ltb, le-ltb}
-use Rattle.library.proofs.Outcomes.{records-words, read-short, Inspected, inspected, read-cards, read-refused}
+use borrow.Author.Tests.{lt-ltb}
+use Rattle.library.proofs.Outcomes.{words-room, read-short, read-cards, read-none, read-refused}
+use Rattle.directory.proofs.Inspections.{Inspected, inspected}
 use borrow.Author.Needs.{needs}
 use Rattle.library.proofs.read.Statement.{statement}
 use Rattle.library.proofs.read.Tie as tie
-use Rattle.library.proofs.Names.{or-false, or-true}
-use Rattle.library.specs.inner.Inspecting.{found}
+use Rattle.directory.proofs.Names.{or-true}
+use Rattle.directory.specs.Judged.{found}
 
 abbrev start-before-cards : tie.After-cards → tie.Start
 start-before-cards c = c .before .before .before .before .before .before
-
-abbrev else2-before-load-arg2 : tie.After-load-arg2 → tie.Else2
-else2-before-load-arg2 c = c .before .before .before .before .before .before .before
-
-abbrev copy-before-slice-known4 : tie.After-slice-known4 → tie.After-copy
-copy-before-slice-known4 c = c .before .before .before .before .before .before .before
-
-abbrev cards-before-slice-known3 : tie.After-slice-known3 → tie.After-cards
-cards-before-slice-known3 c = c .before .before .before .before .before .before .before .before
-
-abbrev else1-before-slice-known4 : tie.After-slice-known4 → tie.Else1
-else1-before-slice-known4 c = c .before .before .before .before .before .before .before .before .before .before .before
-
-abbrev cards-before-slice-known4 : tie.After-slice-known4 → tie.After-cards
-cards-before-slice-known4 c =
-    c .before .before .before .before .before .before .before .before .before .before .before .before .before
 
 -- in this arm the library is sound
 seen : (c : tie.After-cards)
@@ -39,39 +24,54 @@ mul-a c = omega (arith, seen (c .before))
 returns : tie.Need-returns
 returns c = read-short _ _ _ (seen (c .before .before)) (or-true (lt-ltb _ _ (c .if1 .taken)) _)
 
-mul-if2 : tie.Need-mul-if2
-mul-if2 c = omega (arith, seen (c .before .before))
-
-returns-2 : tie.Need-returns-2
-returns-2 c =
-    read-short _ _ _ (seen (c .before .before .before))
-    (or-false (le-ltb _ _ (c .before .if1 .left)) ∙ lt-ltb _ _ (c .if2 .taken))
-
 cast-n : tie.Need-cast-n
-cast-n c = omega (arith, seen (c .before .before .before))
+cast-n c = omega (arith, seen (c .before .before))
 
-part-copy-end : tie.Need-part-copy-end
-part-copy-end c = omega (arith, seen (c .before .before .before))
+mul-room : tie.Need-mul-room
+mul-room c = omega (arith, seen (c .before .before))
 
-sub-load : tie.Need-sub-load
-sub-load c = omega (arith, seen (cards-before-slice-known3 c))
+part-where-room-end : tie.Need-part-where-room-end
+part-where-room-end c = omega (arith, seen (c .before .before))
 
-part-load-start : tie.Need-part-load-start
-part-load-start c = omega (arith, seen (cards-before-slice-known3 c))
+abbrev cards-before-slice-known3 : tie.After-slice-known3 → tie.After-cards
+cards-before-slice-known3 c = c .before .before .before .before .before .before .before .before
+
+sub-where-room-2 : tie.Need-sub-where-room-2
+sub-where-room-2 c = omega (arith, seen (cards-before-slice-known3 c))
+
+part-where-room-start-2 : tie.Need-part-where-room-start-2
+part-where-room-start-2 c = omega (arith, seen (cards-before-slice-known3 c))
 
 load-requires : tie.Need-load-requires
 load-requires c κs =
-    omega
-    (arith, records-words (seen (cards-before-slice-known3 (c .before .before))), (else2-before-load-arg2 c) .if2 .left)
+    words-room (seen (cards-before-slice-known3 (c .before .before .before))) _ (c .before .where-room2 .ensures .0)
+
+abbrev load-before : tie.After-slice-known4 → tie.After-load
+load-before c = c .before .before
+
+abbrev copy-before : tie.After-slice-known4 → tie.After-copy
+copy-before c = (load-before c) .before .before .before .before .before .before
+
+-- the way out of a reading that has room for the names
+abbrev else1-before : tie.After-slice-known4 → tie.Else1
+else1-before c = (copy-before c) .before .before .before .before
+
+returns-2 : tie.Need-returns-2
+returns-2 c =
+    let d = c .before in
+    read-cards _ _ _ (seen ((else1-before d) .before .before)) ((else1-before d) .if1 .left)
+    ((copy-before d) .before .before .where-room .ensures .0) ((load-before d) .before .before .where-room2 .ensures .0)
+    ((copy-before d) .copy .ensures) ((load-before d) .load .ensures) (c .if2 .taken)
 
 returns-3 : tie.Need-returns-3
 returns-3 c = read-refused _ _ _ (sym (c .before .before .before .inspect .ensures) ∙ ap found (c .before .f .given .1))
 
 returns-4 : tie.Need-returns-4
 returns-4 c =
-    read-cards _ _ _ (seen (cards-before-slice-known4 c)) ((else1-before-slice-known4 c) .if1 .left)
-    ((else2-before-load-arg2 (c .before .before .before)) .if2 .left) ((copy-before-slice-known4 c) .copy .ensures)
-    (c .before .before .load .ensures)
+    let d = c .before in
+    read-none _ _ _ (seen ((else1-before d) .before .before)) ((else1-before d) .if1 .left)
+    ((copy-before d) .before .before .where-room .ensures .0) ((load-before d) .before .before .where-room2 .ensures .0)
+    ((copy-before d) .copy .ensures) ((load-before d) .load .ensures) (c .if2 .left)
 
 pub read-spec : {M : Type 1} → statement M
 read-spec =
@@ -82,18 +82,22 @@ read-spec =
     (λ c. search needs)
     mul-a
     returns
-    mul-if2
-    returns-2
     (λ c. search needs)
     cast-n
+    mul-room
     (λ c. search needs)
     (λ c. search needs)
-    part-copy-end
+    part-where-room-end
     (λ c κs. search needs)
-    sub-load
-    part-load-start
+    (λ c κs. search needs)
+    sub-where-room-2
+    part-where-room-start-2
     (λ c. search needs)
+    (λ c κs. search needs)
     load-requires
+    (λ c. search needs)
+    (λ c. search needs)
+    returns-2
     returns-3
     (λ c. search needs)
     (λ c. search needs)

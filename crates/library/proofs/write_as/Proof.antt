@@ -5,11 +5,12 @@ use Prim.Native.Nat.{ℕ}
 use native.Mathlib.Omega.{arith}
 use lib.ListN.{length-drop}
 use Rattle.bytes_le.proofs.Laws.{rest}
-use Rattle.library.proofs.Offers.{Offered, offers, write-short, write-bytes, write-refused}
+use Rattle.directory.proofs.Offers.{Offered, offers}
+use Rattle.library.proofs.Writings.{write-short, write-bytes, write-refused}
 use borrow.Author.Needs.{needs}
 use Rattle.library.proofs.write_as.Statement.{statement}
 use Rattle.library.proofs.write_as.Tie as tie
-use Rattle.library.specs.inner.Inspecting.{found}
+use Rattle.directory.specs.Judged.{found}
 use Rattle.bytes_le.specs.Buffer.{over}
 
 abbrev start-before-cards : tie.After-cards → tie.Start

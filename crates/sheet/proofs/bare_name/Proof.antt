@@ -8,7 +8,7 @@ use Rattle.name.specs.Name.{padded}
 use Rattle.sheet.proofs.ByteLoops.{Bare, bare-on, bare-stop, bare-end}
 use Rattle.sheet.proofs.bare_name.Tie as tie
 use Rattle.sheet.proofs.bare_name.Statement.{statement}
-use Rattle.sheet.proofs.Ranges.{within}
+use Rattle.spelling.proofs.Ranges.{within}
 
 abbrev Inv-loop : tie.InvT-loop
 Inv-loop padded i₀ i = Bare padded i

@@ -9,7 +9,7 @@ use borrow.Author.Tests.{lt-ltb, le-leb, ltb-true}
 use lib.Arith.{lt-one}
 use lib.Dec.{ltb, lit<}
 use Rattle.sheet.specs.Digits.{glyphOf, plainDigits, decimalOf, mostDigits}
-use Rattle.sheet.specs.Number.{digitOf, decimalFrom, decimalValue}
+use Rattle.spelling.specs.Number.{digitOf, decimalFrom, decimalValue}
 
 value-two : (x : ℕ) (a b : List ℕ) → decimalFrom x (a ++ b) ≡ decimalFrom (decimalFrom x a) b
 unfolding decimalFrom

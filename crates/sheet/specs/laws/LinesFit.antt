@@ -10,12 +10,13 @@ use lib.ListN.{length, take, replicate, length-append}
 use lib.Seq.{take-all, take-append-seam}
 use Rattle.refusal.specs.Order.{numberTold}
 use Rattle.name.specs.Name.{nameLength}
-use Rattle.card.specs.Limits.{width}
-use Rattle.card.specs.Clip.{maskOf}
+use Rattle.clip.specs.Limits.{width}
+use Rattle.clip.specs.Clip.{maskOf}
 use Rattle.card.specs.Judge.{judgeOf}
+use Rattle.spelling.specs.Bytes.{newline}
 use Rattle.sheet.specs.Text.{room, textOf, shown}
 use Rattle.sheet.specs.Digits.{glyphOf, digitsOf, hexDigits, plainDigits, signOf, belowZero, picoOf, ampereDigits, decimals, maskDigits, mostDigits, wordDigits}
-use Rattle.sheet.specs.Lines.{newline, labelLine, listedMask, listingLine, readingOf, nodeLine, sheetLine}
+use Rattle.sheet.specs.Lines.{labelLine, listedMask, listingLine, readingOf, nodeLine, sheetLine}
 
 pub text-whole : (l : List ℕ) → length l ≤ room → shown (textOf l) ≡ l
 unfolding textOf

@@ -5,7 +5,7 @@ use native.Mathlib.Omega.{arith}
 use lib.ListN.{getD}
 use lib.IntN.{pos}
 use borrow.Author.Needs.{needs}
-use Rattle.branch.specs.Rows.{roles, branches}
+use Rattle.terms.specs.Rows.{roles, branches}
 use Rattle.totals.specs.inner.Sums.{More, endsGive}
 use Rattle.totals.proofs.Integers.{held, held-is}
 use Rattle.totals.proofs.Amounts.{ends-none, ends-more, fair-next}

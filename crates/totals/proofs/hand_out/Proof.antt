@@ -5,7 +5,7 @@ use native.Mathlib.Omega.{arith}
 use lib.ListN.{getD}
 use lib.IntN.{pos}
 use borrow.Author.Needs.{needs}
-use Rattle.branch.specs.Rows.{roles}
+use Rattle.terms.specs.Rows.{roles}
 use Rattle.totals.specs.Gives.{nodesMost}
 use Rattle.totals.specs.inner.Sums.{More, spread}
 use Rattle.totals.proofs.Integers.{held, held-is}

@@ -2,8 +2,8 @@
 -- what they have.
 use Prim.Native.Nat.{ℕ, suc, _+_, _*_, _-_}
 use Rattle.whole.specs.Signed.{signedSpan}
-use Rattle.branch.specs.Outcome.{tickLimit}
-use Rattle.branch.specs.Rows.{roles, branches}
+use Rattle.terms.specs.Values.{tickLimit}
+use Rattle.terms.specs.Rows.{roles, branches}
 
 -- what a transistor gives to a node, or has at a role: a branch counts once there
 abbrev pub flowMost : ℕ

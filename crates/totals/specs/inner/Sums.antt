@@ -6,8 +6,8 @@ use Prim.Native.Nat.{ℕ, zero, suc, _≤_, _<_}
 use lib.ListN.{getD, length}
 use lib.Seq.{ext-getD}
 use lib.IntN.{ℤ, pos, natAbs, _+ℤ_, _-ℤ_}
-use Rattle.branch.specs.Outcome.{tickLimit}
-use Rattle.branch.specs.Rows.{roles, branches}
+use Rattle.terms.specs.Values.{tickLimit}
+use Rattle.terms.specs.Rows.{roles, branches}
 use Rattle.totals.specs.Gives.{nodesMost, atNode}
 use Rattle.totals.specs.inner.Sizes.{roomMost}
 

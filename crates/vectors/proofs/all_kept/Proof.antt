@@ -5,7 +5,7 @@ use lib.Dec.{lit≤}
 use borrow.Author.Needs.{needs}
 use Rattle.volts.specs.Volts.{AllNear}
 use Rattle.volts.specs.laws.Keeping.{near-replicate, near-set}
-use Rattle.branch.specs.Rows.{roles}
+use Rattle.terms.specs.Rows.{roles}
 use Rattle.vectors.proofs.all_kept.Statement.{statement}
 use Rattle.vectors.proofs.all_kept.Tie as tie
 

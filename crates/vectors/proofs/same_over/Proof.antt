@@ -1,7 +1,7 @@
 -- `same_over` asks `work_out` for a card made ready at the kept voltages of its roles.
 use mathlib.Core.Path.{sym, subst}
-use Rattle.branch.specs.inner.Ready.{IsReady}
-use Rattle.branch.proofs.Laws.{ready-made}
+use Rattle.terms.specs.inner.Ready.{IsReady}
+use Rattle.terms.proofs.Laws.{ready-made}
 use borrow.Author.Needs.{needs}
 use Rattle.vectors.proofs.same_over.Statement.{statement}
 use Rattle.vectors.proofs.same_over.Tie as tie

@@ -1,7 +1,7 @@
 -- `same_ticks` ends: each turn passes one branch.
 use Prim.Native.Nat.{_≤_, _-_}
 use borrow.Author.Needs.{needs}
-use Rattle.branch.specs.Rows.{branches}
+use Rattle.terms.specs.Rows.{branches}
 use Rattle.vectors.proofs.same_ticks.Statement.{statement}
 use Rattle.vectors.proofs.same_ticks.Tie as tie
 

@@ -1,13 +1,14 @@
 -- `read_node` shows a node of the board, and turns any other away.
-use mathlib.Core.Path.{_≡_, ap, subst, _∙_}
+use mathlib.Core.Path.{refl, _≡_, ap, subst, _∙_}
 use Prim.Native.Nat.{ℕ, _≤_}
 use borrow.Author.Needs.{needs}
 use mir.Syntax.{w64}
 use mir.ValLaws.{toZ-ofZ}
-use Rattle.board.specs.Counts.{nodesMost}
-use Rattle.places.specs.inner.Parts.{nodeOf}
+use Rattle.model.specs.Counts.{nodesMost}
+use Rattle.given.specs.inner.Nodes.{nodeOf}
+use Rattle.board.specs.Promise.{modelOf}
 use Rattle.board.proofs.Reaches.{after-node}
-use Rattle.board.proofs.Answers.{show-off, shows-it}
+use Rattle.model.proofs.Answers.{show-off, shows-it}
 use Rattle.board.proofs.Board.read_node.Statement.{statement}
 use Rattle.board.proofs.Board.read_node.Tie as tie
 
@@ -22,14 +23,14 @@ returns : tie.Need-returns
 returns c =
     let s = c .before .before .before in
     after-node (s .pre) (s .args .node)
-    (c .refused .ensures
-    ∙ show-off (s .args .self) (s .args .node)
+    (c .refused .ensures) (show-off (modelOf (s .args .self)) (s .args .node)
     (subst (λ (k : ℕ). nodesMost ≤ k) (number (c .before .before)) (c .before .if1 .taken)))
 
 returns-2 : tie.Need-returns-2
 returns-2 c =
     after-node (else1 c .before .before .pre) (else1 c .before .before .args .node)
-    (shows-it (else1 c .before .before .args .self) (else1 c .before .before .args .node) _ _ _
+    refl
+    (shows-it (modelOf (else1 c .before .before .args .self)) (else1 c .before .before .args .node) _ _ _
     (number (else1 c .before)) (else1 c .if1 .left)
     (toZ-ofZ w64 (c .give-back .result) (search needs) ∙ c .give-back .ensures) (search needs))
 

@@ -5,10 +5,10 @@ use mathlib.Core.List.{map}
 use borrow.Author.Needs.{needs}
 use Rattle.volts.specs.Volts.{givenBack}
 use Rattle.card.specs.declared.WorkedCard.{WorkedCard}
-use Rattle.branch.specs.declared.Ready.{Ready}
+use Rattle.terms.specs.declared.Ready.{Ready}
 use Rattle.branch.specs.Outcome.{isOver, outcomeOf}
-use Rattle.branch.specs.inner.Ready.{IsReady}
-use Rattle.branch.proofs.Laws.{ready-card, ready-made}
+use Rattle.terms.specs.inner.Ready.{IsReady}
+use Rattle.terms.proofs.Laws.{ready-card, ready-made}
 use Rattle.branch.proofs.Replying.{reply-given, reply-over}
 use Rattle.branch.proofs.answering.answer.Statement.{statement}
 use Rattle.branch.proofs.answering.answer.Tie as tie

@@ -8,7 +8,7 @@ use mir.ValLaws.{toZ-ofZ}
 use borrow.Author.Needs.{needs}
 use Rattle.volts.specs.Volts.{keeping}
 use Rattle.volts.specs.laws.Keeping.{kept-is, outside-is}
-use Rattle.branch.specs.Rows.{roles}
+use Rattle.terms.specs.Rows.{roles}
 use Rattle.branch.proofs.Kept.{KeptUp, kept-none, kept-more, keeps-all, keeps-none}
 use Rattle.branch.proofs.answering.keep_all.Statement.{statement}
 use Rattle.branch.proofs.answering.keep_all.Tie as tie

@@ -2,7 +2,7 @@
 use Prim.Native.Nat.{_≤_, _-_}
 use native.Mathlib.Omega.{arith}
 use lib.ListN.{getD}
-use Rattle.branch.specs.Rows.{branches}
+use Rattle.terms.specs.Rows.{branches}
 use Rattle.branch.proofs.Tests.{none-above, first-above, second-above}
 use Rattle.branch.proofs.Loops.{Looked, looked-none, over-ticks, over-injection, looked-more, looked-all}
 use borrow.Author.Needs.{needs}

@@ -1,7 +1,7 @@
 -- `rows::largest_ratio` has looked at the first k rows.
 use Prim.Native.Nat.{_≤_, _-_}
 use native.Mathlib.Omega.{arith}
-use Rattle.branch.specs.Rows.{branches}
+use Rattle.terms.specs.Rows.{branches}
 use Rattle.branch.proofs.Loops.{MostTo, most-none, most-more, most-all}
 use borrow.Author.Needs.{needs}
 use Rattle.branch.proofs.rows.largest_ratio.Statement.{statement}

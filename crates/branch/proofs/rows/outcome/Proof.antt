@@ -1,8 +1,8 @@
 -- `rows::outcome` meets its contract: ticks where no row overloads, else the first that does.
 use mathlib.Core.Path.{_≡_, sym, _∙_}
 use Rattle.branch.specs.declared.Over.the-variants.{Within}
-use Rattle.branch.specs.Rows.{branches}
-use Rattle.branch.specs.inner.Terms.{overUp}
+use Rattle.terms.specs.Rows.{branches}
+use Rattle.branch.specs.inner.FromTerms.{overUp}
 use Rattle.branch.proofs.RowLaws.{fine}
 use Rattle.branch.proofs.Loops.{outcome-within, outcome-ticks, outcome-injection}
 use borrow.Author.Needs.{needs}

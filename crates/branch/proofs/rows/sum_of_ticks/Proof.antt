@@ -1,7 +1,7 @@
 -- `rows::sum_of_ticks` has added up the first k rows.
 use Prim.Native.Nat.{_≤_, _-_}
 use native.Mathlib.Omega.{arith}
-use Rattle.branch.specs.Rows.{branches}
+use Rattle.terms.specs.Rows.{branches}
 use Rattle.branch.proofs.Loops.{SumTo, sum-none, sum-more, sum-all}
 use borrow.Author.Needs.{needs}
 use Rattle.branch.proofs.rows.sum_of_ticks.Statement.{statement}

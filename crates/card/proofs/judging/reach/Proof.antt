@@ -4,7 +4,7 @@ use mathlib.Core.List.{List}
 use lib.Ieee.{Float}
 use borrow.Author.Needs.{needs}
 use Rattle.card.specs.declared.octaves.Octave.the-variants.{Nanovolts}
-use Rattle.card.specs.Work.{workedOf, allFinite}
+use Rattle.working.specs.Work.{workedOf, allFinite}
 use Rattle.card.specs.Judge.{product, parametersOf}
 use Rattle.card.specs.inner.Octaves.{secondOf}
 use Rattle.card.proofs.Chain.{product-above, mlf-positive, second-out, not-all, taken}
@@ -21,13 +21,13 @@ module _ (c : tie.After-second) where
 
 module _ (c : tie.After-all-finite) where
   abbrev known : tie.After-second
-  known = c .before .before .before .before .before
+  known = c .before .before .before .before
 
-  is-worked : c .before .before .work .result ≡ workedOf (parametersOf (numbers known))
-  is-worked = c .before .before .work .ensures ∙ ap workedOf (c .before .before .before .parameters .ensures)
+  is-worked : c .before .work .result ≡ workedOf (parametersOf (numbers known))
+  is-worked = c .before .work .ensures ∙ ap workedOf (c .before .before .parameters .ensures)
 
-  finite-told : allFinite (c .before .before .work .result) ≡ c .all-finite .result
-  finite-told = cc
+  finite-told : allFinite (c .before .work .result) ≡ c .all-finite .result
+  finite-told = sym (c .all-finite .ensures)
 
 abbrev tested : tie.After-nanovolts → tie.Then1
 tested c = c .before .before
@@ -73,7 +73,6 @@ reach-spec =
     (λ c. search needs)
     (λ c. search needs)
     returns
-    (λ c κs. search needs)
     (λ c κs. search needs)
     (λ c κs. search needs)
     (λ c κs. search needs)

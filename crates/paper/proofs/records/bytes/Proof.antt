@@ -3,7 +3,7 @@ use mathlib.Core.Path.{_≡_}
 use Prim.Native.Nat.{ℕ, _≤_, _-_, _*_}
 use lib.ListN.{length}
 use borrow.Author.Needs.{needs}
-use Rattle.card.specs.Limits.{width}
+use Rattle.clip.specs.Limits.{width}
 use Rattle.paper.proofs.records.bytes.Statement.{statement}
 use Rattle.paper.proofs.records.bytes.Tie as tie
 

@@ -7,7 +7,7 @@ returns : tie.Need-returns
 returns c = simp (eq-eqb _ _ (c .if1 .taken))
 
 returns-2 : tie.Need-returns-2
-returns-2 c = simp (ne-eqb _ _ (c .before .if1 .left))
+returns-2 c = simp (ne-eqb _ _ (c .if1 .left))
 
 pub is-on-spec : {M : Type 1} → statement M
 is-on-spec = tie.close (tie.spec returns returns-2)

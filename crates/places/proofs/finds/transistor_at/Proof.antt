@@ -1,12 +1,9 @@
 -- `transistor_at` finds no place for 0, and else the first with the number.
-use mathlib.Core.Path.{_≡_, _∙_}
-use native.Mathlib.Omega.{arith}
-use lib.ListN.{length}
+use mathlib.Core.Path.{_∙_}
 use borrow.Author.Needs.{needs}
 use borrow.Author.Tests.{eq-eqb, ne-eqb}
 use Rattle.places.specs.Counts.{transistorsMost}
-use Rattle.places.specs.Finding.{isTransistor}
-use Rattle.places.proofs.Scans.{first-most, place-is}
+use Rattle.places.proofs.Scans.{first-place, place-is}
 use Rattle.places.proofs.finds.transistor_at.Statement.{statement}
 use Rattle.places.proofs.finds.transistor_at.Tie as tie
 
@@ -15,10 +12,9 @@ returns c = simp (eq-eqb _ _ (c .if1 .taken))
 
 returns-2 : tie.Need-returns-2
 returns-2 c =
-    let s = c .before .before in
-    let long : length (s .args .ts) ≡ transistorsMost = search needs in
-    let most = first-most (isTransistor (s .args .n)) (s .args .ts) in
-    simp (ne-eqb _ _ (c .before .if1 .left)) (c .find-transistor .ensures ∙ place-is transistorsMost _ (omega arith))
+    let a = c .before .before .args in
+    simp (ne-eqb _ _ (c .before .if1 .left))
+    (c .find-transistor .ensures ∙ place-is transistorsMost _ (first-place transistorsMost (a .n) (a .issues .now)))
 
 pub transistor-at-spec : {M : Type 1} → statement M
 transistor-at-spec = tie.close (tie.spec returns (λ c κs. search needs) returns-2)

@@ -6,7 +6,7 @@ use lib.Dec.{leb}
 use lib.ListN.{length}
 use borrow.Author.Needs.{needs}
 use borrow.Author.Tests.{le-leb, lt-leb}
-use Rattle.branch.specs.Rows.{roles}
+use Rattle.terms.specs.Rows.{roles}
 use Rattle.totals.specs.Gives.{nodesMost}
 use Rattle.places.proofs.Scans.{Passed, at-start, goes-on, any-here, any-nowhere}
 use Rattle.places.proofs.rules.any_off.Statement.{statement}

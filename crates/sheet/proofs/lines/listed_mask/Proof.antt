@@ -1,6 +1,6 @@
 -- `lines::listed_mask` meets its contract: below, in and above the range.
 use native.Mathlib.Omega.{arith}
-use Rattle.sheet.proofs.Ranges.{within, under, above}
+use Rattle.spelling.proofs.Ranges.{within, under, above}
 use Rattle.sheet.proofs.lines.listed_mask.Tie as tie
 use Rattle.sheet.proofs.lines.listed_mask.Statement.{statement}
 

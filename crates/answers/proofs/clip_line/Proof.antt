@@ -1,0 +1,28 @@
+-- The pieces one after the other.
+use native.Mathlib.Omega.{arith}
+use borrow.Author.Needs.{needs}
+use Rattle.sheet.specs.Digits.{maskDigits}
+use Rattle.sheet.specs.laws.LinesFit.{hex-whole}
+use Rattle.answers.specs.Answers.{clipLine}
+use Rattle.answers.proofs.Pages.{then}
+use Rattle.answers.proofs.Written.{text-short, text-written}
+use Rattle.answers.proofs.clip_line.Tie as tie
+use Rattle.answers.proofs.clip_line.Statement.{statement}
+
+abbrev masked : tie.After-put-words → tie.After-put-text
+masked c = c .before .before
+
+returns : tie.Need-returns
+unfolding clipLine
+returns c =
+    let m = masked c in
+    then (m .before .before .before .put .ensures)
+    (then
+    (text-written (m .before .before .mask-digits .ensures) (hex-whole maskDigits _ (omega arith)) (m .put-text .ensures))
+    (c .put-words .ensures))
+
+pub clip-line-spec : {M : Type 1} → statement M
+clip-line-spec =
+    tie.close
+    (tie.spec (λ c. search needs) (λ c κs. search needs) (λ c κs. search needs)
+    (λ c κs. text-short _ (c .before .mask-digits .ensures)) (λ c κs. search needs) returns)

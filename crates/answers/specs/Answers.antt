@@ -1,0 +1,56 @@
+-- The line that answers a command, with the newline that ends it.
+use mathlib.Core.Bool.{cond}
+use mathlib.Core.List.{List, [], _∷_, _++_}
+use Prim.Native.Nat.{ℕ}
+use lib.Ieee.{Float, binary64, toBits, eq}
+use lib.ListN.{take}
+use Rattle.refusal.specs.Told.{numberOf}
+use Rattle.sheet.specs.Digits.{maskDigits, wordDigits, hexDigits}
+use Rattle.sheet.specs.Lines.{labelLine, nodeLine}
+use Rattle.spelling.specs.Bytes.{space, newline}
+use Rattle.answers.specs.declared.Answer.{Answer}
+use Rattle.answers.specs.declared.Answer.the-variants.{Library, Offset, Card, Transistor, Moved, Lifted}
+use Rattle.answers.specs.declared.Answer.the-variants.{Withdrawn, Reading, Sheet, Refused, TooLong}
+use Rattle.spelling.specs.Bytes.{bytes}
+
+-- how many nodes a sheet has
+abbrev pub sheetNodes : ℕ
+sheetNodes = 32
+
+-- how many bytes of the first word an error shows
+abbrev pub shownBytes : ℕ
+shownBytes = 32
+
+unfoldable pub answerLine : Answer → List ℕ
+answerLine (Library n) = labelLine (bytes "library") n
+answerLine (Offset n) = labelLine (bytes "record") n
+answerLine (Card n) = labelLine (bytes "card") n
+answerLine (Transistor n) = labelLine (bytes "transistor") n
+answerLine Moved = bytes "moved\n"
+answerLine Lifted = bytes "lifted\n"
+answerLine Withdrawn = bytes "withdrawn\n"
+answerLine (Reading node v t) = nodeLine node v t
+answerLine Sheet = labelLine (bytes "sheet") sheetNodes
+answerLine (Refused f) = labelLine (bytes "refused") (numberOf f)
+answerLine TooLong = bytes "error line too long\n"
+
+-- a line that is no command, by its first word
+unfoldable pub errorLine : List ℕ → List ℕ
+errorLine first = bytes "error " ++ (take shownBytes first ++ newline ∷ [])
+
+-- a file that cannot be read
+unfoldable pub unreadableLine : List ℕ → List ℕ
+unreadableLine path = bytes "error cannot read " ++ (path ++ newline ∷ [])
+
+-- ---- a clipped record
+
+-- the bits of a number; one without a value has none
+unfoldable pub bitsOf : Float → ℕ
+bitsOf x = cond (eq x x) (toBits binary64 x) 0
+
+unfoldable pub wordsLine : List Float → List ℕ
+wordsLine [] = newline ∷ []
+wordsLine (x ∷ l) = space ∷ (hexDigits wordDigits (bitsOf x) ++ wordsLine l)
+
+unfoldable pub clipLine : ℕ → List Float → List ℕ
+clipLine mask numbers = bytes "clip " ++ (hexDigits maskDigits mask ++ wordsLine numbers)

@@ -1,0 +1,2 @@
+-- What follows from the definitions of answers and pages.
+pub mod PageFits

@@ -1,0 +1,73 @@
+// The line that answers a command, written in a lent buffer.
+ghost use Rattle.answers.specs.Page.{Writes};
+ghost use Rattle.answers.specs.Answers.{answerLine, errorLine, unreadableLine, clipLine};
+
+mod page; // page.rt: bytes written in a lent buffer
+mod parts; // parts.rt: what the answers are made of
+
+use refusal::Refusal;
+
+// Room for the longest answer, that to `clip`.
+pub const ANSWER_ROOM: usize = 512;
+
+// An answer; that to a `clip`, an unreadable file and a line that is no command are apart.
+pub enum Answer {
+    Library(u32),
+    Offset(usize),
+    Card(u32),
+    Transistor(u32),
+    Moved,
+    Lifted,
+    Withdrawn,
+    // a node, its microvolts and its ticks
+    Reading(u32, i64, i64),
+    Sheet,
+    Refused(Refusal),
+    TooLong,
+}
+
+// Each line is written at the start of a lent buffer; what comes back is how many bytes it has.
+pub fn answer_line(a: Answer, out: &mut [u8; ANSWER_ROOM]) -> usize
+    ensures { λ r. ⌜ Writes (answerLine a) (now (out .entry)) 0 (now (out .exit)) r ⌝ }
+{
+    match a {
+        Answer::Library(n) => parts::label(b"library", n as u64, out),
+        Answer::Offset(n) => parts::label(b"record", n as u64, out),
+        Answer::Card(n) => parts::label(b"card", n as u64, out),
+        Answer::Transistor(n) => parts::label(b"transistor", n as u64, out),
+        Answer::Moved => page::put(b"moved\n", out, 0),
+        Answer::Lifted => page::put(b"lifted\n", out, 0),
+        Answer::Withdrawn => page::put(b"withdrawn\n", out, 0),
+        Answer::Reading(node, v, t) => parts::reading(node, v, t, out),
+        Answer::Sheet => parts::label(b"sheet", parts::SHEET_NODES, out),
+        Answer::Refused(f) => parts::label(b"refused", refusal::number(f) as u64, out),
+        Answer::TooLong => page::put(b"error line too long\n", out, 0),
+    }
+}
+
+// A line that is no command, by its first word.
+pub fn error_line(first: &[u8], out: &mut [u8; ANSWER_ROOM]) -> usize
+    ensures { λ r. ⌜ Writes (errorLine (now (first .entry))) (now (out .entry)) 0 (now (out .exit)) r ⌝ }
+{
+    let start = page::put(b"error ", out, 0);
+    let shown = page::put(parts::shown(first), out, start);
+    page::put(b"\n", out, shown)
+}
+
+// A file that cannot be read; what the buffer has no room for is left out.
+pub fn unreadable_line(path: &[u8], out: &mut [u8]) -> usize
+    ensures { λ r. ⌜ Writes (unreadableLine (now (path .entry))) (now (out .entry)) 0 (now (out .exit)) r ⌝ }
+{
+    let start = page::put(b"error cannot read ", out, 0);
+    let named = page::put(path, out, start);
+    page::put(b"\n", out, named)
+}
+
+// A clipped record: its mask and the bits of its numbers.
+pub fn clip_line(mask: u32, numbers: &[f64], out: &mut [u8; ANSWER_ROOM]) -> usize
+    ensures { λ r. ⌜ Writes (clipLine mask (now (numbers .entry))) (now (out .entry)) 0 (now (out .exit)) r ⌝ }
+{
+    let start = page::put(b"clip ", out, 0);
+    let masked = page::put_text(sheet::mask_digits(mask), out, start);
+    parts::put_words(numbers, out, masked)
+}

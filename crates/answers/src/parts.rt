@@ -1,0 +1,60 @@
+// What the answers are made of.
+ghost use mathlib.Core.Path.{_≡_};
+ghost use Prim.Native.Nat.{_≤_};
+ghost use lib.ListN.{length, take};
+ghost use Rattle.sheet.specs.Lines.{labelLine, nodeLine};
+ghost use Rattle.answers.specs.Page.{Writes};
+ghost use Rattle.answers.specs.Answers.{shownBytes, bitsOf, wordsLine};
+use crate::ANSWER_ROOM;
+use crate::page;
+
+// How many nodes a sheet has.
+pub(crate) const SHEET_NODES: u64 = 32;
+
+// How many bytes of the first word an error shows.
+const SHOWN_BYTES: usize = 32;
+
+// A short word and a number.
+pub(crate) fn label(word: &[u8], n: u64, out: &mut [u8; ANSWER_ROOM]) -> usize
+    requires { ⌜ length (now word) ≤ 16 ⌝ }
+    ensures { λ r. ⌜ Writes (labelLine (now (word .entry)) n) (now (out .entry)) 0 (now (out .exit)) r ⌝ }
+{
+    page::put_text(sheet::label_line(word, n), out, 0)
+}
+
+pub(crate) fn reading(node: u32, v: i64, t: i64, out: &mut [u8; ANSWER_ROOM]) -> usize
+    ensures { λ r. ⌜ Writes (nodeLine node v t) (now (out .entry)) 0 (now (out .exit)) r ⌝ }
+{
+    page::put_text(sheet::node_line(node, v, t), out, 0)
+}
+
+// The bytes of a first word that an error shows.
+pub(crate) fn shown(first: &[u8]) -> &[u8]
+    ensures { λ r. ⌜ now r ≡ take shownBytes (now (first .entry)) ⌝ }
+{
+    if first.len() < SHOWN_BYTES {
+        return first;
+    }
+    &first[0..SHOWN_BYTES]
+}
+
+// The bits of a number; a clipped one is never the one without a value.
+fn bits(x: f64) -> u64
+    ensures { λ r. ⌜ r ≡ bitsOf x ⌝ }
+{
+    if x == x { f64::to_bits(x) } else { 0 }
+}
+
+// The bits of each number, a space before each, and the newline.
+pub(crate) fn put_words(numbers: &[f64], out: &mut [u8; ANSWER_ROOM], at: usize) -> usize
+    ensures { λ r. ⌜ Writes (wordsLine (now (numbers .entry))) (now (out .entry)) at (now (out .exit)) r ⌝ }
+{
+    let mut used = at;
+    let mut i = 0;
+    while i < numbers.len() {
+        let spaced = page::put(b" ", out, used);
+        used = page::put_text(sheet::word_digits(bits(numbers[i])), out, spaced);
+        i += 1;
+    }
+    page::put(b"\n", out, used)
+}

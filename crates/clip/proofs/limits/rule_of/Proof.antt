@@ -1,0 +1,78 @@
+-- `clip::limits::rule_of` meets its contract: at a number that is known the table computes; past its end it has Free.
+use mathlib.Core.Path.{_≡_, refl, sym, ap, _∙_}
+use mathlib.Core.Logic.{_⊎_, inl, inr, ⊎-elim}
+use Prim.Native.Nat.{ℕ, suc, _≤_, _<_}
+use native.Mathlib.Omega.{arith}
+use native.Mathlib.Decide.{ℕ-discrete, decLt}
+use lib.ListN.{List·getD-eq-default}
+use Rattle.clip.specs.declared.limits.Rule.{Rule}
+use Rattle.clip.specs.declared.limits.Rule.the-variants.{Free}
+use Rattle.clip.specs.Numbers as number
+use Rattle.clip.specs.Limits.{rules, width, ruleOf}
+use Rattle.clip.proofs.limits.rule_of.Statement.{statement}
+use Rattle.clip.proofs.limits.rule_of.Tie as tie
+
+known : {r : Rule} {i : ℕ} (k : ℕ) → r ≡ ruleOf k → i ≡ k → r ≡ ruleOf i
+known k p e = p ∙ ap ruleOf (sym e)
+
+-- one of two numbers
+either : {r : Rule} {i : ℕ} (k l : ℕ) → r ≡ ruleOf k → r ≡ ruleOf l → (i ≡ k) ⊎ (i ≡ l) → r ≡ ruleOf i
+either k l p q = ⊎-elim (known k p) (known l q)
+
+-- one of two neighbours
+pair : {r : Rule} (i k : ℕ) → r ≡ ruleOf k → r ≡ ruleOf (suc k) → k ≤ i → i ≤ suc k → r ≡ ruleOf i
+pair {r} i k p q l h = of (ℕ-discrete i k)
+  where
+    of : Dec (i ≡ k) → r ≡ ruleOf i
+    of (yes e) = known k p e
+    of (no d) = let e : i ≡ suc k = omega arith in known (suc k) q e
+
+-- from the octave on
+free : (i : ℕ) → number.octave ≤ i → Free ≡ ruleOf i
+free i l = of (decLt i width)
+  where
+    of : Dec (i < width) → Free ≡ ruleOf i
+    of (yes h) = pair i number.octave refl refl l (omega arith)
+    of (no h) = sym (List·getD-eq-default rules Free {n = i} (omega arith))
+
+-- ---- what the rest of the match knows: i is none of the keys
+neither : {A B : Type 0} → (A ⊎ B → ⊥) → (A → ⊥) × (B → ⊥)
+neither h = (λ a. h (inl a), λ b. h (inr b))
+
+up : {k i : ℕ} → k ≤ i → (i ≡ k → ⊥) → suc k ≤ i
+up l d = omega arith
+
+module _ (c : tie.At-match-rest) where
+  abbrev i : ℕ
+  i = c .before .args .i
+
+  past-bri : number.ik ≤ i → number.icss ≤ i
+  past-bri l =
+      let r = c .match .rest in
+      let currents = neither (r .0 .0 .0 .0 .0 .1) in
+      let knees = neither (r .0 .0 .0 .0 .1) in
+      let shares = neither (r .0 .0 .1) in
+      up (up (up (up (up (up (up l (knees .0)) (r .0 .0 .0 .1)) (shares .0)) (currents .0)) (r .0 .1)) (r .1))
+      (currents .1)
+
+  past-iks : number.iks ≤ i → number.rcblx ≤ i
+  past-iks l = up l (neither (c .match .rest .0 .0 .0 .0 .1) .1)
+
+  past-exsub : number.exsub ≤ i → number.octave ≤ i
+  past-exsub l = up l (neither (c .match .rest .0 .0 .1) .1)
+
+pub rule-of-spec : {M : Type 1} → statement M
+rule-of-spec =
+    tie.close
+    (tie.spec
+    (λ c. either number.ik number.iks refl refl (c .match .keys2))
+    (λ c. known number.bf refl (c .match .keys3))
+    (λ c. either number.xibi number.exsub refl refl (c .match .keys4))
+    (λ c. known number.mlf refl (c .match .keys5))
+    (λ c. known number.bri refl (c .match .keys6))
+    (λ c. let at = c .before .before in known {i = i at} number.icss refl (omega (arith, past-bri at (omega arith))))
+    (λ c. free (i (c .before .before .before)) (past-exsub (c .before .before .before) (omega arith)))
+    (λ c. either number.ibf number.iss refl refl (c .match .keys1))
+    (λ c. pair (c .before .before .args .i) number.mult refl refl (omega arith) (omega arith))
+    (λ c. let at = c .before .before .before in pair (i at) number.rcblx refl refl (past-iks at (omega arith))
+    (omega arith)))

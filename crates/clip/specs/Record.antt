@@ -1,0 +1,27 @@
+-- A record's bytes: words, each the bits of an f64. What is said of the words is said of the first n, for any n.
+use mathlib.Core.Bool.{Bool, true, _&&_}
+use mathlib.Core.List.{List}
+use Prim.Native.Nat.{ℕ, zero, suc, _*_}
+use lib.Dec.{eqb}
+use lib.ListN.{length}
+use lib.Ieee.{Float, binary64, ofBits}
+use lib.Ieee.Scale.{finite}
+use Rattle.bytes_le.specs.Le.{leAt}
+use Rattle.clip.specs.Limits.{width}
+
+-- whether the bytes are those of n words
+abbrev pub hasWords : ℕ → List ℕ → Bool
+hasWords n s = eqb (length s) (8 * n)
+
+-- whether they are those of a record
+abbrev pub rightLength : List ℕ → Bool
+rightLength s = hasWords width s
+
+-- number i, as its word has it
+abbrev pub numberAt : List ℕ → ℕ → Float
+numberAt s i = ofBits binary64 (leAt 8 s (8 * i))
+
+-- whether each of the first n numbers is finite
+unfoldable pub finiteUp : List ℕ → ℕ → Bool
+finiteUp s zero = true
+finiteUp s (suc n) = finiteUp s n && finite (numberAt s n)

@@ -1,0 +1,59 @@
+-- `ready_at` reads a card made ready.
+use native.Mathlib.Omega.{arith}
+use borrow.Author.Needs.{needs}
+use Rattle.deck.specs.Layout.{readyAt}
+use Rattle.deck.proofs.Readings.{tick-is}
+use Rattle.deck.proofs.ready_at.Statement.{statement}
+use Rattle.deck.proofs.ready_at.Tie as tie
+
+-- earlier places, from later ones
+abbrev worked : tie.After-t39 → tie.After-worked-at
+worked c = c .before .before .before .before .before .before .before .before
+
+abbrev octaves : tie.After-t39 → tie.After-reciprocal-at2
+octaves c = c .before .before .before .before .before .before
+
+returns : tie.Need-returns
+unfolding readyAt
+returns c =
+    let s = worked c .before in
+    let ticks = s .args .ticks .now in
+    λ j. record {
+      card = worked c .worked-at .ensures j;
+      plain = octaves c .before .reciprocal-at .ensures j;
+      second = octaves c .reciprocal-at2 .ensures j;
+      bulk = tick-is ticks (s .args .i) 2 (omega arith) j;
+      side = tick-is ticks (s .args .i) 3 (omega arith) j;
+      nonideal = tick-is ticks (s .args .i) 4 (omega arith) j;
+      ex = tick-is ticks (s .args .i) 5 (omega arith) j;
+      sub = tick-is ticks (s .args .i) 6 (omega arith) j;
+      sf = tick-is ticks (s .args .i) 7 (omega arith) j;
+    }
+
+pub ready-at-spec : {M : Type 1} → statement M
+ready-at-spec =
+    tie.close
+    (tie.spec
+    (λ c. search needs)
+    (λ c κs. search needs)
+    (λ c κs. search needs)
+    (λ c κs. search needs)
+    (λ c. search needs)
+    (λ c. search needs)
+    (λ c. search needs)
+    (λ c. search needs)
+    (λ c. search needs)
+    (λ c. search needs)
+    (λ c. search needs)
+    (λ c. search needs)
+    (λ c. search needs)
+    (λ c. search needs)
+    (λ c. search needs)
+    (λ c. search needs)
+    (λ c. search needs)
+    (λ c. search needs)
+    (λ c. search needs)
+    (λ c. search needs)
+    (λ c. search needs)
+    (λ c. search needs)
+    returns)

@@ -1,0 +1,121 @@
+-- How a card made ready is laid out: which of its numbers stand where in the stretch that its place has of each array.
+use mathlib.Core.Path.{_≡_}
+use mathlib.Core.Bool.{Bool, false}
+use mathlib.Core.List.{List, [], _∷_}
+use Prim.Native.Nat.{ℕ, _+_, _*_}
+use lib.ListN.{getD}
+use Rattle.float.specs.declared.Split.{Split}
+use Rattle.octave.specs.declared.Reciprocal.{Reciprocal}
+use Rattle.card.specs.declared.WorkedCard.{WorkedCard}
+use Rattle.terms.specs.declared.Ready.{Ready}
+use Rattle.deck.specs.Stretch.{stretch, written}
+
+-- the places
+abbrev pub cardsMost : ℕ
+cardsMost = 16
+
+-- how many of each array's numbers a place has
+abbrev pub numbersEach : ℕ
+numbersEach = 19
+
+abbrev pub powersEach : ℕ
+powersEach = 9
+
+abbrev pub ticksEach : ℕ
+ticksEach = 8
+
+abbrev pub switchesEach : ℕ
+switchesEach = 2
+
+-- ---- a card's own numbers, in order
+
+abbrev pub numbersOf : Ready → List ℕ
+numbersOf r =
+    r .card .sn .a ∷ r .card .bulk .a ∷ r .card .side .a ∷ r .card .nonideal .a ∷ r .card .ex .a ∷ r .card .sub .a
+    ∷ r .card .sf .a ∷ r .card .rex .a ∷ r .card .rsub .a ∷ r .card .octave ∷ r .card .second ∷ r .plain .w
+    ∷ r .plain .high ∷ r .plain .low ∷ r .plain .base ∷ r .second .w ∷ r .second .high ∷ r .second .low
+    ∷ r .second .base ∷ []
+
+abbrev pub powersOf : WorkedCard → List ℕ
+powersOf c =
+    c .sn .down ∷ c .bulk .down ∷ c .side .down ∷ c .nonideal .down ∷ c .ex .down ∷ c .sub .down ∷ c .sf .down
+    ∷ c .rex .down ∷ c .rsub .down ∷ []
+
+abbrev pub ticksOf : Ready → List ℕ
+ticksOf r = r .plain .add ∷ r .second .add ∷ r .bulk ∷ r .side ∷ r .nonideal ∷ r .ex ∷ r .sub ∷ r .sf ∷ []
+
+abbrev pub switchesOf : WorkedCard → List Bool
+switchesOf c = c .exsub ∷ c .«rcbli_zero» ∷ []
+
+-- ---- and back: the card of such numbers
+
+abbrev pub splitFrom : List ℕ → List ℕ → ℕ → Split
+splitFrom numbers powers k = record { a = getD numbers k 0; down = getD powers k 0 }
+
+abbrev pub workedFrom : List ℕ → List ℕ → List Bool → WorkedCard
+workedFrom numbers powers switches =
+    record {
+      sn = splitFrom numbers powers 0;
+      bulk = splitFrom numbers powers 1;
+      side = splitFrom numbers powers 2;
+      nonideal = splitFrom numbers powers 3;
+      ex = splitFrom numbers powers 4;
+      sub = splitFrom numbers powers 5;
+      sf = splitFrom numbers powers 6;
+      rex = splitFrom numbers powers 7;
+      rsub = splitFrom numbers powers 8;
+      octave = getD numbers 9 0;
+      second = getD numbers 10 0;
+      exsub = getD switches 0 false;
+      «rcbli_zero» = getD switches 1 false;
+    }
+
+abbrev pub reciprocalFrom : List ℕ → List ℕ → ℕ → ℕ → Reciprocal
+reciprocalFrom numbers ticks k t =
+    record {
+      w = getD numbers k 0;
+      high = getD numbers (k + 1) 0;
+      low = getD numbers (k + 2) 0;
+      base = getD numbers (k + 3) 0;
+      add = getD ticks t 0;
+    }
+
+abbrev pub readyFrom : List ℕ → List ℕ → List ℕ → List Bool → Ready
+readyFrom numbers powers ticks switches =
+    record {
+      card = workedFrom numbers powers switches;
+      plain = reciprocalFrom numbers ticks 11 0;
+      second = reciprocalFrom numbers ticks 15 1;
+      bulk = getD ticks 2 0;
+      side = getD ticks 3 0;
+      nonideal = getD ticks 4 0;
+      ex = getD ticks 5 0;
+      sub = getD ticks 6 0;
+      sf = getD ticks 7 0;
+    }
+
+-- ---- the stretches of place i, and the card there
+
+abbrev pub numbersAt : List ℕ → ℕ → List ℕ
+numbersAt numbers i = stretch 0 numbers (numbersEach * i) numbersEach
+
+abbrev pub powersAt : List ℕ → ℕ → List ℕ
+powersAt powers i = stretch 0 powers (powersEach * i) powersEach
+
+abbrev pub ticksAt : List ℕ → ℕ → List ℕ
+ticksAt ticks i = stretch 0 ticks (ticksEach * i) ticksEach
+
+abbrev pub switchesAt : List Bool → ℕ → List Bool
+switchesAt switches i = stretch false switches (switchesEach * i) switchesEach
+
+unfoldable pub readyAt : List ℕ → List ℕ → List ℕ → List Bool → ℕ → Ready
+readyAt numbers powers ticks switches i =
+    readyFrom (numbersAt numbers i) (powersAt powers i) (ticksAt ticks i) (switchesAt switches i)
+
+-- the card r written at place i of the four arrays, and nothing else
+pub record Laid (i : ℕ) (r : Ready) (numbers powers ticks : List ℕ) (switches : List Bool)
+    (numbers′ powers′ ticks′ : List ℕ) (switches′ : List Bool) : Type 0 where
+  pub numbers-laid : numbers′ ≡ written 0 numbers (numbersEach * i) (numbersOf r) numbersEach
+  pub powers-laid : powers′ ≡ written 0 powers (powersEach * i) (powersOf (r .card)) powersEach
+  pub ticks-laid : ticks′ ≡ written 0 ticks (ticksEach * i) (ticksOf r) ticksEach
+  pub switches-laid : switches′ ≡ written false switches (switchesEach * i) (switchesOf (r .card)) switchesEach

@@ -1,0 +1,4 @@
+-- What follows from the definitions.
+pub mod Ups
+pub mod Stretches
+pub mod Laid

@@ -1,0 +1,120 @@
+// A script obeyed, line by line.
+ghost use Rattle.board.specs.Promise.{Reached};
+use crate::answer::put_unreadable;
+use crate::desk::asks_board;
+use crate::desk::obey;
+use crate::desk::obey_apart;
+use crate::out::ROOM;
+use crate::out::flush;
+use crate::out::part;
+use crate::shelf;
+use crate::shelf::MOST;
+use board::Board;
+use script::MOST_BYTES;
+
+// One byte more than the longest line: one that is longer is cut there, and is too long all the same.
+const LINE: usize = script::LONGEST_LINE + 1;
+
+// How much is read at once.
+const READ: usize = 65536;
+
+// Adds a byte to the n of a line, where there is room for it.
+fn add(b: u8, line: &mut [u8; LINE], n: &mut usize) {
+    let k = *n;
+    if k < LINE {
+        line[k] = b;
+        *n = k + 1;
+    }
+}
+
+// One read. Where nothing came a line end stands there, so that a last line that lacks its own is ended.
+fn read(fd: i32, bytes: &mut [u8; READ]) -> isize {
+    let got = libc::read(fd, bytes);
+    if got <= 0 {
+        bytes[0] = b'\n';
+    }
+    got
+}
+
+// What a read got, or the line end.
+fn taken(got: isize, bytes: &[u8; READ]) -> &[u8] {
+    if got <= 0 {
+        return part(bytes, 0, 1);
+    }
+    part(bytes, 0, io::count(got, bytes))
+}
+
+// Takes what a read got of a script; n bytes of a line that has not ended are in `line`.
+fn feed(
+    board: Board,
+    got: isize,
+    bytes: &[u8; READ],
+    line: &mut [u8; LINE],
+    n: &mut usize,
+    held: &mut [u8; MOST],
+    out: &mut [u8; ROOM],
+    at: &mut usize,
+) -> Board
+    requires { ⌜ Reached board ⌝ }
+    ensures { λ r. ⌜ Reached r ⌝ }
+{
+    let more = taken(got, bytes);
+    let mut spelled = [0u8; MOST_BYTES];
+    let mut current = board;
+    let mut i = 0;
+    while i < more.len() {
+        let b = more[i];
+        i += 1;
+        if b != b'\n' {
+            add(b, line, n);
+            continue;
+        }
+        let k = *n;
+        *n = 0;
+        let text = part(line, 0, k);
+        let c = script::read(text, &mut spelled);
+        let verb = c.verb;
+        if !asks_board(verb) {
+            obey_apart(c, text, held, out, at);
+            continue;
+        }
+        let next = obey(current, c, text, &spelled, shelf::held(held), out, at);
+        current = next;
+    }
+    current
+}
+
+// Obeys all that can be read. Nothing says that the input ends: the turns are counted down from a number that no run uses up.
+pub fn run(fd: i32, path: &[u8]) {
+    let mut bytes = [0u8; READ];
+    let mut line = [0u8; LINE];
+    let mut n: usize = 0;
+    let mut held = [0u8; MOST];
+    let mut out = [0u8; ROOM];
+    let mut at: usize = 0;
+    let mut board = Board::fresh();
+    shelf::clear(&mut held);
+    let mut turns = u64::MAX;
+    while turns > 0 {
+        let got = read(fd, &mut bytes);
+        let next = feed(
+            board,
+            got,
+            &bytes,
+            &mut line,
+            &mut n,
+            &mut held,
+            &mut out,
+            &mut at,
+        );
+        board = next;
+        if got < 0 {
+            put_unreadable(path, &mut out, &mut at);
+        }
+        flush(&out, &mut at);
+        if got <= 0 {
+            return;
+        }
+        turns -= 1;
+    }
+}

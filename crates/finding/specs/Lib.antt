@@ -1,0 +1,3 @@
+-- Finding a record: what each operation answers.
+pub mod Answers
+pub mod Unique

@@ -1,2 +1,0 @@
--- The words of inner contracts: no public promise cites them.
-pub mod Inspecting

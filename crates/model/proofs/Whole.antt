@@ -1,0 +1,108 @@
+-- What a call leaves in the arrays that it was lent is the whole next board: it changes nothing else.
+use mathlib.Core.Path.{_≡_, refl, sym, ap, _∙_}
+use mathlib.Core.List.{List}
+use Prim.Native.Nat.{ℕ}
+use lib.IntN.{ℤ}
+use Rattle.refusal.specs.Order.{Verdict, no, yes}
+use Rattle.model.specs.Board.{Board}
+use Rattle.model.specs.declared.Answer.{Answer}
+use Rattle.model.specs.Board.{Answered}
+use Rattle.model.specs.Model.{leveled, placed, placedOf, mayPlace, moved, movedOf, mayMove, lifted, liftedOf}
+use Rattle.model.specs.Model.{mayLift}
+use Rattle.model.specs.inner.Lent.{Lends, LendsPlaces, LeavesLevels, LeavesPlaces}
+
+-- a board lends its own arrays
+pub own-lends : (b : Board) →
+    Lends b (b .numbers) (b .powers) (b .ticks) (b .switches) (b .issues) (b .seats) (b .nodes) (b .volts) (b .totals)
+own-lends b =
+    record {
+      numbers-are = refl;
+      powers-are = refl;
+      ticks-are = refl;
+      switches-are = refl;
+      issues-are = refl;
+      seats-are = refl;
+      nodes-are = refl;
+      volts-are = refl;
+      totals-are = refl;
+    }
+
+pub own-lends-places : (b : Board) →
+    LendsPlaces b (b .numbers) (b .powers) (b .ticks) (b .switches) (b .held) (b .issues) (b .cards) (b .seats)
+    (b .nodes)
+    (b .volts) (b .totals) (b .next)
+own-lends-places b = record { lends = own-lends b; held-are = refl; cards-are = refl; next-is = refl }
+
+-- b with other places of transistors, other totals and another next number
+abbrev pub withPlaces : Board → List ℕ → List ℕ → List ℕ → List ℕ → List ℤ → ℕ → Board
+withPlaces b issues cards seats nodes totals next =
+    record {
+      numbers = b .numbers;
+      powers = b .powers;
+      ticks = b .ticks;
+      switches = b .switches;
+      names = b .names;
+      held = b .held;
+      next = next;
+      volts = b .volts;
+      totals = totals;
+      issues = issues;
+      cards = cards;
+      seats = seats;
+      nodes = nodes;
+    }
+
+-- ---- nothing else changes
+
+abbrev OnlyPlaces : Board → Board → Type 0
+OnlyPlaces b c = c ≡ withPlaces b (c .issues) (c .cards) (c .seats) (c .nodes) (c .totals) (c .next)
+
+place-only : (b : Board) (card : ℤ) (nodes : List ℤ) → OnlyPlaces b (placedOf b card nodes .board)
+unfolding placedOf
+place-only b card nodes = go (mayPlace b card nodes)
+  where
+    go : (v : Verdict ℕ) → OnlyPlaces b (placed b nodes v .board)
+    go (no f) = refl
+    go (yes i) = refl
+
+lift-only : (b : Board) (n : ℤ) → OnlyPlaces b (liftedOf b n .board)
+unfolding liftedOf
+lift-only b n = go (mayLift b n)
+  where
+    go : (v : Verdict ℕ) → OnlyPlaces b (lifted b v .board)
+    go (no f) = refl
+    go (yes i) = refl
+
+abbrev OnlyLevels : Board → Board → Type 0
+OnlyLevels b c = c ≡ leveled b (record { volts = c .volts; totals = c .totals })
+
+move-only : (b : Board) (n v : ℤ) → OnlyLevels b (movedOf b n v .board)
+unfolding movedOf
+move-only b n v = go (mayMove b n v)
+  where
+    go : (w : Verdict ℕ) → OnlyLevels b (moved b v w .board)
+    go (no f) = refl
+    go (yes k) = refl
+
+-- ---- so that what was left is the answer, whole
+
+places-whole : (b : Board) {a : Answered} {answer : Answer} {issues cards seats nodes : List ℕ} {totals : List ℤ}
+    {next : ℕ} → OnlyPlaces b (a .board) → LeavesPlaces a answer issues cards seats nodes totals next →
+    record { board = withPlaces b issues cards seats nodes totals next; answer = answer } ≡ a
+places-whole b {a} only l =
+    rw (l .issues-are, l .cards-are, l .seats-are, l .nodes-are, l .totals-are, l .next-is, l .answer-is, ← only)
+
+pub placed-whole : (b : Board) (card : ℤ) (on : List ℤ) {answer : Answer} {issues cards seats nodes : List ℕ}
+    {totals : List ℤ} {next : ℕ} → LeavesPlaces (placedOf b card on) answer issues cards seats nodes totals next →
+    record { board = withPlaces b issues cards seats nodes totals next; answer = answer } ≡ placedOf b card on
+placed-whole b card on l = places-whole b (place-only b card on) l
+
+pub lifted-whole : (b : Board) (n : ℤ) {answer : Answer} {issues cards seats nodes : List ℕ} {totals : List ℤ} →
+    LeavesPlaces (liftedOf b n) answer issues cards seats nodes totals (b .next) →
+    record { board = withPlaces b issues cards seats nodes totals (b .next); answer = answer } ≡ liftedOf b n
+lifted-whole b n l = places-whole b (lift-only b n) l
+
+pub moved-whole : (b : Board) (n v : ℤ) {answer : Answer} {volts : List ℕ} {totals : List ℤ} →
+    LeavesLevels (movedOf b n v) answer volts totals →
+    record { board = leveled b (record { volts = volts; totals = totals }); answer = answer } ≡ movedOf b n v
+moved-whole b n v l = rw (l .volts-are, l .totals-are, l .answer-is, ← (move-only b n v))

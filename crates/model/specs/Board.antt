@@ -1,0 +1,26 @@
+-- The board as flat lists of numbers: the cards by their places, voltages and totals by node, the transistors by their
+-- places. And a board with the answer to a call.
+use mathlib.Core.Bool.{Bool}
+use mathlib.Core.List.{List}
+use Prim.Native.Nat.{ℕ}
+use lib.IntN.{ℤ}
+use Rattle.model.specs.declared.Answer.{Answer}
+
+pub record Board : Type 0 where
+  pub numbers : List ℕ
+  pub powers : List ℕ
+  pub ticks : List ℕ
+  pub switches : List Bool
+  pub names : List ℕ
+  pub held : List ℕ
+  pub next : ℕ
+  pub volts : List ℕ
+  pub totals : List ℤ
+  pub issues : List ℕ
+  pub cards : List ℕ
+  pub seats : List ℕ
+  pub nodes : List ℕ
+
+pub record Answered : Type 0 where
+  pub board : Board
+  pub answer : Answer

@@ -1,0 +1,59 @@
+-- Which refusal a call gets on the board, each in the order of its rule: one test a clause, from plain facts about what
+-- its places hold. The desk states its own orders; they are proved the same.
+use mathlib.Core.Bool.{Bool, _&&_, not}
+use mathlib.Core.List.{List}
+use Prim.Native.Nat.{ℕ}
+use lib.Dec.{eqb}
+use lib.IntN.{ℤ, natAbs}
+use Rattle.refusal.specs.declared.Refusal.the-variants.{Malformed, BadName, NameNotHeld, NoRoom, OutOfRange}
+use Rattle.refusal.specs.declared.Refusal.the-variants.{SplitCollector, Overload, CardInUse, NumbersUsedUp}
+use Rattle.refusal.specs.Order.{Verdict, yes, refuseIf, andThen}
+use Rattle.name.specs.Name.{asked}
+use Rattle.volts.specs.Volts.{offVolts}
+use Rattle.card.specs.declared.WorkedCard.{WorkedCard}
+use Rattle.card.specs.Judge.{judgeOf}
+use Rattle.clip.specs.Record.{rightLength}
+use Rattle.given.specs.Arguments.{Found, known, offNode, someNodeOff, apart}
+
+-- Loading: 1, 2, 6 to 10, 11, 17, from what the record is judged to be
+abbrev pub loadOrder : List ℕ → List ℕ → Verdict WorkedCard → Bool → Bool → Verdict WorkedCard
+loadOrder name bytes judged noRoom usedUp =
+    refuseIf (not (rightLength bytes)) Malformed
+    (refuseIf (not (asked name)) BadName
+    (andThen judged
+    (λ (c : WorkedCard). refuseIf noRoom NoRoom
+    (refuseIf usedUp NumbersUsedUp (yes c)))))
+
+unfoldable pub loadVerdict : List ℕ → List ℕ → Bool → Bool → Verdict WorkedCard
+loadVerdict name bytes noRoom usedUp = loadOrder name bytes (judgeOf bytes) noRoom usedUp
+
+-- Placing: 12, 13, 14, 11, 17, 15; C4 and C1 are joined where R_Cbli is 0
+unfoldable pub placeVerdict : {A : Type 0} → Found A → (A → Bool) → (A → Bool) → List ℤ → Bool → Bool → Verdict A
+placeVerdict {A} found joined over nodes noRoom usedUp =
+    andThen (known found)
+    (λ (a : A). refuseIf (someNodeOff nodes) OutOfRange
+    (refuseIf (joined a && apart nodes) SplitCollector
+    (refuseIf noRoom NoRoom
+    (refuseIf usedUp NumbersUsedUp
+    (refuseIf (over a) Overload (yes a))))))
+
+-- Moving a voltage: 13, 15
+unfoldable pub moveVerdict : ℤ → ℤ → Bool → Verdict ℕ
+moveVerdict n v over =
+    refuseIf (offNode n) OutOfRange (refuseIf (offVolts v) OutOfRange (refuseIf over Overload (yes (natAbs n))))
+
+-- Lifting: 12
+unfoldable pub liftVerdict : {A : Type 0} → Found A → Verdict A
+liftVerdict found = known found
+
+-- Withdrawing: 12, 16
+unfoldable pub withdrawVerdict : {A : Type 0} → Found A → (A → Bool) → Verdict A
+withdrawVerdict {A} found inUse = andThen (known found) (λ (a : A). refuseIf (inUse a) CardInUse (yes a))
+
+-- Looking a name up: 2, 4
+unfoldable pub lookVerdict : List ℕ → ℕ → Verdict ℕ
+lookVerdict name highest = refuseIf (not (asked name)) BadName (refuseIf (eqb highest 0) NameNotHeld (yes highest))
+
+-- Reading a node: 13
+unfoldable pub nodeVerdict : ℤ → Verdict ℕ
+nodeVerdict n = refuseIf (offNode n) OutOfRange (yes (natAbs n))

@@ -1,0 +1,160 @@
+// Placing, moving and lifting on a board's arrays, lent one by one: each tests, works, and writes last, so that a refusal leaves them as they were.
+ghost use mathlib.Core.Path.{_≡_};
+ghost use Rattle.model.specs.Board.{Board};
+ghost use Rattle.model.specs.Model.{placedOf, movedOf, liftedOf, Reached};
+ghost use Rattle.model.specs.inner.Lent.{Lends, LendsPlaces, LeavesLevels, LeavesPlaces};
+use crate::Answer;
+use branch::ROLES;
+use places::Way;
+use refusal::Refusal;
+use volts::Voltage;
+
+// 12, 13, 14, 11, 17, 15.
+pub fn place(
+    issues: &mut [u32; places::TRANSISTORS],
+    cards: &mut [u32; places::TRANSISTORS],
+    seats: &mut [u8; places::TRANSISTORS],
+    nodes: &mut [u8; places::ALL_NODES],
+    totals: &mut [i64; totals::NODES],
+    next: &mut u32,
+    numbers: &[u32; deck::ALL_NUMBERS],
+    powers: &[u16; deck::ALL_POWERS],
+    ticks: &[u64; deck::ALL_TICKS],
+    switches: &[bool; deck::ALL_SWITCHES],
+    held: &[u32; places::CARDS],
+    volts: &[u32; totals::NODES],
+    card: i64,
+    roles: [i64; ROLES],
+) -> Answer
+    requires { ⌜ ((b : Board) × Reached b × LendsPlaces b (now numbers) (now powers) (now ticks) (now switches) (now held) (now issues) (now cards) (now seats) (now nodes) (now volts) (now totals) (now next)) ⌝ }
+    ensures { λ r. ⌜ ((b : Board) → Reached b → LendsPlaces b (now (numbers .entry)) (now (powers .entry)) (now (ticks .entry)) (now (switches .entry)) (now (held .entry)) (now (issues .entry)) (now (cards .entry)) (now (seats .entry)) (now (nodes .entry)) (now (volts .entry)) (now (totals .entry)) (now (next .entry)) → LeavesPlaces (placedOf b card roles) r (now (issues .exit)) (now (cards .exit)) (now (seats .exit)) (now (nodes .exit)) (now (totals .exit)) (now (next .exit))) ⌝ }
+{
+    let n = given::issue_of(card);
+    let on = given::nodes_of(roles);
+    let issue = *next;
+    let way = places::may_place(held, switches, issues, issue, n, &on);
+    match way {
+        Way::Stop(f) => Answer::Refused(f),
+        Way::Go(at, free) => {
+            let table = octave::table();
+            let mut l = *totals;
+            let over = settle::put_in(
+                &mut l,
+                &table,
+                numbers,
+                powers,
+                ticks,
+                switches,
+                at,
+                &on,
+                volts,
+            );
+            if settle::is_over(over) {
+                return Answer::Refused(Refusal::Overload);
+            }
+            *totals = l;
+            issues[free] = issue;
+            cards[free] = held[at];
+            seats[free] = at as u8;
+            sets::put_nodes(nodes, free, &on);
+            *next = issue + 1;
+            Answer::Issue(issue)
+        }
+    }
+}
+
+// 13, then 15 where some transistor would overload.
+pub fn move_to(
+    volts: &mut [u32; totals::NODES],
+    totals: &mut [i64; totals::NODES],
+    numbers: &[u32; deck::ALL_NUMBERS],
+    powers: &[u16; deck::ALL_POWERS],
+    ticks: &[u64; deck::ALL_TICKS],
+    switches: &[bool; deck::ALL_SWITCHES],
+    issues: &[u32; places::TRANSISTORS],
+    seats: &[u8; places::TRANSISTORS],
+    nodes: &[u8; places::ALL_NODES],
+    node: i64,
+    microvolts: i64,
+) -> Answer
+    requires { ⌜ ((b : Board) × Reached b × Lends b (now numbers) (now powers) (now ticks) (now switches) (now issues) (now seats) (now nodes) (now volts) (now totals)) ⌝ }
+    ensures { λ r. ⌜ ((b : Board) → Reached b → Lends b (now (numbers .entry)) (now (powers .entry)) (now (ticks .entry)) (now (switches .entry)) (now (issues .entry)) (now (seats .entry)) (now (nodes .entry)) (now (volts .entry)) (now (totals .entry)) → LeavesLevels (movedOf b node microvolts) r (now (volts .exit)) (now (totals .exit))) ⌝ }
+{
+    let k = given::node_of(node);
+    let n = k as usize;
+    if totals::NODES <= n {
+        return Answer::Refused(Refusal::OutOfRange);
+    }
+    let Voltage::Kept(v) = volts::keep(microvolts) else {
+        return Answer::Refused(Refusal::OutOfRange);
+    };
+    let set = sets::naming(issues, nodes, k);
+    let was = *volts;
+    let mut will = was;
+    will[n] = v;
+    let mut l = *totals;
+    let first = settle::settle(
+        &mut l,
+        numbers,
+        powers,
+        ticks,
+        switches,
+        issues,
+        seats,
+        nodes,
+        &was,
+        &will,
+        set,
+    );
+    let over = first.over;
+    if settle::is_over(over) {
+        return Answer::Refused(Refusal::Overload);
+    }
+    *volts = will;
+    *totals = l;
+    Answer::Done
+}
+
+// 12.
+pub fn lift(
+    issues: &mut [u32; places::TRANSISTORS],
+    cards: &mut [u32; places::TRANSISTORS],
+    seats: &mut [u8; places::TRANSISTORS],
+    nodes: &mut [u8; places::ALL_NODES],
+    totals: &mut [i64; totals::NODES],
+    numbers: &[u32; deck::ALL_NUMBERS],
+    powers: &[u16; deck::ALL_POWERS],
+    ticks: &[u64; deck::ALL_TICKS],
+    switches: &[bool; deck::ALL_SWITCHES],
+    volts: &[u32; totals::NODES],
+    transistor: i64,
+) -> Answer
+    requires { ⌜ ((b : Board) × Reached b × Lends b (now numbers) (now powers) (now ticks) (now switches) (now issues) (now seats) (now nodes) (now volts) (now totals) × (now cards ≡ b .cards)) ⌝ }
+    ensures { λ r. ⌜ ((b : Board) → Reached b → Lends b (now (numbers .entry)) (now (powers .entry)) (now (ticks .entry)) (now (switches .entry)) (now (issues .entry)) (now (seats .entry)) (now (nodes .entry)) (now (volts .entry)) (now (totals .entry)) → now (cards .entry) ≡ b .cards → LeavesPlaces (liftedOf b transistor) r (now (issues .exit)) (now (cards .exit)) (now (seats .exit)) (now (nodes .exit)) (now (totals .exit)) (b .next)) ⌝ }
+{
+    let n = given::issue_of(transistor);
+    let i = places::transistor_at(issues, n);
+    if places::TRANSISTORS <= i {
+        return Answer::Refused(Refusal::Unknown);
+    }
+    let s = seats[i] as usize;
+    let table = octave::table();
+    let on = sets::nodes_at(nodes, i);
+    settle::take_out(
+        totals,
+        &table,
+        numbers,
+        powers,
+        ticks,
+        switches,
+        s,
+        &on,
+        volts,
+    );
+    issues[i] = 0;
+    cards[i] = 0;
+    seats[i] = 0;
+    let none = [0u8; ROLES];
+    sets::put_nodes(nodes, i, &none);
+    Answer::Done
+}

@@ -1,0 +1,32 @@
+-- Each kind of row as its definition has it.
+use borrow.Author.Needs.{needs}
+use Rattle.script.proofs.Sayings.{said-texts, said-numbers}
+use Rattle.script.proofs.saying.said_to.Tie as tie
+use Rattle.script.proofs.saying.said_to.Statement.{statement}
+
+abbrev texts : tie.After-said → tie.After-wants
+texts c = c .before .before .before .before
+
+abbrev numbers : tie.After-said2 → tie.After-wants2
+numbers c = c .before .before .before .before
+
+abbrev hex : tie.After-slice-known2 → tie.After-said-hex
+hex c = c .before .before
+
+returns : tie.Need-returns
+returns c = said-texts _ _ (texts c .wants .given .1) (c .before .verb-if .ensures) (c .said .ensures)
+
+returns-2 : tie.Need-returns-2
+returns-2 c =
+    said-numbers _ _ (numbers c .wants2 .given .1) (c .before .before .has-numbers .ensures)
+    (c .before .verb-if2 .ensures) (c .said2 .ensures)
+
+returns-3 : tie.Need-returns-3
+returns-3 c = rw (hex c .before .before .enum-told .given .1) (hex c .said-hex .ensures)
+
+pub said-to-spec : {M : Type 1} → statement M
+said-to-spec =
+    tie.close
+    (tie.spec (λ c. search needs) (λ c κs. search needs) (λ c κs. search needs) (λ c. search needs)
+    (λ c κs. search needs) (λ c κs. search needs) (λ c κs. search needs) (λ c. search needs) (λ c κs. search needs)
+    returns returns-2 (λ c. search needs) returns-3)

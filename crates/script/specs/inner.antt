@@ -1,0 +1,2 @@
+-- Words of inner contracts: a word as a number.
+pub mod Packing

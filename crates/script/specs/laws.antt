@@ -1,0 +1,2 @@
+-- What follows from the definition of commands.
+pub mod Lines

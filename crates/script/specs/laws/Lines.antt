@@ -1,0 +1,51 @@
+-- Lines and what they say: the protocol's cases, computed.
+use mathlib.Core.Path.{_≡_, refl}
+use mathlib.Core.List.{List, [], _∷_, map}
+use Prim.Native.Nat.{ℕ, _<_}
+use Prim.Native.String.{String}
+use borrow.Author.Tests.{lt-ltb}
+use lib.IntN.{pos, negsuc}
+use lib.ListN.{length}
+use Rattle.spelling.specs.Number.{parsedOf, parsedWith, allDigits, decimalFrom}
+use Rattle.spelling.specs.Hex.{spells, allPairs, pairsOf}
+use Rattle.script.specs.declared.Verb.{Verb}
+use Rattle.script.specs.declared.Verb.the-variants.{Record, Lift, Withdraw, Sheet, Nothing, TooLong, Error}
+use Rattle.spelling.specs.Bytes.{bytes}
+use Rattle.words.specs.Words.{spansFrom, withWord, withWords, wordsOf, partOf}
+use Rattle.script.specs.Table.{placeIn, rowNamed}
+use Rattle.words.specs.Numbers.{areNumbers, numbersTo}
+use Rattle.script.specs.Command.{longestLine, said, hexOf, saidTo, commandOf}
+
+-- too long before anything else
+pub too-long : (line : List ℕ) → longestLine < length line → commandOf line .verb ≡ TooLong
+unfolding commandOf said
+too-long line h = rw (lt-ltb longestLine (length line) h)
+
+abbrev verbOf : String → Verb
+verbOf line = commandOf (bytes line) .verb
+
+-- blank, a comment, two verbs and what is none of them: a tab parts no words, a minus alone is no number, a word too
+-- many, half a byte; then bytes, no bytes, a line of one word, and a word that only begins like a command's
+pub said-verbs : map verbOf
+    ("   "
+    ∷ "  # lift 1"
+    ∷ "lift 1"
+    ∷ " withdraw   1 "
+    ∷ "lift\t1"
+    ∷ "lift -"
+    ∷ "lift 1 2"
+    ∷ "record A 0"
+    ∷ "record A 0f"
+    ∷ "record A -"
+    ∷ "sheet"
+    ∷ "lifts 1"
+    ∷ [])
+    ≡ Nothing ∷ Nothing ∷ Lift ∷ Withdraw ∷ Error ∷ Error ∷ Error ∷ Error ∷ Record ∷ Record ∷ Sheet ∷ Error ∷ []
+unfolding spansFrom withWord withWords wordsOf partOf parsedOf parsedWith allDigits decimalFrom spells allPairs pairsOf placeIn rowNamed areNumbers numbersTo said hexOf saidTo commandOf
+said-verbs = refl
+
+-- numbers, with spaces wherever they may be
+pub said-numbers : commandOf (bytes "  move  3   -250000 ") .numbers
+    ≡ pos 3 ∷ negsuc 249999 ∷ pos 0 ∷ pos 0 ∷ pos 0 ∷ pos 0 ∷ pos 0 ∷ pos 0 ∷ []
+unfolding spansFrom withWord withWords wordsOf partOf parsedOf parsedWith allDigits decimalFrom placeIn rowNamed areNumbers numbersTo said saidTo commandOf
+said-numbers = refl

@@ -1,0 +1,89 @@
+// What a line says, its words parted.
+ghost use mathlib.Core.Path.{_≡_};
+ghost use mathlib.Core.Bool.{_&&_};
+ghost use Prim.Native.Nat.{_-_};
+ghost use lib.Dec.{eqb};
+ghost use lib.ListN.{length};
+ghost use Rattle.words.specs.Numbers.{areNumbers};
+ghost use Rattle.script.specs.Command.{mostBytes, passedOver, said, SaysTo, verbIf};
+use crate::Command;
+use crate::Verb;
+use crate::Wants;
+use spelling::Hex;
+use words::Words;
+use words::are_numbers;
+use words::numbers_of;
+use words::word;
+
+// Whether a line with that first word is passed over: it has no word, or a comment.
+pub(crate) fn is_passed_over(first: &[u8]) -> bool
+    ensures { λ r. ⌜ r ≡ passedOver (now (first .entry)) ⌝ }
+{
+    if first.len() == 0 {
+        return true;
+    }
+    first[0] == b'#'
+}
+
+// The line says the verb; its hex digits spell so many bytes.
+pub(crate) fn said(line: &[u8], words: Words, verb: Verb, bytes: usize) -> Command
+    ensures { λ r. ⌜ r ≡ said (now (line .entry)) words verb bytes ⌝ }
+{
+    let numbers = numbers_of(line, words);
+    Command {
+        verb,
+        words,
+        numbers,
+        bytes,
+    }
+}
+
+// The verb, where the line is one of its commands.
+fn verb_if(good: bool, verb: Verb) -> Verb
+    ensures { λ r. ⌜ r ≡ verbIf good verb ⌝ }
+{
+    if good { verb } else { Verb::Error }
+}
+
+// Whether the line has n words, those after the first numbers.
+fn has_numbers(line: &[u8], words: Words, n: usize) -> bool
+    ensures { λ r. ⌜ r ≡ (eqb (words .count) n && areNumbers (now (line .entry)) words 1 (n - 1)) ⌝ }
+{
+    if words.count == n {
+        are_numbers(line, words, n)
+    } else {
+        false
+    }
+}
+
+// A line that has to have a name and hex digits.
+fn said_hex(line: &[u8], words: Words, verb: Verb, bytes: &mut [u8]) -> Command
+    requires { ⌜ length (now bytes) ≡ mostBytes ⌝ }
+    ensures { λ r. ⌜ SaysTo (now (line .entry)) words verb Wants.NameAndHex (now (bytes .entry)) r (now (bytes .exit)) ⌝ }
+{
+    if words.count != 3 {
+        return said(line, words, Verb::Error, 0);
+    }
+    match spelling::hex_bytes(word(line, words, 2), bytes) {
+        Hex::Bytes(n) => said(line, words, verb, n),
+        Hex::Bad => said(line, words, Verb::Error, 0),
+    }
+}
+
+// What a line that is not passed over says to the row of a verb.
+pub(crate) fn said_to(
+    line: &[u8],
+    words: Words,
+    verb: Verb,
+    wants: Wants,
+    bytes: &mut [u8],
+) -> Command
+    requires { ⌜ length (now bytes) ≡ mostBytes ⌝ }
+    ensures { λ r. ⌜ SaysTo (now (line .entry)) words verb wants (now (bytes .entry)) r (now (bytes .exit)) ⌝ }
+{
+    match wants {
+        Wants::Texts(n) => said(line, words, verb_if(words.count == n, verb), 0),
+        Wants::Numbers(n) => said(line, words, verb_if(has_numbers(line, words, n), verb), 0),
+        Wants::NameAndHex => said_hex(line, words, verb, bytes),
+    }
+}

@@ -1,0 +1,4 @@
+pub mod Change
+pub mod First
+pub mod inner
+pub mod laws

@@ -1,0 +1,3 @@
+-- What follows from the first that overloads, and from what totals gain.
+pub mod Firsts
+pub mod Changes

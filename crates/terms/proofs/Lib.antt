@@ -1,0 +1,4 @@
+pub mod Scaling
+pub mod Junctions
+pub mod Readied
+pub mod Laws

@@ -1,0 +1,4 @@
+pub mod Rows
+pub mod Ends
+pub mod Values
+pub mod inner

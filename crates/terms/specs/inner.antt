@@ -1,0 +1,3 @@
+-- Words that inner contracts use, and what callers may count on.
+pub mod Ready
+pub mod Terms

@@ -1,0 +1,71 @@
+// The T's and ratios that the branches of a card name, at given voltages; and a card made ready for them.
+ghost use mathlib.Core.Path.{_≡_};
+ghost use Rattle.card.specs.inner.Worked.{IsWorked};
+ghost use Rattle.terms.specs.inner.Ready.{readyOf};
+
+mod values; // values.rt: T's and ratios at given voltages
+mod ends; // ends.rt: where the branches start and end
+mod empty; // empty.rt: a ready card of zeros
+
+use card::WorkedCard;
+pub use empty::no_ready;
+pub use ends::C1;
+pub use ends::C4;
+pub use ends::from_roles;
+pub use ends::to_roles;
+use octave::Reciprocal;
+pub use values::all_terms;
+
+pub const BRANCHES: usize = 7;
+
+// E1, B1, B2, C1, C2, C4, S.
+pub const ROLES: usize = 7;
+
+// The most that a T may be.
+pub const TICKS_MOST: u64 = 9007199254740992;
+
+// Binary places of a tick, and of the unit in which ratios count.
+const TICK_PLACES: u64 = 50;
+
+pub const PART_PLACES: u64 = 20;
+
+// A card with what depends on it alone: the octaves' reciprocals, and each T without an exponential.
+pub struct Ready {
+    pub card: WorkedCard,
+    pub plain: Reciprocal,
+    pub second: Reciprocal,
+    pub bulk: u64,
+    pub side: u64,
+    pub nonideal: u64,
+    pub ex: u64,
+    pub sub: u64,
+    pub sf: u64,
+}
+
+// The T's that each row adds and takes away, and the floors of the two ratios in its divisor: 0 where it has none, whose root is 2^20.
+pub struct Terms {
+    pub plus: [u64; BRANCHES],
+    pub minus: [u64; BRANCHES],
+    pub left: [u64; BRANCHES],
+    pub right: [u64; BRANCHES],
+}
+
+// What is worked once for a card.
+pub fn prepare(c: WorkedCard) -> Ready
+    requires { ⌜ IsWorked c ⌝ }
+    ensures { λ r. ⌜ r ≡ readyOf c ⌝ }
+{
+    let plain = octave::reciprocal_of(c.octave as u64);
+    let second = octave::reciprocal_of(c.second as u64);
+    Ready {
+        card: c,
+        plain: plain,
+        second: second,
+        bulk: values::alone(c.bulk),
+        side: values::alone(c.side),
+        nonideal: values::alone(c.nonideal),
+        ex: values::alone(c.ex),
+        sub: values::alone(c.sub),
+        sf: values::alone(c.sf),
+    }
+}

@@ -1,0 +1,97 @@
+// The nine worked values of a card, in f64 with one rounding per operation.
+ghost use mathlib.Core.Path.{_≡_};
+ghost use lib.Ieee.Scale.{finite};
+ghost use Rattle.working.specs.Work.{workedOf, sfOf, valuesOf, all, allFinite};
+
+// How many values are worked.
+const VALUES: usize = 9;
+
+// Clipped parameters, under the names that document 003 gives them.
+pub struct Parameters {
+    pub mult: f64,
+    pub is: f64,
+    pub ik: f64,
+    pub bf: f64,
+    pub xibi: f64,
+    pub ibf: f64,
+    pub bri: f64,
+    pub iss: f64,
+    pub icss: f64,
+    pub iks: f64,
+}
+
+pub struct Worked {
+    pub sn: f64,
+    pub bulk: f64,
+    pub side: f64,
+    pub nonideal: f64,
+    pub ex: f64,
+    pub sub: f64,
+    pub sf: f64,
+    pub rex: f64,
+    pub rsub: f64,
+}
+
+// A negative I_CSs stands for the substrate current itself.
+fn substrate(icss: f64, mult: f64, sub: f64) -> f64
+    ensures { λ r. ⌜ r ≡ sfOf icss mult sub ⌝ }
+{
+    if icss < 0.0 { sub } else { icss * mult }
+}
+
+pub fn work(p: Parameters) -> Worked
+    ensures { λ r. ⌜ r ≡ workedOf p ⌝ }
+{
+    let sn = p.is * p.mult;
+    let sub = p.iss * p.mult;
+    let sf = substrate(p.icss, p.mult, sub);
+    Worked {
+        sn,
+        bulk: ((1.0 - p.xibi) * sn) / p.bf,
+        side: (p.xibi * sn) / p.bf,
+        nonideal: p.ibf * p.mult,
+        ex: sn / p.bri,
+        sub,
+        sf,
+        rex: (4.0 * p.is) / p.ik,
+        rsub: (4.0 * p.is) / p.iks,
+    }
+}
+
+// The values in a row.
+fn values(w: Worked) -> [f64; VALUES]
+    ensures { λ r. ⌜ r ≡ valuesOf w ⌝ }
+{
+    [
+        w.sn,
+        w.bulk,
+        w.side,
+        w.nonideal,
+        w.ex,
+        w.sub,
+        w.sf,
+        w.rex,
+        w.rsub,
+    ]
+}
+
+fn each_finite(x: [f64; VALUES]) -> bool
+    ensures { λ r. ⌜ r ≡ all finite x ⌝ }
+{
+    let mut i: usize = 0;
+    while i < VALUES {
+        if float::is_finite(x[i]) {
+            i = i + 1;
+        } else {
+            return false;
+        }
+    }
+    true
+}
+
+// Whether all nine are finite.
+pub fn all_finite(w: Worked) -> bool
+    ensures { λ r. ⌜ r ≡ allFinite w ⌝ }
+{
+    each_finite(values(w))
+}
