@@ -23,7 +23,8 @@ use Rattle.given.specs.Lists.{anyOf}
 use Rattle.places.specs.Gathered.{Card, Transistor, noTransistor, workedAt}
 use Rattle.places.specs.Finding.{names, standsAt}
 use Rattle.settle.specs.Change.{backFlow, changeBy}
-use Rattle.model.specs.Model.{Shift, shifted, touched}
+use Rattle.given.specs.Pairs.{Shift, shiftedIn}
+use Rattle.model.specs.Model.{shifted, touched}
 use Rattle.model.specs.inner.Sums.{placeGives, totalsOf}
 use Rattle.model.proofs.NodeSums.{up-at, small-place, small-sum, totals-at, totals-count, are-totals}
 
@@ -75,7 +76,7 @@ either-false false b e = (refl, e)
 pub roles-same : (shifts : List Shift) (volts : List ℕ) (t : Transistor) → (t .issue ≡ 0 → ⊥) →
     touched shifts t ≡ false →
     rolesAt (map givenBack (shifted volts shifts)) (t .nodes) ≡ rolesAt (map givenBack volts) (t .nodes)
-unfolding shifted anyOf
+unfolding shiftedIn anyOf
 roles-same [] volts t h e = refl
 roles-same (s ∷ rest) volts t h e =
     let p = either-false (standsAt (s .node) t) (touched rest t) e in

@@ -2,10 +2,10 @@ pub mod Verdicts
 pub mod Lists
 pub mod NodeSums
 pub mod Gains
+pub mod Shifts
 pub mod Invariant
 pub mod Lent
 pub mod Answers
 pub mod PlacingTests
-pub mod Moving
 pub mod Placing
 pub mod Whole
