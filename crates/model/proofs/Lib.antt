@@ -5,7 +5,6 @@ pub mod Gains
 pub mod Shifts
 pub mod Invariant
 pub mod Lent
-pub mod Answers
 pub mod PlacingTests
 pub mod Placing
 pub mod Whole

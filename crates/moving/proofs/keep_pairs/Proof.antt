@@ -9,7 +9,7 @@ use Rattle.volts.specs.laws.Keeping.{kept-is, outside-is}
 use Rattle.totals.proofs.Integers.{held}
 use Rattle.given.specs.inner.Nodes.{nodeOf}
 use Rattle.model.specs.Counts.{nodesMost}
-use Rattle.model.proofs.Answers.{off-board, on-board}
+use Rattle.model.proofs.Verdicts.{off-board, on-board}
 use Rattle.moving.proofs.Pairs.{KeptTo, kept-none, kept-more, off-by-node, off-by-volts, kept-all}
 use Rattle.moving.proofs.keep_pairs.Statement.{statement}
 use Rattle.moving.proofs.keep_pairs.Tie as tie
