@@ -25,8 +25,8 @@ const PLACES: u64 = 1024;
 
 const LOW: u64 = TICKS_MOST / PLACES;
 
-// A divisor of two units, 2^21.
-const NOTHING_DIVIDED: u64 = 2 * UNIT;
+// Below this floor, a ratio of 1/64, three terms of the root's series are the root or one less.
+const NEAR: u64 = UNIT / 64;
 
 fn larger(a: u64, b: u64) -> u64
     ensures { λ r. ⌜ (a ≤ r) × (b ≤ r) ⌝ }
@@ -80,6 +80,12 @@ fn first_over(x: Terms) -> Over
     Over::Within
 }
 
+// One more than 2^20 + n/2 - n^2/2^23 for a small floor n: most often one above its root, else the root, and never below it, so that `root_near` need not search. Nothing is promised of it.
+fn near(ratio: u64) -> u32 {
+    let n = ratio % NEAR;
+    (UNIT + 1 + (n * (4 * UNIT) - n * n) / (8 * UNIT)) as u32
+}
+
 // The root for a ratio's floor; 2^20 for the floor 0.
 fn root_for(ratio: u64) -> u64
     requires { ⌜ ratio ≤ ratioLimit ⌝ }
@@ -88,7 +94,11 @@ fn root_for(ratio: u64) -> u64
     if ratio == 0 {
         return UNIT;
     }
-    whole::root((UNIT + ratio) * UNIT)
+    let x = (UNIT + ratio) * UNIT;
+    if ratio < NEAR {
+        return whole::root_near(x, near(ratio));
+    }
+    whole::root(x)
 }
 
 // Q of a row's difference over the two roots. With two floors of 0 the divisor is 2^21, and Q changes nothing.
@@ -99,10 +109,12 @@ fn divided(plus: u64, minus: u64, left: u64, right: u64) -> i64
     if plus == minus {
         return 0;
     }
-    let divisor = root_for(left) + root_for(right);
-    if divisor == NOTHING_DIVIDED {
-        return whole::difference(plus, minus);
+    if left == 0 {
+        if right == 0 {
+            return whole::difference(plus, minus);
+        }
     }
+    let divisor = root_for(left) + root_for(right);
     whole::quotient(plus, minus, SHIFT, divisor, TICKS_OVER)
 }
 

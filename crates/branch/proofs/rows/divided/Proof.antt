@@ -1,4 +1,4 @@
--- `rows::divided` meets its contract: nothing to divide, a divisor that changes nothing, or the quotient.
+-- `rows::divided` meets its contract: nothing to divide, nothing to divide by, or the quotient.
 use mathlib.Core.Path.{_≡_, ap, ap₂, sym, subst, _∙_}
 use Prim.Native.Nat.{ℕ, suc, _+_}
 use native.Mathlib.Omega.{arith}
@@ -8,13 +8,13 @@ use mir.ValLaws.{toZ-ofZ}
 use Rattle.whole.specs.Quotient.{heldSize, quotientOf}
 use Rattle.branch.specs.Ticks.{rootFor}
 use Rattle.branch.specs.Outcome.{tickLimit}
-use Rattle.branch.proofs.Roots.{DivisorSize, two-roots, divided-equal, divided-two, divided-held}
+use Rattle.branch.proofs.Roots.{DivisorSize, two-roots, divided-equal, divided-unit, divided-held}
 use borrow.Author.Needs.{needs}
 use Rattle.branch.proofs.rows.divided.Statement.{statement}
 use Rattle.branch.proofs.rows.divided.Tie as tie
 
 abbrev start : tie.After-root-for2 → tie.Start
-start c = c .before .before .before
+start c = c .before .before .before .before
 
 divisor-is : (c : tie.After-root-for2) →
     c .before .root-for .result + c .root-for2 .result ≡ rootFor (start c .args .left) + rootFor (start c .args .right)
@@ -33,15 +33,15 @@ add-divisor c = omega (arith, divisor-sized c)
 
 returns-2 : tie.Need-returns-2
 returns-2 c =
-    let r = c .before .before in
-    let a = start r .args in
+    let a = c .before .before .before .before .args in
     toZ-ofZ w64 (c .difference .result) (search needs) ∙ c .difference .ensures
-    ∙ divided-two (a .plus) (a .minus) (a .left) (a .right) (sym (divisor-is r) ∙ c .before .if2 .taken)
+    ∙ divided-unit (a .plus) (a .minus) (a .left) (a .right) (omega (arith, c .before .before .if2 .taken))
+    (omega (arith, c .before .if3 .taken))
 
 quotient-requires : tie.Need-quotient-requires
 quotient-requires c κs =
-    let p = start (c .before) .pre in
-    let d = divisor-sized (c .before) in
+    let p = start c .pre in
+    let d = divisor-sized c in
     record {
       first-small = omega (arith, p .0);
       second-small = omega (arith, p .1 .0);
@@ -56,7 +56,7 @@ quotient-requires c κs =
 
 returns-3 : tie.Need-returns-3
 returns-3 c =
-    let r = c .before .before in
+    let r = c .before in
     let a = start r .args in
     let p = start r .pre in
     let n = subℕ (a .plus) (a .minus) in
@@ -67,5 +67,5 @@ returns-3 c =
 pub divided-spec : {M : Type 1} → statement M
 divided-spec =
     tie.close
-    (tie.spec returns (λ c κs. search needs) (λ c κs. search needs) add-divisor (λ c κs. search needs) returns-2
+    (tie.spec returns (λ c κs. search needs) returns-2 (λ c κs. search needs) (λ c κs. search needs) add-divisor
     quotient-requires returns-3)
