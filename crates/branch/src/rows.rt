@@ -101,21 +101,31 @@ fn root_for(ratio: u64) -> u64
     whole::root(x)
 }
 
-// Q of a row's difference over the two roots. With two floors of 0 the divisor is 2^21, and Q changes nothing.
-fn divided(plus: u64, minus: u64, left: u64, right: u64) -> i64
+// Q of a row's difference over the two roots.
+fn over_roots(plus: u64, minus: u64, left: u64, right: u64) -> i64
     requires { ⌜ (plus ≤ tickLimit) × ((minus ≤ tickLimit) × ((left ≤ ratioLimit) × (right ≤ ratioLimit))) ⌝ }
     ensures { λ r. ⌜ r ≡ dividedOf plus minus left right ⌝ }
 {
     if plus == minus {
         return 0;
     }
-    if left == 0 {
-        if right == 0 {
-            return whole::difference(plus, minus);
-        }
-    }
     let divisor = root_for(left) + root_for(right);
     whole::quotient(plus, minus, SHIFT, divisor, TICKS_OVER)
+}
+
+// The same. Most rows have two floors of 0: there the divisor is 2^21, Q changes nothing and no root is worked.
+// It is called in two places so that the compiler leaves it apart from the loop over the rows, which it then unrolls.
+fn divided(plus: u64, minus: u64, left: u64, right: u64) -> i64
+    requires { ⌜ (plus ≤ tickLimit) × ((minus ≤ tickLimit) × ((left ≤ ratioLimit) × (right ≤ ratioLimit))) ⌝ }
+    ensures { λ r. ⌜ r ≡ dividedOf plus minus left right ⌝ }
+{
+    if 0 < left {
+        return over_roots(plus, minus, left, right);
+    }
+    if 0 < right {
+        return over_roots(plus, minus, left, right);
+    }
+    whole::difference(plus, minus)
 }
 
 // Each row's ticks.
@@ -129,29 +139,6 @@ fn all_divided(x: Terms) -> [i64; BRANCHES]
         ticks[k] = t;
     }
     ticks
-}
-
-// The same where every floor is 0.
-fn all_plain(x: Terms) -> [i64; BRANCHES]
-    requires { ⌜ Fine x × Most x 0 ⌝ }
-    ensures { λ r. ⌜ r ≡ allTicks x ⌝ }
-{
-    let mut ticks = [0i64; BRANCHES];
-    for k in 0..BRANCHES {
-        let t = whole::difference(x.plus[k], x.minus[k]);
-        ticks[k] = t;
-    }
-    ticks
-}
-
-fn ticks_of(x: Terms, most: u64) -> [i64; BRANCHES]
-    requires { ⌜ Fine x × Most x most ⌝ }
-    ensures { λ r. ⌜ r ≡ allTicks x ⌝ }
-{
-    if most == 0 {
-        return all_plain(x);
-    }
-    all_divided(x)
 }
 
 // The first row that overloads. Where the sum of T's is low and no floor is over its limit, none does, and no row is looked at by itself.
@@ -175,7 +162,7 @@ pub(crate) fn outcome(x: Terms) -> Outcome
     let o = judged(x, most);
     match o {
         Over::Within => {
-            let ticks = ticks_of(x, most);
+            let ticks = all_divided(x);
             Outcome {
                 over: Over::Within,
                 ticks: ticks,
