@@ -36,7 +36,7 @@ use Rattle.model.specs.Verdict.{moveVerdict}
 use Rattle.model.specs.Model.{cardsOf, transistorsOf, transistorAt, workedOn, Shift, shifted, touched, oneShift}
 use Rattle.model.specs.Model.{firstOver, gains, voltsOf, refuse, movedOf, Reached}
 use Rattle.model.specs.inner.Lent.{Lends, LeavesLevels}
-use Rattle.model.proofs.Answers.{off-board, on-board}
+use Rattle.model.proofs.Verdicts.{off-board, on-board}
 use Rattle.model.proofs.Gains.{more-is, touched-stands, gains-small}
 use Rattle.model.proofs.Invariant.{Invariant, invariant, totals-long}
 use Rattle.model.proofs.Lent.{deckIn, stands-there, nodes-there, worked-there, able-at, volts-kept}
