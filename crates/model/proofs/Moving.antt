@@ -10,7 +10,7 @@ use Rattle.refusal.specs.declared.Refusal.{Refusal}
 use Rattle.refusal.specs.declared.Refusal.the-variants.{OutOfRange, Overload}
 use Rattle.volts.specs.Volts.{givenBack, keptAs, offVolts}
 use Rattle.volts.specs.laws.Keeping.{KeptIs, near-set}
-use Rattle.branch.specs.Outcome.{isOver}
+use Rattle.rows.specs.Outcome.{isOver}
 use Rattle.totals.specs.Flow.{overAt}
 use Rattle.totals.specs.inner.Sums.{More}
 use Rattle.totals.specs.inner.Sizes.{flowMost}

@@ -14,9 +14,9 @@ use Rattle.refusal.specs.Order.{Verdict, yes}
 use Rattle.card.specs.declared.WorkedCard.{WorkedCard}
 use Rattle.volts.specs.Volts.{givenBack}
 use Rattle.octave.specs.Table.{entries}
-use Rattle.branch.specs.declared.Over.{Over}
+use Rattle.rows.specs.declared.Over.{Over}
 use Rattle.terms.specs.declared.Ready.{Ready}
-use Rattle.branch.specs.Outcome.{isOver}
+use Rattle.rows.specs.Outcome.{isOver}
 use Rattle.terms.specs.Rows.{roles}
 use Rattle.totals.specs.Flow.{overAt, overloads, flow}
 use Rattle.totals.specs.inner.Sums.{More, Room}

@@ -22,13 +22,13 @@ use Rattle.card.specs.inner.Worked.{IsWorked}
 use Rattle.card.proofs.WorkedCards.{judged-is-worked}
 use Rattle.terms.specs.Rows.{roles}
 use Rattle.terms.specs.Values.{expOf}
-use Rattle.branch.specs.Ticks.{rootFor}
-use Rattle.branch.specs.Outcome.{outcomeOf}
+use Rattle.rows.specs.Ticks.{rootFor}
+use Rattle.rows.specs.Outcome.{outcomeOf}
 use Rattle.terms.specs.inner.Ready.{readyOf, Askable}
 use Rattle.terms.proofs.Laws.{askable}
 use Rattle.totals.specs.Gives.{rowsGive}
 use Rattle.totals.specs.Flow.{overAt, overloads, flow, sumBelow, withMore}
-use Rattle.branch.specs.inner.FromTerms.{listUp}
+use Rattle.rows.specs.inner.FromTerms.{listUp}
 use Rattle.given.specs.Lists.{anyOf}
 use Rattle.given.specs.Arguments.{usedUp}
 use Rattle.deck.specs.Stretch.{stretch, written}

@@ -6,11 +6,11 @@ use lib.ListN.{getD}
 use lib.IntN.{ℤ, pos, natAbs, _+ℤ_}
 use Rattle.volts.specs.Volts.{givenBack, span, AllNear}
 use Rattle.card.specs.declared.WorkedCard.{WorkedCard}
-use Rattle.branch.specs.declared.Outcome.{Outcome}
+use Rattle.rows.specs.declared.Outcome.{Outcome}
 use Rattle.terms.specs.declared.Ready.{Ready}
 use Rattle.terms.specs.Rows.{rowsFor}
-use Rattle.branch.specs.Outcome.{tickLimit, outcomeOf}
-use Rattle.branch.proofs.Laws.{ticks-long, ticks-small}
+use Rattle.rows.specs.Outcome.{tickLimit, outcomeOf}
+use Rattle.rows.proofs.Laws.{ticks-long, ticks-small}
 use Rattle.terms.specs.Ends.{fromRoles, toRoles}
 use Rattle.totals.specs.Gives.{nodesMost}
 use Rattle.totals.specs.Flow.{rolesAt, overAt, flow}

@@ -14,7 +14,7 @@ use borrow.Author.Tests.{eqb-true, eqb-false}
 use Rattle.whole.specs.laws.Biased.{below-or-not}
 use Rattle.volts.specs.Volts.{givenBack}
 use Rattle.octave.specs.Table.{entries}
-use Rattle.branch.specs.declared.Over.{Over}
+use Rattle.rows.specs.declared.Over.{Over}
 use Rattle.totals.specs.Gives.{nodesMost}
 use Rattle.totals.specs.Flow.{flow, overAt, sumBelow}
 use Rattle.totals.specs.inner.Sums.{More, Room}

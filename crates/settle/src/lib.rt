@@ -5,7 +5,7 @@ ghost use Prim.Native.Nat.{_<_};
 ghost use lib.ListN.{length, getD};
 ghost use Rattle.volts.specs.Volts.{givenBack};
 ghost use Rattle.terms.specs.Rows.{roles};
-ghost use Rattle.branch.specs.Outcome.{outcomeOf, isOver};
+ghost use Rattle.rows.specs.Outcome.{outcomeOf, isOver};
 ghost use Rattle.totals.specs.Gives.{nodesMost};
 ghost use Rattle.totals.specs.Flow.{rolesAt, overAt, flow};
 ghost use Rattle.totals.specs.inner.Sums.{More, Room, Wired};

@@ -1,8 +1,8 @@
 -- `put_in` gives the currents, and tells by what the transistor overloads.
 use mathlib.Core.Path.{sym, subst}
 use borrow.Author.Needs.{needs}
-use Rattle.branch.specs.declared.Outcome.{Outcome}
-use Rattle.branch.specs.Outcome.{tickLimit}
+use Rattle.rows.specs.declared.Outcome.{Outcome}
+use Rattle.rows.specs.Outcome.{tickLimit}
 use Rattle.totals.specs.inner.Sums.{Within}
 use Rattle.settle.proofs.Currents.{ticks-within, over-told, gives-flow}
 use Rattle.settle.proofs.put_in.Statement.{statement}

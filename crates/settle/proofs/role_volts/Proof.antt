@@ -4,7 +4,7 @@ use native.Mathlib.Omega.{arith}
 use lib.ListN.{getD}
 use borrow.Author.Needs.{needs}
 use Rattle.terms.specs.Rows.{roles}
-use Rattle.branch.specs.laws.Filled.{Filled, filled-none, filled-more}
+use Rattle.rows.specs.laws.Filled.{Filled, filled-none, filled-more}
 use Rattle.totals.proofs.Lists.{filled-map}
 use Rattle.settle.proofs.role_volts.Statement.{statement}
 use Rattle.settle.proofs.role_volts.Tie as tie

@@ -1,8 +1,8 @@
 -- `take_out` gives the currents the other way.
 use mathlib.Core.Path.{sym, subst}
 use borrow.Author.Needs.{needs}
-use Rattle.branch.specs.declared.Outcome.{Outcome}
-use Rattle.branch.specs.Outcome.{tickLimit}
+use Rattle.rows.specs.declared.Outcome.{Outcome}
+use Rattle.rows.specs.Outcome.{tickLimit}
 use Rattle.totals.specs.inner.Sums.{Within}
 use Rattle.settle.proofs.Currents.{ticks-within, takes-flow}
 use Rattle.settle.proofs.take_out.Statement.{statement}

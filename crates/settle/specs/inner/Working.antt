@@ -8,7 +8,7 @@ use lib.IntN.{ℤ, pos, natAbs, _+ℤ_}
 use Rattle.volts.specs.Volts.{givenBack, AllNear}
 use Rattle.octave.specs.Table.{entries}
 use Rattle.card.specs.declared.WorkedCard.{WorkedCard}
-use Rattle.branch.specs.declared.Over.{Over}
+use Rattle.rows.specs.declared.Over.{Over}
 use Rattle.terms.specs.inner.Ready.{IsReady}
 use Rattle.terms.specs.Rows.{roles}
 use Rattle.totals.specs.Gives.{nodesMost}
