@@ -21,7 +21,7 @@ use Rattle.card.specs.Judge.{judgeOf}
 use Rattle.card.specs.inner.Worked.{IsWorked}
 use Rattle.card.proofs.WorkedCards.{judged-is-worked}
 use Rattle.terms.specs.Rows.{roles}
-use Rattle.terms.specs.Values.{expOf}
+use Rattle.scaling.specs.Scaled.{expOf}
 use Rattle.rows.specs.Ticks.{rootFor}
 use Rattle.rows.specs.Outcome.{outcomeOf}
 use Rattle.terms.specs.inner.Ready.{readyOf, Askable}

@@ -17,7 +17,8 @@ use Rattle.rows.specs.declared.Over.the-variants.{Within, Ticks, Injecti
 use Rattle.terms.specs.declared.Terms.{Terms}
 use Rattle.terms.specs.Rows.{Role, Summand, unit, root, Divisor, undivided, sumOf, Row, rowsFor, branches}
 use Rattle.terms.specs.Values.{tickOf, ratioOf}
-use Rattle.terms.specs.inner.Terms.{UpTo, leftOf, rightOf, RowTerms, RowsAt, none, more, TermsOf}
+use Rattle.scaling.specs.inner.Shifts.{UpTo}
+use Rattle.terms.specs.inner.Terms.{leftOf, rightOf, RowTerms, RowsAt, none, more, TermsOf}
 use Rattle.rows.specs.Ticks.{rootFor, summandOf, dividedBy, rowTicks}
 use Rattle.rows.specs.Outcome.{tickLimit, ratioLimit, someAbove, ratiosIn, firstOver}
 use Rattle.rows.specs.Outcome.{outcomeAt}

@@ -11,7 +11,7 @@ use Rattle.rows.specs.declared.Over.the-variants.{Within, Ticks, Injecti
 use Rattle.rows.specs.declared.Outcome.{Outcome}
 use Rattle.terms.specs.Rows.{Role, Divisor, undivided, sumOf, Row, rowsFor}
 use Rattle.terms.specs.Values.{tickOf, ratioOf, biasOf}
-pub use Rattle.terms.specs.Values.{tickLimit, ratioLimit}
+pub use Rattle.scaling.specs.Scaled.{tickLimit, ratioLimit}
 use Rattle.rows.specs.Ticks.{rowTicks}
 
 -- some number of the list is above the limit

@@ -5,7 +5,8 @@ use Rattle.whole.specs.Root.{rootOf}
 use Rattle.whole.specs.Quotient.{quotientOf}
 use Rattle.card.specs.declared.WorkedCard.{WorkedCard}
 use Rattle.terms.specs.Rows.{Role, Summand, unit, root, Divisor, undivided, sumOf, Row}
-use Rattle.terms.specs.Values.{partPlaces, tickOf, ratioOf}
+use Rattle.scaling.specs.Scaled.{partPlaces}
+use Rattle.terms.specs.Values.{tickOf, ratioOf}
 
 -- 1 in the parts of 2^-20 that ratios count
 abbrev pub oneUnit : ℕ

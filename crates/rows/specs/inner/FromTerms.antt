@@ -6,7 +6,7 @@ use lib.IntN.{ℤ, subℕ}
 use Rattle.whole.specs.Quotient.{quotientOf}
 use Rattle.terms.specs.declared.Terms.{Terms}
 use Rattle.terms.specs.Rows.{branches}
-use Rattle.terms.specs.Values.{tickLimit, ratioLimit}
+use Rattle.scaling.specs.Scaled.{tickLimit, ratioLimit}
 use Rattle.rows.specs.declared.Over.{Over}
 use Rattle.rows.specs.declared.Over.the-variants.{Within}
 use Rattle.rows.specs.declared.Outcome.{Outcome}

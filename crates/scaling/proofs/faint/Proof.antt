@@ -1,8 +1,8 @@
--- `values::faint` meets its contract: so far below nothing is left.
+-- `scaling::faint` meets its contract: so far below nothing is left.
 use borrow.Author.Needs.{needs}
-use Rattle.terms.proofs.Scaling.{none-left}
-use Rattle.terms.proofs.values.faint.Statement.{statement}
-use Rattle.terms.proofs.values.faint.Tie as tie
+use Rattle.scaling.proofs.Scaling.{none-left}
+use Rattle.scaling.proofs.faint.Statement.{statement}
+use Rattle.scaling.proofs.faint.Tie as tie
 
 returns : tie.Need-returns
 returns c =

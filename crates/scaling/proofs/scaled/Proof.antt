@@ -1,10 +1,10 @@
--- `values::scaled` meets its contract: the product is within 62 binary places.
+-- `scaling::scaled` meets its contract: the product is within 62 binary places.
 use Prim.Native.Nat.{_*_}
 use native.Mathlib.Omega.{arith}
 use borrow.Author.Needs.{needs}
-use Rattle.terms.proofs.Scaling.{Product, product}
-use Rattle.terms.proofs.values.scaled.Statement.{statement}
-use Rattle.terms.proofs.values.scaled.Tie as tie
+use Rattle.scaling.proofs.Scaling.{Product, product}
+use Rattle.scaling.proofs.scaled.Statement.{statement}
+use Rattle.scaling.proofs.scaled.Tie as tie
 
 small : (c : tie.Start) → Product (c .args .x .a * c .args .g .m)
 small c = product (c .pre .split) (c .pre .sized)

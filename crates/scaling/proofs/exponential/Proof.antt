@@ -1,9 +1,9 @@
--- `values::exponential` meets its contract: the exponential of the difference of two kept voltages.
+-- `scaling::exponential` meets its contract: the exponential of the difference of two kept voltages.
 use borrow.Author.Needs.{needs}
 use Rattle.volts.specs.laws.Keeping.{near-at}
-use Rattle.terms.proofs.Junctions.{junction-asked, junction-is}
-use Rattle.terms.proofs.values.exponential.Statement.{statement}
-use Rattle.terms.proofs.values.exponential.Tie as tie
+use Rattle.scaling.proofs.Junctions.{junction-asked, junction-is}
+use Rattle.scaling.proofs.exponential.Statement.{statement}
+use Rattle.scaling.proofs.exponential.Tie as tie
 
 across-requires : tie.Need-across-requires
 across-requires c κs = near-at (c .before .before .pre .near) (c .before .before .args .q)

@@ -18,9 +18,9 @@ use Rattle.octave.specs.Table.{places}
 use Rattle.octave.specs.Position.{octaveFrom}
 use Rattle.octave.specs.Exponential.{bias, exponentialOf}
 use Rattle.octave.specs.laws.Places.{exponential-mantissa, exponent-is}
-use Rattle.terms.specs.Values.{Scaled, valueAt, expOf, times, wholeTicks, wholeParts, tickLimit, ratioLimit}
-use Rattle.terms.specs.inner.Ready.{aloneOf, expAt}
-use Rattle.terms.specs.inner.Terms.{UpTo, Sized, scaledOf, moreParts}
+use Rattle.scaling.specs.Scaled.{Scaled, valueAt, expOf, times, wholeTicks, wholeParts, tickLimit, ratioLimit}
+use Rattle.scaling.specs.inner.Shifts.{aloneOf, expAt}
+use Rattle.scaling.specs.inner.Shifts.{UpTo, Sized, scaledOf, moreParts}
 
 -- ---- numbers up to a limit
 

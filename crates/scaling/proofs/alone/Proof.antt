@@ -1,9 +1,9 @@
--- `values::alone` meets its contract: the split's bias and the 50 places of a tick make one power.
+-- `scaling::alone` meets its contract: the split's bias and the 50 places of a tick make one power.
 use mathlib.Core.Path.{_∙_}
 use borrow.Author.Needs.{needs}
-use Rattle.terms.proofs.Scaling.{alone-is}
-use Rattle.terms.proofs.values.alone.Statement.{statement}
-use Rattle.terms.proofs.values.alone.Tie as tie
+use Rattle.scaling.proofs.Scaling.{alone-is}
+use Rattle.scaling.proofs.alone.Statement.{statement}
+use Rattle.scaling.proofs.alone.Tie as tie
 
 returns : tie.Need-returns
 returns c = c .floor-scale .ensures ∙ alone-is (c .before .before .before .args .x)
