@@ -22,7 +22,8 @@ use Rattle.places.specs.laws.Gather.{card-there, transistor-there}
 use Rattle.settle.specs.declared.First.{First}
 use Rattle.settle.specs.Change.{changes, changeBy}
 use Rattle.settle.specs.First.{earlier, firstBelow}
-use Rattle.settle.specs.inner.Working.{Deck, deckOf, cardOf, Able, Volts, totalMost, cardAt, nodesAt}
+use Rattle.flows.specs.inner.Workable.{Deck, deckOf, cardOf, Able, Volts}
+use Rattle.settle.specs.inner.Working.{totalMost, cardAt, nodesAt}
 use Rattle.model.specs.Board.{Board}
 use Rattle.model.specs.Counts.{nodesMost, cardsMost, transistorsMost}
 use Rattle.model.specs.Model.{cardsOf, transistorsOf, transistorAt, workedOn, voltsOf}

@@ -34,8 +34,9 @@ use Rattle.places.specs.inner.Placing.{placing, wayOf}
 use Rattle.places.specs.laws.Gather.{card-place, joined-flat, first-transistor, transistor-place}
 use Rattle.places.specs.laws.Founds.{not-there}
 use Rattle.places.specs.laws.Ways.{stopped, went}
-use Rattle.settle.specs.Change.{backFlow}
-use Rattle.settle.specs.inner.Working.{deckOf, Workable, cardOf, nodesAt}
+use Rattle.flows.specs.Back.{backFlow}
+use Rattle.flows.specs.inner.Workable.{deckOf, Workable, cardOf}
+use Rattle.settle.specs.inner.Working.{nodesAt}
 use Rattle.model.specs.Board.{Board}
 use Rattle.model.specs.declared.Answer.the-variants.{Issue, Done, Refused}
 use Rattle.model.specs.Board.{Answered}

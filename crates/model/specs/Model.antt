@@ -25,7 +25,8 @@ use Rattle.places.specs.Gathered.{Card, Transistor, cardsIn, transistorsIn, emp
 use Rattle.places.specs.Gathered.{noTransistor, workedAt}
 use Rattle.places.specs.Finding.{cardPlace, transistorPlace, freeCard, freeTransistor, standsOn, standsAt, highestAt}
 use Rattle.settle.specs.declared.First.{First}
-use Rattle.settle.specs.Change.{backFlow, changes}
+use Rattle.flows.specs.Back.{backFlow}
+use Rattle.settle.specs.Change.{changes}
 use Rattle.settle.specs.First.{firstBelow}
 use Rattle.model.specs.Board.{Board}
 use Rattle.model.specs.declared.Answer.the-variants.{Issue, Done, Node, Refused}

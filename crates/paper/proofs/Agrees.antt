@@ -35,7 +35,8 @@ use Rattle.deck.specs.Stretch.{stretch, written}
 use Rattle.deck.specs.Layout.{readyAt, cardsMost}
 use Rattle.places.specs.Gathered.{cardsIn, transistorsIn}
 use Rattle.places.specs.Finding.{first, freeCard}
-use Rattle.settle.specs.Change.{backFlow, changeBy, changes}
+use Rattle.flows.specs.Back.{backFlow}
+use Rattle.settle.specs.Change.{changeBy, changes}
 use Rattle.settle.specs.First.{firstBelow}
 use Rattle.model.specs.Board.{Board}
 use Rattle.model.specs.Verdict.{loadOrder, loadVerdict, placeVerdict, moveVerdict}

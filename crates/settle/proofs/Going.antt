@@ -22,10 +22,12 @@ use Rattle.places.specs.Counts.{transistorsMost}
 use Rattle.places.specs.Sets.{member}
 use Rattle.places.specs.inner.Parts.{NextIn}
 use Rattle.settle.specs.declared.First.{First}
-use Rattle.settle.specs.Change.{backFlow, changeBy, changes}
+use Rattle.flows.specs.Back.{backFlow}
+use Rattle.settle.specs.Change.{changeBy, changes}
 use Rattle.settle.specs.First.{earlier, firstBelow, nobody}
-use Rattle.settle.specs.inner.Working.{Deck, cardAt, nodesAt, gained, overOf, Settling, totalMost, Able, Workable}
-use Rattle.settle.specs.inner.Working.{Volts, cardOf}
+use Rattle.flows.specs.inner.Workable.{Deck, Able, Workable}
+use Rattle.settle.specs.inner.Working.{cardAt, nodesAt, gained, overOf, Settling, totalMost}
+use Rattle.flows.specs.inner.Workable.{Volts, cardOf}
 
 -- ---- sums and firsts over places that are passed over
 

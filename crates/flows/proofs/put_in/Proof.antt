@@ -4,9 +4,9 @@ use borrow.Author.Needs.{needs}
 use Rattle.rows.specs.declared.Outcome.{Outcome}
 use Rattle.rows.specs.Outcome.{tickLimit}
 use Rattle.totals.specs.inner.Sums.{Within}
-use Rattle.settle.proofs.Currents.{ticks-within, over-told, gives-flow}
-use Rattle.settle.proofs.put_in.Statement.{statement}
-use Rattle.settle.proofs.put_in.Tie as tie
+use Rattle.flows.proofs.Currents.{ticks-within, over-told, gives-flow}
+use Rattle.flows.proofs.put_in.Statement.{statement}
+use Rattle.flows.proofs.put_in.Tie as tie
 
 -- earlier places, from later ones
 abbrev start : tie.After-given2 → tie.Start

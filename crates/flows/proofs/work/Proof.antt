@@ -6,9 +6,9 @@ use lib.ListN.{length, length-map}
 use Rattle.volts.specs.Volts.{AllNear}
 use Rattle.terms.specs.inner.Ready.{IsReady}
 use Rattle.terms.specs.Rows.{roles}
-use Rattle.settle.proofs.Currents.{roles-near, works}
-use Rattle.settle.proofs.work.Statement.{statement}
-use Rattle.settle.proofs.work.Tie as tie
+use Rattle.flows.proofs.Currents.{roles-near, works}
+use Rattle.flows.proofs.work.Statement.{statement}
+use Rattle.flows.proofs.work.Tie as tie
 
 role-volts-requires : tie.Need-role-volts-requires
 role-volts-requires c κs = (record { wired = c .pre .able .wired }, c .pre .able .long)

@@ -4,9 +4,9 @@ use borrow.Author.Needs.{needs}
 use Rattle.rows.specs.declared.Outcome.{Outcome}
 use Rattle.rows.specs.Outcome.{tickLimit}
 use Rattle.totals.specs.inner.Sums.{Within}
-use Rattle.settle.proofs.Currents.{ticks-within, takes-flow}
-use Rattle.settle.proofs.take_out.Statement.{statement}
-use Rattle.settle.proofs.take_out.Tie as tie
+use Rattle.flows.proofs.Currents.{ticks-within, takes-flow}
+use Rattle.flows.proofs.take_out.Statement.{statement}
+use Rattle.flows.proofs.take_out.Tie as tie
 
 -- earlier places, from later ones
 abbrev after-work : tie.After-take → tie.After-work

@@ -20,8 +20,8 @@ use Rattle.totals.proofs.Integers.{abs-neg}
 use Rattle.totals.proofs.Lists.{getD-map}
 use Rattle.totals.proofs.Roles.{roles-are-rows, roles-turned}
 use Rattle.totals.proofs.Amounts.{small-rows}
-use Rattle.settle.specs.Change.{backFlow}
-use Rattle.settle.specs.inner.Working.{rolesOf, Volts}
+use Rattle.flows.specs.Back.{backFlow}
+use Rattle.flows.specs.inner.Workable.{rolesOf, Volts}
 
 -- ---- the voltages of the roles
 

@@ -6,8 +6,8 @@ use borrow.Author.Needs.{needs}
 use Rattle.terms.specs.Rows.{roles}
 use Rattle.rows.specs.laws.Filled.{Filled, filled-none, filled-more}
 use Rattle.totals.proofs.Lists.{filled-map}
-use Rattle.settle.proofs.role_volts.Statement.{statement}
-use Rattle.settle.proofs.role_volts.Tie as tie
+use Rattle.flows.proofs.role_volts.Statement.{statement}
+use Rattle.flows.proofs.role_volts.Tie as tie
 
 abbrev Inv-loop : tie.InvT-loop
 Inv-loop volts on v₀ k₀ v k = (k ≤ roles) × Filled 0 roles (λ (i : ℕ). getD volts (getD on i 0) 0) k v
