@@ -24,16 +24,16 @@ use Rattle.totals.specs.inner.Sizes.{roomMost}
 use Rattle.given.specs.Arguments.{Found, none, some, issueOf, issuesMost, usedUp}
 use Rattle.given.specs.inner.Nodes.{nodeOf}
 use Rattle.deck.specs.Stretch.{written}
-use Rattle.places.specs.declared.Way.{Way}
-use Rattle.places.specs.declared.Way.the-variants.{Go, Stop}
+use Rattle.placing.specs.declared.Way.{Way}
+use Rattle.placing.specs.declared.Way.the-variants.{Go, Stop}
 use Rattle.places.specs.Gathered.{Transistor, emptyTransistor, noCard, workedAt}
 use Rattle.places.specs.Finding.{cardPlace, transistorPlace, freeTransistor}
 use Rattle.places.specs.inner.Flat.{firstAt, freePlace, numberPlace, joinedAt}
 use Rattle.places.specs.inner.Parts.{placeOr}
-use Rattle.places.specs.inner.Placing.{placing, wayOf}
+use Rattle.placing.specs.inner.Placing.{placing, wayOf}
 use Rattle.places.specs.laws.Gather.{card-place, joined-flat, first-transistor, transistor-place}
 use Rattle.places.specs.laws.Founds.{not-there}
-use Rattle.places.specs.laws.Ways.{stopped, went}
+use Rattle.placing.specs.laws.Ways.{stopped, went}
 use Rattle.flows.specs.Back.{backFlow}
 use Rattle.flows.specs.inner.Workable.{deckOf, Workable, cardOf}
 use Rattle.settle.specs.inner.Working.{nodesAt}

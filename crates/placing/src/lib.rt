@@ -6,21 +6,25 @@ ghost use lib.Dec.{leb};
 ghost use Rattle.totals.specs.Gives.{nodesMost};
 ghost use Rattle.given.specs.Lists.{anyOf};
 ghost use Rattle.given.specs.Arguments.{usedUp};
 ghost use Rattle.places.specs.Counts.{cardsMost, transistorsMost};
 ghost use Rattle.places.specs.inner.Flat.{numberPlace, freePlace, joinedAt};
-ghost use Rattle.places.specs.inner.Placing.{apartOn, placing, wayOf};
-use crate::CARDS;
-use crate::TRANSISTORS;
-use crate::Way;
-use crate::finds;
+ghost use Rattle.placing.specs.inner.Placing.{apartOn, placing, wayOf};
 use branch::ROLES;
 use deck::ALL_SWITCHES;
 use deck::SWITCHES;
 use given::ISSUES;
+use places::CARDS;
+use places::TRANSISTORS;
 use refusal::Refusal;
 use terms::C1;
 use terms::C4;
 use totals::NODES;
+
+// The places of the card and of the transistor to be, or the refusal.
+pub enum Way {
+    Go(usize, usize),
+    Stop(Refusal),
+}
 
 // Whether a node is none of the board's.
 fn any_off(on: [u8; ROLES]) -> bool
@@ -57,7 +61,7 @@ pub fn may_place(
 ) -> Way
     ensures { λ r. ⌜ r ≡ wayOf (freePlace (now (issues .entry))) (placing (numberPlace cardsMost n (now (held .entry))) (joinedAt (now (switches .entry))) (now (on .entry)) (leb transistorsMost (freePlace (now (issues .entry)))) (usedUp next)) ⌝ }
 {
-    let i = finds::card_at(held, n);
+    let i = places::card_at(held, n);
     if CARDS <= i {
         return Way::Stop(Refusal::Unknown);
     }
@@ -68,7 +72,7 @@ pub fn may_place(
     if is_split(switches, i, on) {
         return Way::Stop(Refusal::SplitCollector);
     }
-    let free = finds::find_transistor(issues, 0);
+    let free = places::find_transistor(issues, 0);
     if TRANSISTORS <= free {
         return Way::Stop(Refusal::NoRoom);
     }

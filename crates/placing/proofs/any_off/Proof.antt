@@ -8,9 +8,9 @@ use borrow.Author.Needs.{needs}
 use borrow.Author.Tests.{le-leb, lt-leb}
 use Rattle.terms.specs.Rows.{roles}
 use Rattle.totals.specs.Gives.{nodesMost}
 use Rattle.places.proofs.Scans.{Passed, at-start, goes-on, any-here, any-nowhere}
-use Rattle.places.proofs.rules.any_off.Statement.{statement}
-use Rattle.places.proofs.rules.any_off.Tie as tie
+use Rattle.placing.proofs.any_off.Statement.{statement}
+use Rattle.placing.proofs.any_off.Tie as tie
 
 abbrev Inv-loop : tie.InvT-loop
 Inv-loop on k₀ k = (k ≤ roles) × Passed (leb nodesMost) on k

@@ -7,13 +7,13 @@ use lib.Dec.{leb}
 use borrow.Author.Tests.{le-leb, lt-leb, lt-ltb, le-ltb}
 use Rattle.refusal.specs.declared.Refusal.the-variants.{NoRoom, Unknown, OutOfRange, SplitCollector, NumbersUsedUp}
 use Rattle.totals.specs.Gives.{nodesMost}
-use Rattle.places.specs.declared.Way.{Way}
-use Rattle.places.specs.declared.Way.the-variants.{Go, Stop}
+use Rattle.placing.specs.declared.Way.{Way}
+use Rattle.placing.specs.declared.Way.the-variants.{Go, Stop}
 use Rattle.given.specs.Lists.{anyOf}
 use Rattle.given.specs.Arguments.{none, some, issuesMost, usedUp}
 use Rattle.places.specs.Counts.{cardsMost, transistorsMost}
 use Rattle.places.specs.inner.Flat.{numberPlace, freePlace, joinedAt}
-use Rattle.places.specs.inner.Placing.{apartOn, placing, wayOf}
+use Rattle.placing.specs.inner.Placing.{apartOn, placing, wayOf}
 
 module _ (held : List ℕ) (switches : List Bool) (issues : List ℕ) (next n : ℕ) (on : List ℕ) where
   abbrev way : Way

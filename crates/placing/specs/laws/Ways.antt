@@ -4,8 +4,8 @@ use Prim.Native.Nat.{ℕ}
 use Rattle.refusal.specs.declared.Refusal.{Refusal}
 use Rattle.refusal.specs.Order.{Verdict, no, yes}
 use Rattle.refusal.specs.Clash.{clash}
-use Rattle.places.specs.declared.Way.the-variants.{Go, Stop}
-use Rattle.places.specs.inner.Placing.{wayOf}
+use Rattle.placing.specs.declared.Way.the-variants.{Go, Stop}
+use Rattle.placing.specs.inner.Placing.{wayOf}
 
 pub stopped : (free : ℕ) (v : Verdict ℕ) {f : Refusal} → wayOf free v ≡ Stop f → v ≡ no f
 stopped free (no g) e = cc

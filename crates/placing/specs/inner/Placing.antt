@@ -7,8 +7,8 @@ use lib.ListN.{getD}
 use Rattle.refusal.specs.declared.Refusal.the-variants.{NoRoom, OutOfRange, SplitCollector, NumbersUsedUp}
 use Rattle.refusal.specs.Order.{Verdict, no, yes, refuseIf, andThen}
 use Rattle.terms.specs.Rows.{C1, C4, roleIndex}
-use Rattle.places.specs.declared.Way.{Way}
-use Rattle.places.specs.declared.Way.the-variants.{Go, Stop}
+use Rattle.placing.specs.declared.Way.{Way}
+use Rattle.placing.specs.declared.Way.the-variants.{Go, Stop}
 use Rattle.totals.specs.Gives.{nodesMost}
 use Rattle.given.specs.Lists.{anyOf}
 use Rattle.given.specs.Arguments.{Found, known}

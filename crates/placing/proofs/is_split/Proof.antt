@@ -1,7 +1,7 @@
 -- `is_split` compares two nodes where the card joins them.
 use borrow.Author.Needs.{needs}
-use Rattle.places.proofs.rules.is_split.Statement.{statement}
-use Rattle.places.proofs.rules.is_split.Tie as tie
+use Rattle.placing.proofs.is_split.Statement.{statement}
+use Rattle.placing.proofs.is_split.Tie as tie
 
 returns : tie.Need-returns
 returns c = rw (c .before .before .if1 .taken)

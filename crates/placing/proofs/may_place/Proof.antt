@@ -7,13 +7,13 @@ use borrow.Author.Needs.{needs}
 use Rattle.totals.specs.Gives.{nodesMost}
 use Rattle.given.specs.Lists.{anyOf}
 use Rattle.given.specs.Arguments.{some}
 use Rattle.places.specs.Counts.{cardsMost, transistorsMost}
 use Rattle.places.specs.inner.Flat.{firstAt, numberPlace, joinedAt}
-use Rattle.places.specs.inner.Placing.{apartOn}
+use Rattle.placing.specs.inner.Placing.{apartOn}
 use Rattle.places.specs.laws.Founds.{not-there, is-there}
-use Rattle.places.proofs.Ways.{stop-unknown, stop-off, stop-split, stop-full, stop-used-up, goes}
-use Rattle.places.proofs.rules.may_place.Statement.{statement}
-use Rattle.places.proofs.rules.may_place.Tie as tie
+use Rattle.placing.proofs.Ways.{stop-unknown, stop-off, stop-split, stop-full, stop-used-up, goes}
+use Rattle.placing.proofs.may_place.Statement.{statement}
+use Rattle.placing.proofs.may_place.Tie as tie
 
 -- earlier places, from later ones
 abbrev start : tie.Else1 → tie.Start
