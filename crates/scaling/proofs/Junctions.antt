@@ -1,4 +1,4 @@
--- The exponential of a junction: from the kept voltages of its two roles to the definition's, of which the code has one.
+-- The exponential of a junction: from the kept voltages of its two roles to the definition's; and that it is one.
 use mathlib.Core.Path.{_≡_, sym, ap, ap₂, _∙_}
 use mathlib.Core.List.{List, map}
 use Prim.Native.Nat.{ℕ, _+_, _*_, _≤_}

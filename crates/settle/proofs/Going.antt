@@ -7,10 +7,8 @@ use mathlib.Core.List.{List, map}
 use Prim.Native.Nat.{ℕ, zero, suc, _+_, _-_, _≤_, _<_, zero-le}
 use native.Mathlib.Numerals.{add-one}
 use native.Mathlib.Omega.{arith}
-use lib.Dec.{eqb}
 use lib.ListN.{length, getD, List·getD-eq-default}
 use lib.IntN.{ℤ, pos, natAbs, _+ℤ_, +ℤ-idr, +ℤ-assoc}
-use borrow.Author.Tests.{eqb-true, eqb-false}
 use Rattle.whole.specs.laws.Biased.{below-or-not}
 use Rattle.volts.specs.Volts.{givenBack}
 use Rattle.octave.specs.Table.{entries}
@@ -25,7 +23,7 @@ use Rattle.settle.specs.declared.First.{First}
 use Rattle.flows.specs.Back.{backFlow}
 use Rattle.settle.specs.Change.{changeBy, changes}
 use Rattle.settle.specs.First.{earlier, firstBelow, nobody}
-use Rattle.flows.specs.inner.Workable.{Deck, Able, Workable}
+use Rattle.flows.specs.inner.Workable.{Deck, Workable}
 use Rattle.settle.specs.inner.Working.{cardAt, nodesAt, gained, overOf, Settling, totalMost}
 use Rattle.flows.specs.inner.Workable.{Volts, cardOf}
 
