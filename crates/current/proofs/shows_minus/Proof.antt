@@ -1,7 +1,7 @@
--- `digits::shows_minus` meets its contract.
+-- `shows_minus` meets its contract.
 use borrow.Author.Needs.{needs}
-use Rattle.sheet.proofs.digits.shows_minus.Tie as tie
-use Rattle.sheet.proofs.digits.shows_minus.Statement.{statement}
+use Rattle.current.proofs.shows_minus.Tie as tie
+use Rattle.current.proofs.shows_minus.Statement.{statement}
 
 returns : tie.Need-returns
 returns c = rw (c .if1 .taken)

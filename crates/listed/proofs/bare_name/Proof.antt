@@ -4,11 +4,9 @@ use Prim.Native.Nat.{_-_}
 use native.Mathlib.Nat.{sub-zero}
 use lib.ListN.{length}
 use borrow.Author.Needs.{needs}
-use Rattle.name.specs.Name.{padded}
-use Rattle.sheet.proofs.ByteLoops.{Bare, bare-on, bare-stop, bare-end}
-use Rattle.sheet.proofs.bare_name.Tie as tie
-use Rattle.sheet.proofs.bare_name.Statement.{statement}
-use Rattle.spelling.proofs.Ranges.{within}
+use Rattle.listed.proofs.Bares.{Bare, bare-on, bare-stop, bare-end}
+use Rattle.listed.proofs.bare_name.Tie as tie
+use Rattle.listed.proofs.bare_name.Statement.{statement}
 
 abbrev Inv-loop : tie.InvT-loop
 Inv-loop padded i₀ i = Bare padded i

@@ -1,4 +1,4 @@
--- `digits::open` meets its contract: a signed number in its two halves, and its size in each.
+-- `open` meets its contract: a signed number in its two halves, and its size in each.
 use mathlib.Core.Path.{_≡_, sym, ap, subst}
 use native.Mathlib.Numerals.{add-one}
 use native.Mathlib.Omega.{arith}
@@ -8,9 +8,9 @@ use mir.Val.{SFits}
 use mir.ValLaws.{toZ-ofZ}
 use borrow.Author.Needs.{needs}
 use Rattle.whole.specs.Signed.{opened}
-use Rattle.sheet.specs.Digits.{openedOf}
-use Rattle.sheet.proofs.digits.open.Tie as tie
-use Rattle.sheet.proofs.digits.open.Statement.{statement}
+use Rattle.current.specs.Current.{openedOf}
+use Rattle.current.proofs.open.Tie as tie
+use Rattle.current.proofs.open.Statement.{statement}
 
 abbrev start-before-known-told2 : tie.After-known-told2 → tie.Start
 start-before-known-told2 c = c .before .before .before .before

@@ -1,8 +1,8 @@
--- `lines::listed_mask` meets its contract: below, in and above the range.
+-- `listed_mask` meets its contract: below, in and above the range.
 use native.Mathlib.Omega.{arith}
 use Rattle.spelling.proofs.Ranges.{within, under, above}
-use Rattle.sheet.proofs.lines.listed_mask.Tie as tie
-use Rattle.sheet.proofs.lines.listed_mask.Statement.{statement}
+use Rattle.listed.proofs.listed_mask.Tie as tie
+use Rattle.listed.proofs.listed_mask.Statement.{statement}
 
 returns : tie.Need-returns
 returns c = simp (within 6 (c .before .before .args .number) 10 (omega arith) (omega arith))
