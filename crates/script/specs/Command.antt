@@ -5,9 +5,9 @@ use mathlib.Core.List.{List}
 use Prim.Native.Nat.{ℕ, _-_}
 use lib.Dec.{eqb, ltb}
 use lib.ListN.{length, getD}
-use Rattle.spelling.specs.declared.Hex.{Hex}
-use Rattle.spelling.specs.declared.Hex.the-variants.{Bytes, Bad}
-use Rattle.spelling.specs.Hex.{spells, pairsOf, hexIf, overIf}
+use Rattle.hex.specs.declared.Hex.{Hex}
+use Rattle.hex.specs.declared.Hex.the-variants.{Bytes, Bad}
+use Rattle.hex.specs.Hex.{spells, pairsOf, hexIf, overIf}
 use Rattle.words.specs.declared.Words.{Words}
 use Rattle.script.specs.declared.Command.{Command}
 use Rattle.script.specs.declared.Row.{Row}

@@ -9,7 +9,7 @@ ghost use Rattle.script.specs.Command.{mostBytes, passedOver, said, Says
 use crate::Command;
 use crate::Verb;
 use crate::Wants;
-use spelling::Hex;
+use hex::Hex;
 use words::Words;
 use words::are_numbers;
 use words::numbers_of;
@@ -64,7 +64,7 @@ fn said_hex(line: &[u8], words: Words, verb: Verb, bytes: &mut [u8]) -> Command
     if words.count != 3 {
         return said(line, words, Verb::Error, 0);
     }
-    match spelling::hex_bytes(word(line, words, 2), bytes) {
+    match hex::hex_bytes(word(line, words, 2), bytes) {
         Hex::Bytes(n) => said(line, words, verb, n),
         Hex::Bad => said(line, words, Verb::Error, 0),
     }

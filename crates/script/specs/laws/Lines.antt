@@ -7,7 +7,7 @@ use borrow.Author.Tests.{lt-ltb}
 use lib.IntN.{pos, negsuc}
 use lib.ListN.{length}
 use Rattle.spelling.specs.Number.{parsedOf, parsedWith, allDigits, decimalFrom}
-use Rattle.spelling.specs.Hex.{spells, allPairs, pairsOf}
+use Rattle.hex.specs.Hex.{spells, allPairs, pairsOf}
 use Rattle.script.specs.declared.Verb.{Verb}
 use Rattle.script.specs.declared.Verb.the-variants.{Record, Lift, Withdraw, Sheet, Nothing, TooLong, Error}
 use Rattle.spelling.specs.Bytes.{bytes}

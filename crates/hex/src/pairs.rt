@@ -3,7 +3,7 @@ ghost use mathlib.Core.Path.{_≡_};
 ghost use Prim.Native.Nat.{_/_, _≤_, _<_};
 ghost use lib.ListN.{length};
 ghost use Rattle.bytes_le.specs.Buffer.{over};
-ghost use Rattle.spelling.specs.Hex.{isHex, nibbleOf, isDash, allPairs, pairsOf};
+ghost use Rattle.hex.specs.Hex.{isHex, nibbleOf, isDash, allPairs, pairsOf};
 
 fn is_hex(b: u8) -> bool
     ensures { λ r. ⌜ r ≡ isHex b ⌝ }

@@ -1,9 +1,9 @@
 -- `hex_bytes` meets its contract: a dash, too many pairs, pairs, or other bytes.
 use mathlib.Core.Path.{sym, _∙_}
 use borrow.Author.Needs.{needs}
-use Rattle.spelling.proofs.HexPairs.{dashed, too-many, not-pairs, all-spelled}
-use Rattle.spelling.proofs.hex_bytes.Tie as tie
-use Rattle.spelling.proofs.hex_bytes.Statement.{statement}
+use Rattle.hex.proofs.HexPairs.{dashed, too-many, not-pairs, all-spelled}
+use Rattle.hex.proofs.hex_bytes.Tie as tie
+use Rattle.hex.proofs.hex_bytes.Statement.{statement}
 
 returns : tie.Need-returns
 returns c = dashed _ _ (sym (c .if1 .taken) ∙ c .before .is-dash .ensures)

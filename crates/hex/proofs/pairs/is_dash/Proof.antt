@@ -1,8 +1,8 @@
 -- `pairs::is_dash` meets its contract.
 use borrow.Author.Tests.{eq-eqb, ne-eqb}
 use borrow.Author.Needs.{needs}
-use Rattle.spelling.proofs.pairs.is_dash.Tie as tie
-use Rattle.spelling.proofs.pairs.is_dash.Statement.{statement}
+use Rattle.hex.proofs.pairs.is_dash.Tie as tie
+use Rattle.hex.proofs.pairs.is_dash.Statement.{statement}
 
 returns : tie.Need-returns
 returns c = simp (ne-eqb _ _ (c .if1 .taken))

@@ -4,9 +4,9 @@ use Prim.Native.Nat.{ℕ, _+_, _*_}
 use native.Mathlib.Omega.{arith}
 use lib.ListN.{length, length-drop}
 use borrow.Author.Needs.{needs}
-use Rattle.spelling.proofs.HexPairs.{Spelling, after-two, spell-first, spell-small, spell-on, spell-end}
-use Rattle.spelling.proofs.pairs.fill.Tie as tie
-use Rattle.spelling.proofs.pairs.fill.Statement.{statement}
+use Rattle.hex.proofs.HexPairs.{Spelling, after-two, spell-first, spell-small, spell-on, spell-end}
+use Rattle.hex.proofs.pairs.fill.Tie as tie
+use Rattle.hex.proofs.pairs.fill.Statement.{statement}
 
 abbrev Inv-loop : tie.InvT-loop
 Inv-loop word out₀ t₀ i₀ out t i = Spelling word out₀ out t i

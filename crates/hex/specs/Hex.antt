@@ -6,8 +6,8 @@ use Prim.Native.Nat.{ℕ, _+_, _*_, _-_, _/_}
 use lib.Dec.{eqb, leb}
 use lib.ListN.{length, getD}
 use Rattle.bytes_le.specs.Buffer.{over}
-use Rattle.spelling.specs.declared.Hex.{Hex}
-use Rattle.spelling.specs.declared.Hex.the-variants.{Bytes, Bad}
+use Rattle.hex.specs.declared.Hex.{Hex}
+use Rattle.hex.specs.declared.Hex.the-variants.{Bytes, Bad}
 
 abbrev pub between : ℕ → ℕ → ℕ → Bool
 between low b high = leb low b && leb b high

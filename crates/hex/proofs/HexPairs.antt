@@ -11,9 +11,9 @@ use lib.ListN.{length, take, drop, getD, set, length-drop}
 use lib.Seq.{take-all, getD-drop, drop-drop}
 use Rattle.bytes_le.specs.Buffer.{over}
 use Rattle.name.proofs.Laws.{Filled, fill-first, fill-more, fill-all}
-use Rattle.spelling.specs.declared.Hex.{Hex}
-use Rattle.spelling.specs.declared.Hex.the-variants.{Bytes, Bad}
-use Rattle.spelling.specs.Hex.{isHex, nibbleOf, allPairs, pairsOf, isDash, spells, hexIf, overIf, ReadsHex}
+use Rattle.hex.specs.declared.Hex.{Hex}
+use Rattle.hex.specs.declared.Hex.the-variants.{Bytes, Bad}
+use Rattle.hex.specs.Hex.{isHex, nibbleOf, allPairs, pairsOf, isDash, spells, hexIf, overIf, ReadsHex}
 
 -- two bytes, and those after them
 two : (s : List ℕ) → 2 ≤ length s → s ≡ getD s 0 0 ∷ getD s 1 0 ∷ drop 2 s
@@ -89,7 +89,9 @@ module _ {word old cur t : List ℕ} {i : ℕ} (v : Spelling word old cur t i) w
     pub spell-on : (x : ℕ) → x ≡ byte → Spelling word old (set cur i x) (drop 2 t) (i + 1)
     spell-on x e =
         let z : i + 0 ≡ i = omega arith in
-        let here : byte ≡ getD (pairsOf word) i 0 = ap (λ (l : List ℕ). getD l 0 0) (sym next) ∙ getD-drop i (pairsOf word) 0 0 ∙ ap (λ (n : ℕ). getD (pairsOf word) n 0) z in record {
+        let l = pairsOf word in
+        let first : byte ≡ getD (drop i l) 0 0 = ap (λ (k : List ℕ). getD k 0 0) (sym next) in
+        let here : byte ≡ getD l i 0 = first ∙ getD-drop i l 0 0 ∙ ap (λ (n : ℕ). getD l n 0) z in record {
           filled = fill-more (v .filled) x spell-room (e ∙ here);
           rest = sym (drop-drop 1 i (pairsOf word)) ∙ ap (drop 1) next;
         }

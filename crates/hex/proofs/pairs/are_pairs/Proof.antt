@@ -3,9 +3,9 @@ use mathlib.Core.Path.{refl, sym, _∙_}
 use native.Mathlib.Omega.{arith}
 use lib.ListN.{length, length-drop}
 use borrow.Author.Needs.{needs}
-use Rattle.spelling.proofs.HexPairs.{Same, after-two, pairs-on, pairs-first, pairs-second, pairs-end}
-use Rattle.spelling.proofs.pairs.are_pairs.Tie as tie
-use Rattle.spelling.proofs.pairs.are_pairs.Statement.{statement}
+use Rattle.hex.proofs.HexPairs.{Same, after-two, pairs-on, pairs-first, pairs-second, pairs-end}
+use Rattle.hex.proofs.pairs.are_pairs.Tie as tie
+use Rattle.hex.proofs.pairs.are_pairs.Statement.{statement}
 
 abbrev Inv-loop : tie.InvT-loop
 Inv-loop word t₀ t = Same word t
