@@ -8,10 +8,10 @@ use native.Mathlib.Omega.{arith}
 use borrow.Author.Tests.{ltb-true, leb-true, eqb-true, lt-ltb, le-ltb, le-leb, lt-leb, eq-eqb, ne-eqb}
 use lib.Dec.{eqb, leb, ltb}
 use lib.ListN.{length, take, drop}
-use Rattle.directory.specs.Directory.{nameBytes}
+use Rattle.roll.specs.Directory.{nameBytes}
 use Rattle.name.proofs.Laws.{and-true, and-false}
 use Rattle.directory.specs.Format.{headerBytes, mostCards, wordsOf, writtenVersion, recordsAt, wholeOf, version, count, directoryOffset, recordsOffset, wholeLength, agree, headed, directory}
-use Rattle.directory.proofs.Verdicts.{never}
+use Rattle.roll.proofs.Names.{never}
 use Rattle.directory.specs.Format.{mostWords}
 
 -- no record is wider than that, so the words of all cards are few

@@ -1,9 +1,9 @@
 -- `directory::doubled` meets its contract: of the names passed none stands twice, and each has its mark.
 use native.Mathlib.Omega.{arith}
-use Rattle.directory.proofs.Doubles.{holds-name, Marked, marks-all, marks-more, marks-none, marks-twice}
+use Rattle.roll.proofs.Doubles.{holds-name, Marked, marks-all, marks-more, marks-none, marks-twice}
 use borrow.Author.Needs.{needs}
-use Rattle.directory.proofs.doubled.Statement.{statement}
-use Rattle.directory.proofs.doubled.Tie as tie
+use Rattle.roll.proofs.doubled.Statement.{statement}
+use Rattle.roll.proofs.doubled.Tie as tie
 
 abbrev Inv-loop : tie.InvT-loop
 Inv-loop d marks₀ i₀ marks i = Marked d marks i

@@ -11,10 +11,9 @@ use Rattle.bytes_le.specs.Le.{le, bytesOf, Word, wordBytes}
 use Rattle.bytes_le.proofs.Laws.{rest}
 use Rattle.name.specs.Name.{same, same-equal}
 use Rattle.name.proofs.Laws.{Words, words-of}
-use Rattle.directory.specs.Directory.{among, twice, nameBytes, namesHeld, namesIn}
-use Rattle.directory.proofs.Names.{or-true, or-false, cut-none, cut-more}
-use Rattle.directory.proofs.Verdicts.{never}
-use Rattle.directory.specs.inner.Marks.{slotOf, slots}
+use Rattle.roll.specs.Directory.{among, twice, nameBytes, namesHeld, namesIn}
+use Rattle.roll.proofs.Names.{never, or-true, or-false, cut-none, cut-more}
+use Rattle.roll.specs.inner.Marks.{slotOf, slots}
 
 -- the number of a name's mark
 abbrev markOf : List ℕ → ℕ

@@ -4,8 +4,8 @@ use native.Mathlib.Omega.{arith}
 use borrow.Author.Tests.{lt-ltb, le-ltb}
 use Rattle.name.proofs.Laws.{and-true, and-false}
 use borrow.Author.Needs.{needs}
-use Rattle.directory.proofs.again.Statement.{statement}
-use Rattle.directory.proofs.again.Tie as tie
+use Rattle.roll.proofs.again.Statement.{statement}
+use Rattle.roll.proofs.again.Tie as tie
 
 returns : tie.Need-returns
 returns c = sym (and-false (le-ltb 0 (c .before .before .args .mark) (omega arith)) _)

@@ -2,11 +2,11 @@
 use mathlib.Core.Path.{sym}
 use Rattle.name.proofs.Laws.{Words, words-of, words-made, low-apart, high-decides}
 use borrow.Author.Needs.{needs}
-use Rattle.directory.proofs.starts.Statement.{statement}
-use Rattle.directory.proofs.starts.Tie as tie
+use Rattle.roll.proofs.starts.Statement.{statement}
+use Rattle.roll.proofs.starts.Tie as tie
 use mathlib.Core.List.{_++_}
 use Rattle.bytes_le.specs.Le.{bytesOf, wordBytes}
-use Rattle.directory.specs.Directory.{nameBytes}
+use Rattle.roll.specs.Directory.{nameBytes}
 use lib.ListN.{take}
 
 here : (c : tie.After-u64-at2)

@@ -9,7 +9,11 @@ use native.Mathlib.Omega.{arith}
 use lib.Dec.{lit<}
 use lib.ListN.{length, take, drop, length-drop}
 use Rattle.bytes_le.proofs.Laws.{rest}
-use Rattle.directory.specs.Directory.{nameBytes, pieces, cut, namesIn}
+use Rattle.roll.specs.Directory.{nameBytes, pieces, cut, namesIn}
+
+-- what is not so
+pub never : {X : Type 0} → _≡_ {A = ℕ} 0 1 → X
+never e = absurd (omega arith)
 
 pub or-true : {a : Bool} → a ≡ true → (b : Bool) → a || b ≡ true
 or-true e b = ap (λ (t : Bool). t || b) e

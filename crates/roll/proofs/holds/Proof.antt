@@ -3,11 +3,11 @@ use mathlib.Core.Path.{refl, sym, _∙_}
 use mathlib.Core.List.{_++_}
 use lib.ListN.{length}
 use Rattle.bytes_le.specs.Le.{bytesOf, wordBytes}
-use Rattle.directory.specs.Directory.{among}
-use Rattle.directory.proofs.Names.{or-true, or-false, shorter, Walk, walk-end, walk-here, walk-on}
+use Rattle.roll.specs.Directory.{among}
+use Rattle.roll.proofs.Names.{or-true, or-false, shorter, Walk, walk-end, walk-here, walk-on}
 use borrow.Author.Needs.{needs}
-use Rattle.directory.proofs.holds.Statement.{statement}
-use Rattle.directory.proofs.holds.Tie as tie
+use Rattle.roll.proofs.holds.Statement.{statement}
+use Rattle.roll.proofs.holds.Tie as tie
 
 abbrev Inv-loop : tie.InvT-loop
 Inv-loop d low high t₀ t = Walk (among (bytesOf wordBytes low ++ bytesOf wordBytes high)) d t
