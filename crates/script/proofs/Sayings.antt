@@ -18,7 +18,7 @@ use Rattle.script.specs.declared.Wants.{Wants}
 use Rattle.script.specs.declared.Wants.the-variants.{Texts, Numbers, NameAndHex}
 use Rattle.words.specs.Words.{noWords, wordsOf, wordAt}
 use Rattle.script.specs.Table.{rowNamed}
-use Rattle.words.specs.Numbers.{areNumbers}
+use Rattle.numbered.specs.Numbers.{areNumbers}
 use Rattle.script.specs.Command.{longestLine, mostBytes, passedOver, said, verbIf, hexOf, saidTo}
 use Rattle.script.specs.Command.{spelledTo, SaysTo, commandOf, bufferOf, Says}
 

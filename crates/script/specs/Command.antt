@@ -16,7 +16,7 @@ use Rattle.script.specs.declared.Verb.the-variants.{Nothing, TooLong, Er
 use Rattle.script.specs.declared.Wants.{Wants}
 use Rattle.script.specs.declared.Wants.the-variants.{Texts, Numbers, NameAndHex}
 use Rattle.words.specs.Words.{noWords, wordsOf, wordAt}
-use Rattle.words.specs.Numbers.{mostNumbers, areNumbers, numbersTo}
+use Rattle.numbered.specs.Numbers.{mostNumbers, areNumbers, numbersTo}
 use Rattle.script.specs.Table.{rowNamed}
 
 -- the most bytes of a line, without the newline that ends it

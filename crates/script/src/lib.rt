@@ -4,7 +4,7 @@ ghost use Rattle.script.specs.Command.{Says};
 mod table; // table.rt: the commands
 mod saying; // saying.rt: what a line says
 
-pub use words::MOST_NUMBERS;
+pub use numbered::MOST_NUMBERS;
 pub use words::MOST_WORDS;
 pub use words::Words;
 pub use words::word;

@@ -4,15 +4,15 @@ ghost use mathlib.Core.Bool.{_&&_};
 ghost use Prim.Native.Nat.{_-_};
 ghost use lib.Dec.{eqb};
 ghost use lib.ListN.{length};
-ghost use Rattle.words.specs.Numbers.{areNumbers};
+ghost use Rattle.numbered.specs.Numbers.{areNumbers};
 ghost use Rattle.script.specs.Command.{mostBytes, passedOver, said, SaysTo, verbIf};
 use crate::Command;
 use crate::Verb;
 use crate::Wants;
 use hex::Hex;
+use numbered::are_numbers;
+use numbered::numbers_of;
 use words::Words;
-use words::are_numbers;
-use words::numbers_of;
 use words::word;
 
 // Whether a line with that first word is passed over: it has no word, or a comment.

@@ -13,7 +13,7 @@ use Rattle.script.specs.declared.Verb.the-variants.{Record, Lift, Withdr
 use Rattle.spelling.specs.Bytes.{bytes}
 use Rattle.words.specs.Words.{spansFrom, withWord, withWords, wordsOf, partOf}
 use Rattle.script.specs.Table.{placeIn, rowNamed}
-use Rattle.words.specs.Numbers.{areNumbers, numbersTo}
+use Rattle.numbered.specs.Numbers.{areNumbers, numbersTo}
 use Rattle.script.specs.Command.{longestLine, said, hexOf, saidTo, commandOf}
 
 -- too long before anything else

@@ -6,10 +6,10 @@ use Prim.Native.Nat.{ℕ, _-_}
 use native.Mathlib.Omega.{arith}
 use borrow.Author.Needs.{needs}
 use Rattle.spelling.specs.Number.{parsedOf}
-use Rattle.words.specs.Numbers.{isNumber}
-use Rattle.words.proofs.Numbered.{Still, still-on, still-not, still-all}
-use Rattle.words.proofs.numbers.are_numbers.Tie as tie
-use Rattle.words.proofs.numbers.are_numbers.Statement.{statement}
+use Rattle.numbered.specs.Numbers.{isNumber}
+use Rattle.numbered.proofs.Numbered.{Still, still-on, still-not, still-all}
+use Rattle.numbered.proofs.are_numbers.Tie as tie
+use Rattle.numbered.proofs.are_numbers.Statement.{statement}
 
 abbrev Inv-loop : tie.InvT-loop
 Inv-loop line words n k₀ k = Still line words n k

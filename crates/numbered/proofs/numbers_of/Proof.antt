@@ -7,10 +7,10 @@ use mir.Syntax.{w64}
 use mir.ValLaws.{toZ-ofZ}
 use borrow.Author.Needs.{needs}
 use Rattle.spelling.specs.Number.{parsedOf}
-use Rattle.words.specs.Numbers.{mostNumbers, valueOf, numbersTo}
-use Rattle.words.proofs.Numbered.{value-more}
-use Rattle.words.proofs.numbers.numbers_of.Tie as tie
-use Rattle.words.proofs.numbers.numbers_of.Statement.{statement}
+use Rattle.numbered.specs.Numbers.{mostNumbers, valueOf, numbersTo}
+use Rattle.numbered.proofs.Numbered.{value-more}
+use Rattle.numbered.proofs.numbers_of.Tie as tie
+use Rattle.numbered.proofs.numbers_of.Statement.{statement}
 
 abbrev Inv-loop : tie.InvT-loop
 Inv-loop line words numbers₀ k₀ numbers k = (k ≤ mostNumbers) × (numbers ≡ numbersTo line words k)

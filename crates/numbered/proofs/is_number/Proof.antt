@@ -1,9 +1,9 @@
 -- What the word is where a number is wanted.
 use mathlib.Core.Path.{sym, ap, _∙_}
 use borrow.Author.Needs.{needs}
-use Rattle.words.specs.Numbers.{isNumber}
-use Rattle.words.proofs.numbers.is_number.Tie as tie
-use Rattle.words.proofs.numbers.is_number.Statement.{statement}
+use Rattle.numbered.specs.Numbers.{isNumber}
+use Rattle.numbered.proofs.is_number.Tie as tie
+use Rattle.numbered.proofs.is_number.Statement.{statement}
 
 returns : tie.Need-returns
 returns c = sym (ap isNumber (sym (c .before .before .number .ensures) ∙ c .enum-told .given .1))

@@ -8,9 +8,9 @@ use native.Mathlib.Omega.{arith}
 use lib.IntN.{ℤ}
 use lib.ListN.{set}
 use Rattle.spelling.specs.Number.{parsedOf}
 use Rattle.words.specs.declared.Words.{Words}
 use Rattle.words.specs.Words.{wordAt}
-use Rattle.words.specs.Numbers.{isNumber, valueOf, areNumbers, numbersTo}
+use Rattle.numbered.specs.Numbers.{isNumber, valueOf, areNumbers, numbersTo}
 
 -- the words before k are numbers, so that those from k on tell
 pub record Still (line : List ℕ) (w : Words) (n k : ℕ) : Type 0 where

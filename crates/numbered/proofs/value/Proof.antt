@@ -3,9 +3,9 @@ use mathlib.Core.Path.{sym, ap, _∙_}
 use mir.Syntax.{w64}
 use mir.ValLaws.{toZ-ofZ}
 use borrow.Author.Needs.{needs}
-use Rattle.words.specs.Numbers.{valueOf}
-use Rattle.words.proofs.numbers.value.Tie as tie
-use Rattle.words.proofs.numbers.value.Statement.{statement}
+use Rattle.numbered.specs.Numbers.{valueOf}
+use Rattle.numbered.proofs.value.Tie as tie
+use Rattle.numbered.proofs.value.Statement.{statement}
 
 returns : tie.Need-returns
 returns c =

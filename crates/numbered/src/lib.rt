@@ -2,11 +2,13 @@
 ghost use mathlib.Core.Path.{_≡_};
 ghost use Prim.Native.Nat.{_-_};
 ghost use Rattle.spelling.specs.Number.{parsedOf};
-ghost use Rattle.words.specs.Numbers.{isNumber, valueOf, areNumbers, numbersTo, mostNumbers};
-use crate::MOST_NUMBERS;
-use crate::Words;
-use crate::word;
+ghost use Rattle.numbered.specs.Numbers.{isNumber, valueOf, areNumbers, numbersTo, mostNumbers};
 use spelling::Parsed;
+use words::Words;
+use words::word;
+
+// The most numbers that a command has.
+pub const MOST_NUMBERS: usize = 8;
 
 fn is_number(word: &[u8]) -> bool
     ensures { λ r. ⌜ r ≡ isNumber (parsedOf (now (word .entry))) ⌝ }
