@@ -10,14 +10,14 @@ use Rattle.hex.specs.declared.Hex.the-variants.{Bytes, Bad}
 use Rattle.hex.specs.Hex.{spells, pairsOf, hexIf, overIf}
 use Rattle.words.specs.declared.Words.{Words}
 use Rattle.script.specs.declared.Command.{Command}
-use Rattle.script.specs.declared.Row.{Row}
-use Rattle.script.specs.declared.Verb.{Verb}
-use Rattle.script.specs.declared.Verb.the-variants.{Nothing, TooLong, Error}
-use Rattle.script.specs.declared.Wants.{Wants}
-use Rattle.script.specs.declared.Wants.the-variants.{Texts, Numbers, NameAndHex}
+use Rattle.verbs.specs.declared.Row.{Row}
+use Rattle.verbs.specs.declared.Verb.{Verb}
+use Rattle.verbs.specs.declared.Verb.the-variants.{Nothing, TooLong, Error}
+use Rattle.verbs.specs.declared.Wants.{Wants}
+use Rattle.verbs.specs.declared.Wants.the-variants.{Texts, Numbers, NameAndHex}
 use Rattle.words.specs.Words.{noWords, wordsOf, wordAt}
 use Rattle.numbered.specs.Numbers.{mostNumbers, areNumbers, numbersTo}
-use Rattle.script.specs.Table.{rowNamed}
+use Rattle.verbs.specs.Table.{rowNamed}
 
 -- the most bytes of a line, without the newline that ends it
 abbrev pub longestLine : ℕ

@@ -8,10 +8,10 @@ ghost use Rattle.numbered.specs.Numbers.{areNumbers};
 ghost use Rattle.script.specs.Command.{mostBytes, passedOver, said, SaysTo, verbIf};
 use crate::Command;
 use crate::Verb;
-use crate::Wants;
 use hex::Hex;
 use numbered::are_numbers;
 use numbered::numbers_of;
+use verbs::Wants;
 use words::Words;
 use words::word;
 

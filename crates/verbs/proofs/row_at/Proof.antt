@@ -1,10 +1,10 @@
 -- Each arm is its row of the table; a place beyond it has no row.
 use mathlib.Core.Path.{sym, ap}
 use lib.ListN.{List·getD-eq-default}
-use Rattle.script.specs.Table.{rowAt, rowList, rows, noRow}
-use Rattle.script.proofs.Packs.{beyond}
-use Rattle.script.proofs.table.row_at.Tie as tie
-use Rattle.script.proofs.table.row_at.Statement.{statement}
+use Rattle.verbs.specs.Table.{rowAt, rowList, rows, noRow}
+use Rattle.verbs.proofs.Packs.{beyond}
+use Rattle.verbs.proofs.row_at.Tie as tie
+use Rattle.verbs.proofs.row_at.Statement.{statement}
 
 rest : tie.Need-returns-13
 rest c = sym (List·getD-eq-default rowList noRow (beyond rows _ (c .match .rest)))

@@ -1,9 +1,9 @@
 -- The row at the place of the word.
 use mathlib.Core.Path.{ap, _∙_}
 use borrow.Author.Needs.{needs}
-use Rattle.script.specs.Table.{rowAt, rowNamed}
-use Rattle.script.proofs.table.named.Tie as tie
-use Rattle.script.proofs.table.named.Statement.{statement}
+use Rattle.verbs.specs.Table.{rowAt, rowNamed}
+use Rattle.verbs.proofs.named.Tie as tie
+use Rattle.verbs.proofs.named.Statement.{statement}
 
 returns : tie.Need-returns
 unfolding rowNamed

@@ -12,8 +12,8 @@ use lib.ListN.{length, drop, getD, drop-of-length-le, List·getD-map}
 use lib.Seq.{drop-cons, take-all}
 use Rattle.bytes_le.specs.Le.{le, wordBytes, Word}
 use Rattle.name.specs.Name.{nameLength, mark, run, asked, same, same-equal, same-self}
-use Rattle.script.specs.inner.Packing.{packedOf}
-use Rattle.script.specs.Table.{Entry, table, rows, noRow, placeIn}
+use Rattle.verbs.specs.inner.Packing.{packedOf}
+use Rattle.verbs.specs.Table.{Entry, table, rows, noRow, placeIn}
 
 clash : {A : Type 0} → _≡_ {A = ℕ} 0 1 → A
 clash z = absurd (omega arith)

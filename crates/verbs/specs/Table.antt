@@ -5,12 +5,12 @@ use Prim.Native.Nat.{ℕ, suc}
 use Prim.Native.String.{String}
 use lib.ListN.{length, getD}
 use Rattle.name.specs.Name.{same}
-use Rattle.script.specs.declared.Verb.{Verb}
-use Rattle.script.specs.declared.Verb.the-variants.{Library, Find, Clip, Load, Record, Place}
-use Rattle.script.specs.declared.Verb.the-variants.{Move, Lift, Withdraw, Lookup, Node, Sheet, Error}
-use Rattle.script.specs.declared.Wants.{Wants}
-use Rattle.script.specs.declared.Wants.the-variants.{Texts, Numbers, NameAndHex}
-use Rattle.script.specs.declared.Row.{Row}
+use Rattle.verbs.specs.declared.Verb.{Verb}
+use Rattle.verbs.specs.declared.Verb.the-variants.{Library, Find, Clip, Load, Record, Place}
+use Rattle.verbs.specs.declared.Verb.the-variants.{Move, Lift, Withdraw, Lookup, Node, Sheet, Error}
+use Rattle.verbs.specs.declared.Wants.{Wants}
+use Rattle.verbs.specs.declared.Wants.the-variants.{Texts, Numbers, NameAndHex}
+use Rattle.verbs.specs.declared.Row.{Row}
 use Rattle.spelling.specs.Bytes.{bytes}
 
 -- the first word of a line, and the row that it names

@@ -1,10 +1,10 @@
 -- No entry that was passed has the word.
 use Prim.Native.Nat.{_-_}
 use borrow.Author.Needs.{needs}
-use Rattle.script.specs.Table.{rows}
-use Rattle.script.proofs.Packs.{Passed, passed-none, passed-here, passed-on, passed-all}
-use Rattle.script.proofs.table.place_of.Tie as tie
-use Rattle.script.proofs.table.place_of.Statement.{statement}
+use Rattle.verbs.specs.Table.{rows}
+use Rattle.verbs.proofs.Packs.{Passed, passed-none, passed-here, passed-on, passed-all}
+use Rattle.verbs.proofs.place_of.Tie as tie
+use Rattle.verbs.proofs.place_of.Statement.{statement}
 
 abbrev Inv-loop : tie.InvT-loop
 Inv-loop word x words i₀ i = Passed word i

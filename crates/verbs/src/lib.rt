@@ -1,10 +1,40 @@
 // The commands: the word of each, and what a line of it has to be.
 ghost use mathlib.Core.Path.{_≡_};
-ghost use Rattle.script.specs.Table.{rowAt, placeIn, table, rowNamed};
-ghost use Rattle.script.specs.inner.Packing.{packedOf};
-use crate::Row;
-use crate::Verb;
-use crate::Wants;
+ghost use Rattle.verbs.specs.Table.{rowAt, placeIn, table, rowNamed};
+ghost use Rattle.verbs.specs.inner.Packing.{packedOf};
+
+pub enum Verb {
+    Library,
+    Find,
+    Clip,
+    Load,
+    Record,
+    Place,
+    Move,
+    Lift,
+    Withdraw,
+    Lookup,
+    Node,
+    Sheet,
+    // a line that is passed over
+    Nothing,
+    TooLong,
+    // a line that is no command
+    Error,
+}
+
+// What the words of a command have to be, beside the first: any, or numbers, as many as make so many words in all; or a
+// name and hex digits.
+pub enum Wants {
+    Texts(usize),
+    Numbers(usize),
+    NameAndHex,
+}
+
+pub struct Row {
+    pub verb: Verb,
+    pub wants: Wants,
+}
 
 // How many commands there are.
 const ROWS: usize = 12;
@@ -116,7 +146,7 @@ fn row_at(i: usize) -> Row
 }
 
 // The row that a word names.
-pub(crate) fn named(word: &[u8]) -> Row
+pub fn named(word: &[u8]) -> Row
     ensures { λ r. ⌜ r ≡ rowNamed (now (word .entry)) ⌝ }
 {
     row_at(place_of(word))

@@ -1,9 +1,9 @@
 -- A word that is too long, one that has a number, and any other.
 use mathlib.Core.Path.{sym, _∙_}
 use borrow.Author.Needs.{needs}
-use Rattle.script.proofs.Packs.{packed-long, packed-asked, packed-other}
-use Rattle.script.proofs.table.packed.Tie as tie
-use Rattle.script.proofs.table.packed.Statement.{statement}
+use Rattle.verbs.proofs.Packs.{packed-long, packed-asked, packed-other}
+use Rattle.verbs.proofs.packed.Tie as tie
+use Rattle.verbs.proofs.packed.Statement.{statement}
 
 returns : tie.Need-returns
 returns c = packed-long _ (c .if1 .taken)
