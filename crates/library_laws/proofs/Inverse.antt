@@ -15,11 +15,14 @@ use Rattle.library.specs.declared.Reading.the-variants.{Cards}
 use Rattle.library.specs.declared.Writing.{Writing}
 use Rattle.library.specs.declared.Writing.the-variants.{Bytes}
 use Rattle.roll.specs.Directory.{allNamed, twice, nameBytes, namesHeld, namesIn}
-use Rattle.directory.specs.Format.{wordsOf, recordsAt, wholeOf, version, count, agree, headed, directory, records, wordsIn, bytesOfAll, headerOf, libraryOf, offered, directoryOffset, headerBytes, mostCards, recordsOffset, wholeLength}
+use Rattle.directory.specs.Format.{wordsOf, recordsAt, wholeOf, version, count, agree, headed, directory, records}
+use Rattle.directory.specs.Format.{wordsIn, bytesOfAll, headerOf, libraryOf, offered, headerBytes, mostCards}
+use Rattle.directory.specs.Format.{directoryOffset, recordsOffset, wholeLength}
 use Rattle.library.specs.Answers.{left, read, Reads, written, Writes}
 use Rattle.directory.specs.Judged.{libraryJudged, numbersOf, offerJudged}
 use Rattle.library.specs.Unique.{reading-told, asReading, writing-told, asWriting}
-use Rattle.directory.proofs.Verdicts.{SoundLibrary, library-pass, library-yes, names-pass, names-yes, passed, refuse-yes, then-yes}
+use Rattle.directory.proofs.Verdicts.{SoundLibrary, library-pass, library-yes, names-pass, names-yes}
+use Rattle.directory.proofs.Verdicts.{passed, refuse-yes, then-yes}
 use Rattle.directory.proofs.Headers.{Agreed, agreed, only-version}
 use Rattle.library.proofs.WordsRead.{words-none, words-more, words-length}
 use Rattle.library.proofs.BytesWritten.{length-all}

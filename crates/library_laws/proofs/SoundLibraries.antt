@@ -12,7 +12,8 @@ use Rattle.name.proofs.Laws.{and-true, same-not}
 use Rattle.library.specs.declared.Reading.{Reading}
 use Rattle.library.specs.declared.Reading.the-variants.{Cards}
 use Rattle.roll.specs.Directory.{allNamed, among, twice, nameBytes, namesHeld, namesIn}
-use Rattle.directory.specs.Format.{wordsOf, version, count, headed, directory, libraryOf, offered, mostCards, writtenVersion}
+use Rattle.directory.specs.Format.{wordsOf, version, count, headed, directory, libraryOf, offered}
+use Rattle.directory.specs.Format.{mostCards, writtenVersion}
 use Rattle.library.specs.Answers.{read, Reads}
 use Rattle.directory.specs.Judged.{Sound, libraryJudged, namesJudged, numbersOf, offerJudged}
 use Rattle.library.specs.Unique.{reading-told, asReading}
@@ -135,4 +136,8 @@ sound-of-every-size n h =
     offers writtenVersion ns ws
     (passed (ap not (meets-one n h)) Malformed _ ∙ names-pass names _ ∙ ap
     (λ (k : ℕ). yes (k, wordsOf writtenVersion)) m) in
-    record { library = libraryOf writtenVersion ns ws; sound = library-pass (is-sound o); cards = sym (made o .is-count) }
+    record {
+      library = libraryOf writtenVersion ns ws;
+      sound = library-pass (is-sound o);
+      cards = sym (made o .is-count);
+    }

@@ -27,8 +27,10 @@ returns-2 c =
 
 returns-3 : tie.Need-returns-3
 returns-3 c =
-    let b = (start-before-then6 c) .args .b in
-    (simp (above 48 b 57 (omega arith), above 65 b 70 (omega arith), within 97 b 102 (omega arith) (omega arith)), omega arith)
+    let b = (start-before-then6 c) .args .b in (
+      simp (above 48 b 57 (omega arith), above 65 b 70 (omega arith), within 97 b 102 (omega arith) (omega arith)),
+      omega arith,
+    )
 
 returns-4 : tie.Need-returns-4
 returns-4 c =
