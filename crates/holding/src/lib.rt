@@ -22,7 +22,7 @@ use refusal::Refusal;
 use totals::NODES;
 
 // The free place for a card and the card worked, or the refusal.
-pub enum Loading {
+enum Loading {
     Go(usize, WorkedCard),
     Stop(Refusal),
 }

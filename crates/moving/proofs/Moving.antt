@@ -9,7 +9,7 @@ use lib.IntN.{ℤ, pos, natAbs, _+ℤ_}
 use Rattle.refusal.specs.declared.Refusal.{Refusal}
 use Rattle.refusal.specs.declared.Refusal.the-variants.{Malformed, OutOfRange, Overload}
 use Rattle.volts.specs.Volts.{givenBack}
-use Rattle.branch.specs.Outcome.{isOver}
+use Rattle.rows.specs.Outcome.{isOver}
 use Rattle.totals.specs.Flow.{overAt}
 use Rattle.totals.specs.inner.Sums.{More}
 use Rattle.totals.specs.inner.Sizes.{flowMost}
@@ -21,7 +21,8 @@ use Rattle.places.specs.Sets.{member}
 use Rattle.settle.specs.declared.First.{First}
 use Rattle.settle.specs.Change.{changes}
 use Rattle.settle.specs.First.{firstBelow}
-use Rattle.settle.specs.inner.Working.{deckOf, Settling, gained, overOf, cardAt, nodesAt}
+use Rattle.flows.specs.inner.Workable.{deckOf}
+use Rattle.settle.specs.inner.Working.{Settling, gained, overOf, cardAt, nodesAt}
 use Rattle.settle.specs.laws.Firsts.{first-same}
 use Rattle.settle.specs.laws.Changes.{changes-same}
 use Rattle.model.specs.Board.{Board}

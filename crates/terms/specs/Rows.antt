@@ -4,33 +4,7 @@ use mathlib.Core.Bool.{Bool, true, false}
 use mathlib.Core.List.{List, [], _∷_}
 use Prim.Native.Nat.{ℕ}
 use lib.ListN.{length}
-
--- the places of a transistor to which a node is given
-pub data Role : Type 0 where
-  E1 : Role
-  B1 : Role
-  B2 : Role
-  C1 : Role
-  C2 : Role
-  C4 : Role
-  S : Role
-
--- in the order in which a placing names them
-abbrev pub allRoles : List Role
-allRoles = E1 ∷ B1 ∷ B2 ∷ C1 ∷ C2 ∷ C4 ∷ S ∷ []
-
-abbrev pub roles : ℕ
-roles = length allRoles
-
--- a role's number in that order
-abbrev pub roleIndex : Role → ℕ
-roleIndex E1 = 0
-roleIndex B1 = 1
-roleIndex B2 = 2
-roleIndex C1 = 3
-roleIndex C2 = 4
-roleIndex C4 = 5
-roleIndex S = 6
+pub use Rattle.scaling.specs.Roles.{Role, E1, B1, B2, C1, C2, C4, S, allRoles, roles, roleIndex}
 
 -- the worked values of a card
 pub data Value : Type 0 where
@@ -72,9 +46,16 @@ pub record Row : Type 0 where
   pub minus : Term
   pub divisor : Divisor
 
--- the main current, (4.52) and (4.53), with q_B as 1
+-- the main current, (4.52) and (4.53), over q_B, (4.56), (4.57), (4.148) and (4.151), with the Early factor as 1
 abbrev pub row1 : Row
-row1 = record { from = C2; to = E1; plus = across sN plain B2 E1; minus = across sN plain B2 C2; divisor = undivided }
+row1 =
+    record {
+      from = C2;
+      to = E1;
+      plus = across sN plain B2 E1;
+      minus = across sN plain B2 C2;
+      divisor = sumOf (root rEx B2 E1) (root rEx B2 C2);
+    }
 
 -- the ideal base current of the bulk, (4.58)
 abbrev pub row2 : Row
