@@ -6,7 +6,7 @@ ghost use Rattle.model.specs.Board.{Board};
 ghost use Rattle.model.specs.Model.{loadedOf, withdrawnOf, lookedOf, showedOf};
 ghost use Rattle.holding.specs.inner.Lent.{CardArrays, LeavesCards, Holds, cardOf};
 ghost use Rattle.holding.specs.inner.Loading.{loading};
-use branch::Ready;
+use terms::Ready;
 use card::Judged;
 use card::WorkedCard;
 use deck::ALL_NUMBERS;
@@ -94,7 +94,7 @@ pub fn load(
         Loading::Stop(f) => Answer::Refused(f),
         Loading::Go(i, worked) => {
             let own = name::pad(name);
-            let ready = branch::prepare(worked);
+            let ready = terms::prepare(worked);
             hold(
                 numbers,
                 powers,
@@ -137,7 +137,7 @@ pub fn withdraw(
     }
     let gone: u32 = 0;
     let blank = [0u8; name::LENGTH];
-    let none = branch::no_ready();
+    let none = terms::no_ready();
     hold(
         numbers,
         powers,

@@ -4,7 +4,7 @@ ghost use Rattle.model.specs.Board.{Board};
 ghost use Rattle.model.specs.Model.{placedOf, liftedOf, Reached};
 ghost use Rattle.model.specs.inner.Lent.{Lends, LendsPlaces, LeavesPlaces};
 use crate::Answer;
-use branch::ROLES;
+use terms::ROLES;
 use placing::Way;
 use refusal::Refusal;
 

@@ -2,7 +2,7 @@
 
 mod finds; // finds.rt: looking through the places
 
-use branch::ROLES;
+use terms::ROLES;
 pub use finds::any_on;
 pub use finds::card_at;
 pub use finds::find_card;

@@ -9,7 +9,7 @@ ghost use Rattle.given.specs.Arguments.{usedUp};
 ghost use Rattle.places.specs.Counts.{cardsMost, transistorsMost};
 ghost use Rattle.places.specs.inner.Flat.{numberPlace, freePlace, joinedAt};
 ghost use Rattle.placing.specs.inner.Placing.{apartOn, placing, wayOf};
-use branch::ROLES;
+use terms::ROLES;
 use deck::ALL_SWITCHES;
 use deck::SWITCHES;
 use given::ISSUES;

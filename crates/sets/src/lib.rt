@@ -11,7 +11,7 @@ ghost use Rattle.places.specs.Counts.{cardsMost, transistorsMost};
 ghost use Rattle.places.specs.Finding.{names};
 ghost use Rattle.places.specs.inner.Parts.{NextIn};
 ghost use Rattle.places.specs.inner.Flat.{below, isTaken, standsAtIn, namingIn};
-use branch::ROLES;
+use terms::ROLES;
 use places::ALL_NAMES;
 use places::ALL_NODES;
 use places::TRANSISTORS;

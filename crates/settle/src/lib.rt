@@ -8,7 +8,7 @@ ghost use Rattle.places.specs.Counts.{transistorsMost};
 ghost use Rattle.places.specs.Sets.{member};
 ghost use Rattle.settle.specs.First.{earlier, firstBelow};
 ghost use Rattle.settle.specs.inner.Working.{gained, overOf, Settling};
-use branch::Over;
+use rows::Over;
 pub use flows::is_over;
 pub use flows::put_in;
 pub use flows::take_out;

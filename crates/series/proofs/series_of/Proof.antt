@@ -13,3 +13,6 @@ Inv-loop line numbers₀ n₀ start₀ end₀ numbers n start end = Gone line st
 
 abbrev μ-loop : tie.MeasureT-loop
 μ-loop line numbers₀ n₀ start₀ end₀ numbers n start end = length line - start
+
+pub series-of-spec : {M : Type 1} → statement M
+series-of-spec = ?
