@@ -1,13 +1,10 @@
 // The board: cards and transistors in places, voltages and node totals, handed from call to call by value.
 // Each method asks that calls from a fresh board left the board as it is, and gives the answer with the next board, which is such a board again.
 ghost use mathlib.Core.Path.{_≡_};
-ghost use Rattle.model.specs.Model.{freshBoard, refuse, loadedOf, placedOf, movedOf, liftedOf, withdrawnOf, lookedOf, showedOf};
+ghost use Rattle.model.specs.Model.{freshBoard, loadedOf, placedOf, movedOf, liftedOf, withdrawnOf, lookedOf, showedOf};
 ghost use Rattle.board.specs.Promise.{modelOf, boardOf, givenAs, Reached};
 use branch::ROLES;
-use card::Judged;
-use given::ISSUES;
 pub use model::Answer;
-use refusal::Refusal;
 
 // Flat arrays of numbers, so that each can be lent. The first six hold the cards by their places, the last four the transistors.
 pub struct Board {
@@ -30,16 +27,6 @@ pub struct Board {
 pub struct Answered {
     pub board: Board,
     pub answer: Answer,
-}
-
-// The board as it was.
-fn refused(b: Board, f: Refusal) -> Answered
-    ensures { λ r. ⌜ r ≡ givenAs (refuse (modelOf b) f) ⌝ }
-{
-    Answered {
-        board: b,
-        answer: Answer::Refused(f),
-    }
 }
 
 impl Board {
@@ -77,54 +64,34 @@ impl Board {
         ensures { λ r. ⌜ r ≡ givenAs (loadedOf (modelOf self) (now (name .entry)) (now (bytes .entry))) ⌝ }
         ensures { λ r. ⌜ Reached (r .board) ⌝ }
     {
-        if !card::right_length(bytes) {
-            return refused(self, Refusal::Malformed);
-        }
-        if !name::is_asked(name) {
-            return refused(self, Refusal::BadName);
-        }
-        let judged = card::judge(bytes);
-        match judged {
-            Judged::Refused(f) => refused(self, f),
-            Judged::Card(worked) => {
-                let mut held = self.held;
-                let i = places::find_card(&held, 0);
-                if Board::CARDS <= i {
-                    return refused(self, Refusal::NoRoom);
-                }
-                let issue = self.next;
-                if ISSUES < issue {
-                    return refused(self, Refusal::NumbersUsedUp);
-                }
-                let own = name::pad(name);
-                let mut names = self.names;
-                sets::put_name(&mut names, i, &own);
-                let ready = branch::prepare(worked);
-                let mut numbers = self.numbers;
-                let mut powers = self.powers;
-                let mut ticks = self.ticks;
-                let mut switches = self.switches;
-                deck::put_ready(
-                    &mut numbers,
-                    &mut powers,
-                    &mut ticks,
-                    &mut switches,
-                    i,
-                    ready,
-                );
-                held[i] = issue;
-                self.numbers = numbers;
-                self.powers = powers;
-                self.ticks = ticks;
-                self.switches = switches;
-                self.names = names;
-                self.held = held;
-                self.next = issue + 1;
-                Answered {
-                    board: self,
-                    answer: Answer::Issue(issue),
-                }
-            }
+        let mut numbers = self.numbers;
+        let mut powers = self.powers;
+        let mut ticks = self.ticks;
+        let mut switches = self.switches;
+        let mut names = self.names;
+        let mut held = self.held;
+        let mut issue = self.next;
+        let answer = holding::load(
+            &mut numbers,
+            &mut powers,
+            &mut ticks,
+            &mut switches,
+            &mut names,
+            &mut held,
+            &mut issue,
+            name,
+            bytes,
+        );
+        self.numbers = numbers;
+        self.powers = powers;
+        self.ticks = ticks;
+        self.switches = switches;
+        self.names = names;
+        self.held = held;
+        self.next = issue;
+        Answered {
+            board: self,
+            answer,
         }
     }
 
@@ -256,43 +223,34 @@ impl Board {
         ensures { λ r. ⌜ r ≡ givenAs (withdrawnOf (modelOf self) card) ⌝ }
         ensures { λ r. ⌜ Reached (r .board) ⌝ }
     {
-        let n = given::issue_of(card);
-        let mut held = self.held;
-        let i = places::card_at(&held, n);
-        if Board::CARDS <= i {
-            return refused(self, Refusal::Unknown);
-        }
         let issues = self.issues;
         let cards = self.cards;
-        if places::any_on(&issues, &cards, n) {
-            return refused(self, Refusal::CardInUse);
-        }
-        let mut names = self.names;
-        let blank = [0u8; name::LENGTH];
-        sets::put_name(&mut names, i, &blank);
-        let none = branch::no_ready();
         let mut numbers = self.numbers;
         let mut powers = self.powers;
         let mut ticks = self.ticks;
         let mut switches = self.switches;
-        deck::put_ready(
+        let mut names = self.names;
+        let mut left = self.held;
+        let answer = holding::withdraw(
             &mut numbers,
             &mut powers,
             &mut ticks,
             &mut switches,
-            i,
-            none,
+            &mut names,
+            &mut left,
+            &issues,
+            &cards,
+            card,
         );
-        held[i] = 0;
         self.numbers = numbers;
         self.powers = powers;
         self.ticks = ticks;
         self.switches = switches;
         self.names = names;
-        self.held = held;
+        self.held = left;
         Answered {
             board: self,
-            answer: Answer::Done,
+            answer,
         }
     }
 
@@ -302,19 +260,12 @@ impl Board {
         ensures { λ r. ⌜ r ≡ givenAs (lookedOf (modelOf self) (now (name .entry))) ⌝ }
         ensures { λ r. ⌜ Reached (r .board) ⌝ }
     {
-        if !name::is_asked(name) {
-            return refused(self, Refusal::BadName);
-        }
-        let asked = name::pad(name);
         let held = self.held;
         let names = self.names;
-        let n = places::highest(&held, &names, &asked);
-        if n == 0 {
-            return refused(self, Refusal::NameNotHeld);
-        }
+        let answer = holding::look_up(&held, &names, name);
         Answered {
             board: self,
-            answer: Answer::Issue(n),
+            answer,
         }
     }
 
@@ -324,18 +275,12 @@ impl Board {
         ensures { λ r. ⌜ r ≡ givenAs (showedOf (modelOf self) node) ⌝ }
         ensures { λ r. ⌜ Reached (r .board) ⌝ }
     {
-        let n = given::node_of(node) as usize;
-        if Board::NODES <= n {
-            return refused(self, Refusal::OutOfRange);
-        }
-        let kept = self.volts;
+        let volts = self.volts;
         let totals = self.totals;
-        let v = kept[n];
-        let t = totals[n];
-        let volts = volts::give_back(v);
+        let answer = holding::read_node(&volts, &totals, node);
         Answered {
             board: self,
-            answer: Answer::Node(volts, t),
+            answer,
         }
     }
 }

@@ -13,10 +13,10 @@ use Rattle.volts.specs.Volts.{span, offVolts, someOff, keptAs, givenBack, AllNe
 use Rattle.volts.specs.laws.Keeping.{KeptIs, kept}
 use Rattle.branch.specs.declared.answering.Keeping.{Keeping}
 use Rattle.terms.specs.Rows.{roles}
-use Rattle.branch.specs.inner.FromTerms.{listUp}
+use Rattle.rows.specs.inner.FromTerms.{listUp}
 use Rattle.branch.specs.inner.Replied.{Keeps}
-use Rattle.branch.specs.laws.Filled.{Filled, filled-none, filled-more, filled-all, up-map}
-use Rattle.branch.proofs.Tests.{never}
+use Rattle.rows.specs.laws.Filled.{Filled, filled-none, filled-more, filled-all, up-map}
+use Rattle.rows.proofs.Tests.{never}
 
 -- ---- while they are kept
 

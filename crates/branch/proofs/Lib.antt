@@ -1,7 +1,2 @@
-pub mod Tests
-pub mod Roots
-pub mod RowLaws
-pub mod Loops
 pub mod Kept
 pub mod Replying
-pub mod Laws

@@ -10,12 +10,12 @@ use Rattle.refusal.specs.Order.{Verdict, no, yes, tells}
 use Rattle.volts.specs.Volts.{givenBack}
 use Rattle.card.specs.declared.WorkedCard.{WorkedCard}
 use Rattle.card.specs.Judge.{judgeOf}
-use Rattle.branch.specs.declared.Over.the-variants.{Within}
-use Rattle.branch.specs.declared.Outcome.{Outcome}
+use Rattle.rows.specs.declared.Over.the-variants.{Within}
+use Rattle.rows.specs.declared.Outcome.{Outcome}
 use Rattle.branch.specs.declared.Admission.the-variants.{Given}
 use Rattle.branch.specs.declared.Reply.{Reply}
 use Rattle.branch.specs.declared.answering.Keeping.{Keeping}
-use Rattle.branch.specs.Outcome.{isOver, outcomeOf}
+use Rattle.rows.specs.Outcome.{isOver, outcomeOf}
 use Rattle.branch.specs.Currents.{atOutcome, atVolts, currentsOf, toldReply, ticksOr, Replies}
 use Rattle.branch.specs.inner.Replied.{refusedReply, replyOf, Keeps}
 use Rattle.branch.proofs.Kept.{within-on, outside-off, within-back}

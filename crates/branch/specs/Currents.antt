@@ -10,12 +10,12 @@ use Rattle.refusal.specs.Order.{Verdict, no, yes, refuseIf, andThen, Answer, re
 use Rattle.volts.specs.Volts.{someOff}
 use Rattle.card.specs.declared.WorkedCard.{WorkedCard}
 use Rattle.card.specs.Judge.{judgeOf}
-use Rattle.branch.specs.declared.Outcome.{Outcome}
+use Rattle.rows.specs.declared.Outcome.{Outcome}
 use Rattle.branch.specs.declared.Admission.{Admission}
 use Rattle.branch.specs.declared.Admission.the-variants.{Given, Refused}
 use Rattle.branch.specs.declared.Reply.{Reply}
 use Rattle.terms.specs.Rows.{branches}
-use Rattle.branch.specs.Outcome.{isOver, outcomeOf}
+use Rattle.rows.specs.Outcome.{isOver, outcomeOf}
 
 -- 15 wherever a row overloads, whichever and however; else the ticks
 abbrev pub atOutcome : Outcome → Verdict (List ℤ)

@@ -1,5 +1,3 @@
-pub mod Ticks
-pub mod Outcome
 pub mod Currents
 pub mod inner
 pub mod laws

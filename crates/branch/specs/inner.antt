@@ -1,3 +1,2 @@
 -- Words that inner contracts use, and what callers may count on.
-pub mod FromTerms
 pub mod Replied

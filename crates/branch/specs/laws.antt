@@ -1,3 +1,2 @@
 -- What follows from the definitions.
-pub mod Filled
 pub mod Tells

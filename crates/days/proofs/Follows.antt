@@ -57,7 +57,7 @@ use Rattle.model.proofs.Invariant.{transistors-holding, cards-standing, transis
 use Rattle.model.proofs.Invariant.{transistors-leveled, fresh-cards, fresh-transistors}
 use Rattle.model.proofs.Gains.{touched-stands}
 use Rattle.model.proofs.Lists.{padded-long}
-use Rattle.branch.specs.Outcome.{isOver}
+use Rattle.rows.specs.Outcome.{isOver}
 use Rattle.settle.specs.laws.Firsts.{first-over}
 use Rattle.totals.specs.Flow.{overAt}
 use Rattle.places.specs.Gathered.{workedAt}

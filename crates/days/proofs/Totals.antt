@@ -12,10 +12,10 @@ use lib.IntN.{ℤ, pos, natAbs, negℤ, _+ℤ_, _-ℤ_, +ℤ-idl, +ℤ-idr, +ℤ
 use borrow.Author.Tests.{eqb-true, eqb-false, ne-eqb}
 use Rattle.refusal.specs.Clash.{clash}
 use Rattle.card.specs.declared.WorkedCard.{WorkedCard}
-use Rattle.branch.specs.declared.Over.{Over}
-use Rattle.branch.specs.declared.Over.the-variants.{Within, Ticks, Injection}
+use Rattle.rows.specs.declared.Over.{Over}
+use Rattle.rows.specs.declared.Over.the-variants.{Within, Ticks, Injection}
 use Rattle.terms.specs.Rows.{Row, rowsFor, roleIndex}
-use Rattle.branch.specs.Outcome.{outcomeOf, isOver}
+use Rattle.rows.specs.Outcome.{outcomeOf, isOver}
 use Rattle.places.specs.Gathered.{Card, Transistor}
 use Rattle.model.specs.Board.{Board}
 use Rattle.model.specs.Model.{cardsOf, transistorsOf, transistorAt}
@@ -33,7 +33,7 @@ use Rattle.days.specs.Fitted.{sumAll, Fitted, fittedOf, fittedIn}
 use Rattle.totals.proofs.Integers.{turned, swap-inner}
 use Rattle.days.proofs.Perms.{perm-sum}
 use Rattle.days.proofs.Places.{sum-occupied}
-use Rattle.branch.specs.inner.FromTerms.{listUp}
+use Rattle.rows.specs.inner.FromTerms.{listUp}
 use Rattle.deck.specs.laws.Ups.{up-same}
 use Rattle.model.proofs.NodeSums.{totals-room}
 use Rattle.model.proofs.Invariant.{invariant, invariant-after}

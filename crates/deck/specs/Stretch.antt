@@ -2,7 +2,7 @@
 use mathlib.Core.List.{List}
 use Prim.Native.Nat.{ℕ, zero, suc, _+_}
 use lib.ListN.{getD, set}
-use Rattle.branch.specs.inner.FromTerms.{listUp}
+use Rattle.rows.specs.inner.FromTerms.{listUp}
 
 -- the n elements of l from the place `at` on; d is read past the end
 unfoldable pub stretch : {A : Type 0} → A → List A → ℕ → ℕ → List A

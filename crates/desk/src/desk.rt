@@ -153,11 +153,16 @@ fn look_up(board: Board, name: &[u8], out: &mut [u8; ROOM], at: &mut usize)
     put_card(answer, out, at);
 }
 
+// The nodes of a transistor's roles, after its card's number.
+fn roles(v: [i64; MOST_NUMBERS]) -> [i64; 7] {
+    [v[1], v[2], v[3], v[4], v[5], v[6], v[7]]
+}
+
 fn place(board: Board, v: [i64; MOST_NUMBERS], out: &mut [u8; ROOM], at: &mut usize) -> Board
     requires { ⌜ Reached board ⌝ }
     ensures { λ r. ⌜ Reached r ⌝ }
 {
-    let asked = board.place(v[0], [v[1], v[2], v[3], v[4], v[5], v[6], v[7]]);
+    let asked = board.place(v[0], roles(v));
     let answer = asked.answer;
     put_transistor(answer, out, at);
     asked.board
@@ -228,6 +233,21 @@ pub fn asks_board(v: Verb) -> bool {
     }
 }
 
+// A line about the library held, by its first word's argument: a path or a name.
+fn obey_shelf(
+    verb: Verb,
+    word: &[u8],
+    held: &mut [u8; MOST],
+    out: &mut [u8; ROOM],
+    at: &mut usize,
+) {
+    match verb {
+        Verb::Library => take_library(word, held, out, at),
+        Verb::Find => find(word, shelf::held(held), out, at),
+        _ => clip(word, shelf::held(held), out, at),
+    }
+}
+
 // A line that asks nothing of the board.
 pub fn obey_apart(
     c: Command,
@@ -241,10 +261,41 @@ pub fn obey_apart(
     match verb {
         Verb::Nothing => {}
         Verb::TooLong => put_answer(Answer::TooLong, out, at),
-        Verb::Library => take_library(script::word(line, words, 1), held, out, at),
-        Verb::Find => find(script::word(line, words, 1), shelf::held(held), out, at),
-        Verb::Clip => clip(script::word(line, words, 1), shelf::held(held), out, at),
-        _ => put_error(script::word(line, words, 0), out, at),
+        Verb::Error => put_error(script::word(line, words, 0), out, at),
+        _ => obey_shelf(verb, script::word(line, words, 1), held, out, at),
+    }
+}
+
+// What a command asks of the board and does not change.
+fn show(board: Board, verb: Verb, node: i64, out: &mut [u8; ROOM], at: &mut usize)
+    requires { ⌜ Reached board ⌝ }
+{
+    match verb {
+        Verb::Node => read_node(board, node, out, at),
+        _ => put_sheet(board, out, at),
+    }
+}
+
+// A command that says numbers, or nothing more.
+fn obey_numbers(
+    board: Board,
+    verb: Verb,
+    v: [i64; MOST_NUMBERS],
+    out: &mut [u8; ROOM],
+    at: &mut usize,
+) -> Board
+    requires { ⌜ Reached board ⌝ }
+    ensures { λ r. ⌜ Reached r ⌝ }
+{
+    match verb {
+        Verb::Place => place(board, v, out, at),
+        Verb::Move => move_to(board, v[0], v[1], out, at),
+        Verb::Lift => lift(board, v[0], out, at),
+        Verb::Withdraw => withdraw(board, v[0], out, at),
+        _ => {
+            show(board, verb, v[0], out, at);
+            board
+        }
     }
 }
 
@@ -268,21 +319,10 @@ pub fn obey(
     match verb {
         Verb::Load => load(board, name, library, out, at),
         Verb::Record => load_record(board, name, part(spelled, 0, c.bytes), out, at),
-        Verb::Place => place(board, v, out, at),
-        Verb::Move => move_to(board, v[0], v[1], out, at),
-        Verb::Lift => lift(board, v[0], out, at),
-        Verb::Withdraw => withdraw(board, v[0], out, at),
         Verb::Lookup => {
             look_up(board, name, out, at);
             board
         }
-        Verb::Node => {
-            read_node(board, v[0], out, at);
-            board
-        }
-        _ => {
-            put_sheet(board, out, at);
-            board
-        }
+        _ => obey_numbers(board, verb, v, out, at),
     }
 }

@@ -44,6 +44,29 @@ fn taken(got: isize, bytes: &[u8; READ]) -> &[u8] {
     part(bytes, 0, io::count(got, bytes))
 }
 
+// Obeys the k bytes of a line that has ended. `spelled` is room for the bytes that hex digits spell.
+fn obey_line(
+    board: Board,
+    line: &[u8; LINE],
+    k: usize,
+    spelled: &mut [u8; MOST_BYTES],
+    held: &mut [u8; MOST],
+    out: &mut [u8; ROOM],
+    at: &mut usize,
+) -> Board
+    requires { ⌜ Reached board ⌝ }
+    ensures { λ r. ⌜ Reached r ⌝ }
+{
+    let text = part(line, 0, k);
+    let c = script::read(text, spelled);
+    let verb = c.verb;
+    if asks_board(verb) {
+        return obey(board, c, text, spelled, shelf::held(held), out, at);
+    }
+    obey_apart(c, text, held, out, at);
+    board
+}
+
 // Takes what a read got of a script; n bytes of a line that has not ended are in `line`.
 fn feed(
     board: Board,
@@ -71,17 +94,18 @@ fn feed(
         }
         let k = *n;
         *n = 0;
-        let text = part(line, 0, k);
-        let c = script::read(text, &mut spelled);
-        let verb = c.verb;
-        if !asks_board(verb) {
-            obey_apart(c, text, held, out, at);
-            continue;
-        }
-        let next = obey(current, c, text, &spelled, shelf::held(held), out, at);
+        let next = obey_line(current, line, k, &mut spelled, held, out, at);
         current = next;
     }
     current
+}
+
+// Writes what waits, after a word on a read that failed.
+fn write_out(got: isize, path: &[u8], out: &mut [u8; ROOM], at: &mut usize) {
+    if got < 0 {
+        put_unreadable(path, out, at);
+    }
+    flush(out, at);
 }
 
 // Obeys all that can be read. Nothing says that the input ends: the turns are counted down from a number that no run uses up.
@@ -108,10 +132,7 @@ pub fn run(fd: i32, path: &[u8]) {
             &mut at,
         );
         board = next;
-        if got < 0 {
-            put_unreadable(path, &mut out, &mut at);
-        }
-        flush(&out, &mut at);
+        write_out(got, path, &mut out, &mut at);
         if got <= 0 {
             return;
         }

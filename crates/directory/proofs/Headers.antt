@@ -8,10 +8,12 @@ use native.Mathlib.Omega.{arith}
 use borrow.Author.Tests.{ltb-true, leb-true, eqb-true, lt-ltb, le-ltb, le-leb, lt-leb, eq-eqb, ne-eqb}
 use lib.Dec.{eqb, leb, ltb}
 use lib.ListN.{length, take, drop}
-use Rattle.directory.specs.Directory.{nameBytes}
+use Rattle.roll.specs.Directory.{nameBytes}
 use Rattle.name.proofs.Laws.{and-true, and-false}
-use Rattle.directory.specs.Format.{headerBytes, mostCards, wordsOf, writtenVersion, recordsAt, wholeOf, version, count, directoryOffset, recordsOffset, wholeLength, agree, headed, directory}
-use Rattle.directory.proofs.Verdicts.{never}
+use Rattle.directory.specs.Format.{headerBytes, mostCards, wordsOf, writtenVersion, recordsAt, wholeOf}
+use Rattle.directory.specs.Format.{version, count, directoryOffset, recordsOffset, wholeLength}
+use Rattle.directory.specs.Format.{agree, headed, directory}
+use Rattle.roll.proofs.Names.{never}
 use Rattle.directory.specs.Format.{mostWords}
 
 -- no record is wider than that, so the words of all cards are few
@@ -124,7 +126,8 @@ pub record Sized (s : List ℕ) : Type 0 where
 
 pub sized : (s : List ℕ) → headed s ≡ true → Sized s
 sized s e =
-    let a = agreed (version s) (count s) (directoryOffset s) (recordsOffset s) (wholeLength s) (length s) e in record { cards = a .cards; long = a .long }
+    let a = agreed (version s) (count s) (directoryOffset s) (recordsOffset s) (wholeLength s) (length s) e in
+    record { cards = a .cards; long = a .long }
 
 -- the part of a library that is its directory
 abbrev pub directoryPart : List ℕ → ℕ → List ℕ

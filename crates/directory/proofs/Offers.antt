@@ -14,7 +14,7 @@ use Rattle.directory.specs.Judged.{namesJudged, offerJudged}
 use Rattle.directory.proofs.Verdicts.{SoundNames, drawn, names-yes, passed, refuse-yes}
 use Rattle.directory.proofs.Headers.{narrow, few, both}
 use Rattle.refusal.specs.Order.{Verdict, no, yes}
-use Rattle.directory.specs.Directory.{nameBytes, namesHeld}
+use Rattle.roll.specs.Directory.{nameBytes, namesHeld}
 use Rattle.directory.specs.Format.{mostWords}
 
 module _ (v : ℕ) (ns ws : List ℕ) {k : ℕ} (e : k ≡ wordsOf v) where

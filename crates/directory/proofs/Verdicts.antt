@@ -3,18 +3,14 @@ use mathlib.Core.Path.{_≡_, refl, _∙_, ap}
 use mathlib.Core.Bool.{Bool, true, false, not}
 use mathlib.Core.List.{List}
 use Prim.Native.Nat.{ℕ}
-use native.Mathlib.Omega.{arith}
 use borrow.Author.Tests.{not-false}
 use Rattle.refusal.specs.declared.Refusal.{Refusal}
 use Rattle.refusal.specs.declared.Refusal.the-variants.{Malformed, BadName, NameTwice}
 use Rattle.refusal.specs.Order.{Verdict, no, yes, refuseIf, andThen}
-use Rattle.directory.specs.Directory.{namesIn, allNamed, twice}
+use Rattle.roll.specs.Directory.{namesIn, allNamed, twice}
+use Rattle.roll.proofs.Names.{never}
 use Rattle.directory.specs.Format.{headed, directory}
 use Rattle.directory.specs.Judged.{namesJudged, numbersOf, libraryJudged, Sound}
-
--- what is not so
-pub never : {X : Type 0} → _≡_ {A = ℕ} 0 1 → X
-never e = absurd (omega arith)
 
 -- a test that is true draws its refusal, one that is not leaves what comes after
 pub drawn : {A : Type 0} {t : Bool} → t ≡ true → (f : Refusal) (v : Verdict A) → refuseIf t f v ≡ no f

@@ -6,7 +6,7 @@ use Prim.Native.Nat.{ℕ, _+_, _*_}
 use lib.Dec.{eqb, leb, ltb}
 use lib.ListN.{length, take, drop}
 use Rattle.bytes_le.specs.Le.{wordBytes, le, leAt, bytesOf}
-use Rattle.directory.specs.Directory.{nameBytes, cut, namesHeld}
+use Rattle.roll.specs.Directory.{nameBytes, cut, namesHeld}
 
 -- the bytes of the header
 abbrev pub headerBytes : ℕ

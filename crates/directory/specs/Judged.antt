@@ -7,7 +7,7 @@ use Rattle.refusal.specs.declared.Refusal.the-variants.{Malformed, BadName, Nam
 use Rattle.refusal.specs.Order.{Verdict, no, yes, refuseIf}
 use Rattle.directory.specs.declared.Inspection.{Inspection}
 use Rattle.directory.specs.declared.Inspection.the-variants.{Numbers, Refused}
-use Rattle.directory.specs.Directory.{namesIn, namesHeld, allNamed, twice}
+use Rattle.roll.specs.Directory.{namesIn, namesHeld, allNamed, twice}
 use Rattle.directory.specs.Format.{wordsOf, version, count, headed, directory, offered}
 
 -- what inspecting a library, or what is to become one, found

@@ -1,6 +1,4 @@
--- A library's form, its directory, and how both are judged; `inner` has the words of inner contracts.
-pub mod Directory
+-- A library's form, and how it and its directory are judged.
 pub mod Format
 pub mod Judged
 pub mod Unique
-pub mod inner

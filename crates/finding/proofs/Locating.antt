@@ -15,9 +15,9 @@ use Rattle.refusal.specs.declared.Refusal.the-variants.{BadName, NameNotHeld}
 use Rattle.refusal.specs.Order.{no, yes}
 use Rattle.finding.specs.Answers.{locating, recordOf}
 use Rattle.directory.specs.Judged.{Sound, libraryJudged, numbersOf}
-use Rattle.directory.specs.Directory.{among, nameBytes, namesHeld, namesIn, placeOf}
+use Rattle.roll.specs.Directory.{among, nameBytes, namesHeld, namesIn, placeOf}
 use Rattle.finding.proofs.Places.{among-place}
-use Rattle.directory.proofs.Names.{length-pieces}
+use Rattle.roll.proofs.Names.{length-pieces}
 use Rattle.directory.specs.Format.{count, directory, headerBytes, recordsAt, version, wordsOf}
 use Rattle.directory.proofs.Headers.{directory-part, directoryPart, known-width}
 use Rattle.directory.proofs.Inspections.{Inspected, inspected}

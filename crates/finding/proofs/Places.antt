@@ -9,8 +9,8 @@ use lib.Dec.{lit<, ltb}
 use lib.ListN.{length, take, drop, length-drop}
 use Rattle.bytes_le.proofs.Laws.{rest}
 use Rattle.name.specs.Name.{same}
-use Rattle.directory.specs.Directory.{nameBytes, namesIn, among, placeOf}
-use Rattle.directory.proofs.Names.{cut-none, cut-more}
+use Rattle.roll.specs.Directory.{nameBytes, namesIn, among, placeOf}
+use Rattle.roll.proofs.Names.{cut-none, cut-more}
 
 -- i names are passed, and x is none of them
 pub record Placed (x d t : List ℕ) (i : ℕ) : Type 0 where

@@ -12,7 +12,7 @@ use Rattle.refusal.specs.declared.Refusal.the-variants.{BadName, NameNotHeld}
 use Rattle.refusal.specs.Order.{Verdict, no, yes, refuseIf, andThen, Answer, tells}
 use Rattle.finding.specs.declared.Located.{Located}
 use Rattle.finding.specs.declared.Located.the-variants.{Record, Refused}
-use Rattle.directory.specs.Directory.{namesIn, among, placeOf}
+use Rattle.roll.specs.Directory.{namesIn, among, placeOf}
 use Rattle.directory.specs.Judged.{numbersOf, libraryJudged}
 use Rattle.directory.specs.Format.{recordsAt, count, directory}
 

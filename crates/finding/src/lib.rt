@@ -5,7 +5,7 @@ ghost use Prim.Native.Nat.{_≤_};
 ghost use lib.ListN.{length, take};
 ghost use Rattle.refusal.specs.Order.{tells};
 ghost use Rattle.name.specs.Name.{same};
-ghost use Rattle.directory.specs.Directory.{nameBytes, namesIn, placeOf};
+ghost use Rattle.roll.specs.Directory.{nameBytes, namesIn, placeOf};
 ghost use Rattle.finding.specs.Answers.{toldLocated, locating, Finds, HandsOut};
 use bytes_le::WORD_BYTES;
 use directory::HEADER_BYTES;

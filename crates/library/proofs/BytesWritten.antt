@@ -137,7 +137,12 @@ module _ {ws d cur : List ℕ} {i : ℕ} (v : Storing ws d cur i) where
       ap (λ (l : List ℕ). p ++ l) (eb ∙ sym (append-nil (bytesOf wordBytes (getD ws i 0)))) ∙ sym
       (bytes-append (take i ws) (getD ws i 0 ∷ []))
       ∙ ap bytesOfAll (sym (take-suc ws i 0 h) ∙ ap (λ (n : ℕ). take n ws) (sym (add-one i))) in
-      record { within = omega arith; room = v .room; so-far = then-part p b d cur (wordBytes * i) (v .so-far) long y ey ∙ ap (λ (l : List ℕ). over l d) longer }
+      record {
+        within = omega arith;
+        room = v .room;
+        so-far =
+            then-part p b d cur (wordBytes * i) (v .so-far) long y ey ∙ ap (λ (l : List ℕ). over l d) longer;
+      }
 
   -- the part has room for the word's bytes
   pub store-room : i < length ws → {b : List ℕ} → b ≡ bytesOf wordBytes (getD ws i 0)

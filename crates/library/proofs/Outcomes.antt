@@ -15,8 +15,8 @@ use Rattle.library.specs.declared.Reading.{Reading}
 use Rattle.library.specs.declared.Reading.the-variants.{Cards, Refused}
 use Rattle.library.specs.Answers.{Reads, left, read, verdictRead}
 use Rattle.directory.specs.Judged.{libraryJudged}
-use Rattle.directory.specs.Directory.{nameBytes}
-use Rattle.directory.proofs.Names.{or-false}
+use Rattle.roll.specs.Directory.{nameBytes}
+use Rattle.roll.proofs.Names.{or-false}
 use Rattle.directory.specs.Format.{directory, records, recordsAt, wordsIn}
 use Rattle.directory.proofs.Headers.{directory-part, directoryPart}
 use Rattle.directory.proofs.Inspections.{Inspected}

@@ -9,10 +9,9 @@ use lib.ListN.{length, take, drop, getD, set, length-drop, length-map}
 use Rattle.bytes_le.specs.Le.{le, Word, wordBytes}
 use Rattle.bytes_le.proofs.Laws.{rest}
 use Rattle.name.proofs.Laws.{Filled, fill-first, fill-more, fill-all}
-use Rattle.directory.specs.Directory.{cut}
+use Rattle.roll.specs.Directory.{cut}
 use Rattle.directory.specs.Format.{wordsIn}
-use Rattle.directory.proofs.Names.{length-pieces, cut-none, cut-more}
-use Rattle.directory.proofs.Verdicts.{never}
+use Rattle.roll.proofs.Names.{never, length-pieces, cut-none, cut-more}
 use Rattle.bytes_le.specs.Buffer.{over}
 
 pub words-none : (s : List ℕ) → length s < wordBytes → wordsIn s ≡ []

@@ -12,7 +12,7 @@ use Rattle.library.specs.declared.Reading.{Reading}
 use Rattle.library.specs.declared.Reading.the-variants as reading
 use Rattle.library.specs.declared.Writing.{Writing}
 use Rattle.library.specs.declared.Writing.the-variants as writing
-use Rattle.directory.specs.Directory.{nameBytes}
+use Rattle.roll.specs.Directory.{nameBytes}
 use Rattle.directory.specs.Judged.{libraryJudged, offerJudged}
 use Rattle.directory.specs.Format.{wholeOf, directory, records, wordsIn, libraryOf}
 

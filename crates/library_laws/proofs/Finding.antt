@@ -11,7 +11,7 @@ use denote.Ref.{RefT, ptr, now}
 use Rattle.finding.specs.declared.Located.{Located}
 use Rattle.finding.specs.declared.Located.the-variants.{Record, Refused}
 use Rattle.directory.specs.Format.{wordsOf, version, count, directory, records, recordsAt, recordBytes}
-use Rattle.directory.specs.Directory.{namesIn, pieces, placeOf}
+use Rattle.roll.specs.Directory.{namesIn, pieces, placeOf}
 use Rattle.finding.specs.Answers.{locating, handed, standing, Finds, toldLocated, recordAt, HandsOut}
 use Rattle.directory.specs.Judged.{Sound}
 use Rattle.directory.proofs.Headers.{only-version}

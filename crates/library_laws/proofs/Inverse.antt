@@ -14,12 +14,15 @@ use Rattle.library.specs.declared.Reading.{Reading}
 use Rattle.library.specs.declared.Reading.the-variants.{Cards}
 use Rattle.library.specs.declared.Writing.{Writing}
 use Rattle.library.specs.declared.Writing.the-variants.{Bytes}
-use Rattle.directory.specs.Directory.{allNamed, twice, nameBytes, namesHeld, namesIn}
-use Rattle.directory.specs.Format.{wordsOf, recordsAt, wholeOf, version, count, agree, headed, directory, records, wordsIn, bytesOfAll, headerOf, libraryOf, offered, directoryOffset, headerBytes, mostCards, recordsOffset, wholeLength}
+use Rattle.roll.specs.Directory.{allNamed, twice, nameBytes, namesHeld, namesIn}
+use Rattle.directory.specs.Format.{wordsOf, recordsAt, wholeOf, version, count, agree, headed, directory, records}
+use Rattle.directory.specs.Format.{wordsIn, bytesOfAll, headerOf, libraryOf, offered, headerBytes, mostCards}
+use Rattle.directory.specs.Format.{directoryOffset, recordsOffset, wholeLength}
 use Rattle.library.specs.Answers.{left, read, Reads, written, Writes}
 use Rattle.directory.specs.Judged.{libraryJudged, numbersOf, offerJudged}
 use Rattle.library.specs.Unique.{reading-told, asReading, writing-told, asWriting}
-use Rattle.directory.proofs.Verdicts.{SoundLibrary, library-pass, library-yes, names-pass, names-yes, passed, refuse-yes, then-yes}
+use Rattle.directory.proofs.Verdicts.{SoundLibrary, library-pass, library-yes, names-pass, names-yes}
+use Rattle.directory.proofs.Verdicts.{passed, refuse-yes, then-yes}
 use Rattle.directory.proofs.Headers.{Agreed, agreed, only-version}
 use Rattle.library.proofs.WordsRead.{words-none, words-more, words-length}
 use Rattle.library.proofs.BytesWritten.{length-all}
@@ -28,7 +31,7 @@ use Rattle.library.proofs.Outcomes.{read-yes}
 use Rattle.directory.proofs.Offers.{Offered, offers}
 use Rattle.library.proofs.Writings.{write-yes}
 use Rattle.refusal.specs.Order.{Verdict, tells-one, yes}
-use Rattle.directory.proofs.Names.{shorter}
+use Rattle.roll.proofs.Names.{shorter}
 use Rattle.refusal.specs.declared.Refusal.the-variants.{Malformed, ShortOutput}
 use Rattle.bytes_le.specs.Buffer.{over}
 

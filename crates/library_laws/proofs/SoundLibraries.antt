@@ -11,13 +11,14 @@ use Rattle.name.specs.Name.{mark, wellFormed}
 use Rattle.name.proofs.Laws.{and-true, same-not}
 use Rattle.library.specs.declared.Reading.{Reading}
 use Rattle.library.specs.declared.Reading.the-variants.{Cards}
-use Rattle.directory.specs.Directory.{allNamed, among, twice, nameBytes, namesHeld, namesIn}
-use Rattle.directory.specs.Format.{wordsOf, version, count, headed, directory, libraryOf, offered, mostCards, writtenVersion}
+use Rattle.roll.specs.Directory.{allNamed, among, twice, nameBytes, namesHeld, namesIn}
+use Rattle.directory.specs.Format.{wordsOf, version, count, headed, directory, libraryOf, offered}
+use Rattle.directory.specs.Format.{mostCards, writtenVersion}
 use Rattle.library.specs.Answers.{read, Reads}
 use Rattle.directory.specs.Judged.{Sound, libraryJudged, namesJudged, numbersOf, offerJudged}
 use Rattle.library.specs.Unique.{reading-told, asReading}
 use Rattle.directory.proofs.Verdicts.{SoundNames, library-pass, library-yes, names-pass, passed}
-use Rattle.directory.proofs.Names.{or-false, cut-none, cut-more}
+use Rattle.roll.proofs.Names.{or-false, cut-none, cut-more}
 use Rattle.directory.proofs.Headers.{known-width, only-version}
 use Rattle.directory.proofs.Inspections.{inspected}
 use Rattle.library.proofs.Outcomes.{read-yes}
@@ -135,4 +136,8 @@ sound-of-every-size n h =
     offers writtenVersion ns ws
     (passed (ap not (meets-one n h)) Malformed _ ∙ names-pass names _ ∙ ap
     (λ (k : ℕ). yes (k, wordsOf writtenVersion)) m) in
-    record { library = libraryOf writtenVersion ns ws; sound = library-pass (is-sound o); cards = sym (made o .is-count) }
+    record {
+      library = libraryOf writtenVersion ns ws;
+      sound = library-pass (is-sound o);
+      cards = sym (made o .is-count);
+    }

@@ -22,7 +22,8 @@ use Rattle.deck.specs.laws.Ups.{length-up}
 use Rattle.given.specs.Lists.{anyOf}
 use Rattle.places.specs.Gathered.{Card, Transistor, noTransistor, workedAt}
 use Rattle.places.specs.Finding.{names, standsAt}
-use Rattle.settle.specs.Change.{backFlow, changeBy}
+use Rattle.flows.specs.Back.{backFlow}
+use Rattle.settle.specs.Change.{changeBy}
 use Rattle.model.specs.Model.{Shift, shifted, touched}
 use Rattle.model.specs.inner.Sums.{placeGives, totalsOf}
 use Rattle.model.proofs.NodeSums.{up-at, small-place, small-sum, totals-at, totals-count, are-totals}

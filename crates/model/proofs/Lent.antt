@@ -9,7 +9,7 @@ use lib.IntN.{ℤ, pos, natAbs, _+ℤ_}
 use Rattle.volts.specs.Volts.{givenBack, AllNear}
 use Rattle.card.specs.declared.WorkedCard.{WorkedCard}
 use Rattle.terms.specs.declared.Ready.{Ready}
-use Rattle.branch.specs.declared.Over.{Over}
+use Rattle.rows.specs.declared.Over.{Over}
 use Rattle.terms.specs.inner.Ready.{IsReady}
 use Rattle.terms.specs.Rows.{roles}
 use Rattle.totals.specs.Flow.{overAt, sumBelow}
@@ -22,7 +22,8 @@ use Rattle.places.specs.laws.Gather.{card-there, transistor-there}
 use Rattle.settle.specs.declared.First.{First}
 use Rattle.settle.specs.Change.{changes, changeBy}
 use Rattle.settle.specs.First.{earlier, firstBelow}
-use Rattle.settle.specs.inner.Working.{Deck, deckOf, cardOf, Able, Volts, totalMost, cardAt, nodesAt}
+use Rattle.flows.specs.inner.Workable.{Deck, deckOf, cardOf, Able, Volts}
+use Rattle.settle.specs.inner.Working.{totalMost, cardAt, nodesAt}
 use Rattle.model.specs.Board.{Board}
 use Rattle.model.specs.Counts.{nodesMost, cardsMost, transistorsMost}
 use Rattle.model.specs.Model.{cardsOf, transistorsOf, transistorAt, workedOn, voltsOf}

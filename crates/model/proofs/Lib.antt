@@ -4,7 +4,6 @@ pub mod NodeSums
 pub mod Gains
 pub mod Invariant
 pub mod Lent
-pub mod Answers
 pub mod PlacingTests
 pub mod Moving
 pub mod Placing

@@ -10,7 +10,7 @@ use Rattle.refusal.specs.declared.Refusal.{Refusal}
 use Rattle.refusal.specs.declared.Refusal.the-variants.{OutOfRange, Overload}
 use Rattle.volts.specs.Volts.{givenBack, keptAs, offVolts}
 use Rattle.volts.specs.laws.Keeping.{KeptIs, near-set}
-use Rattle.branch.specs.Outcome.{isOver}
+use Rattle.rows.specs.Outcome.{isOver}
 use Rattle.totals.specs.Flow.{overAt}
 use Rattle.totals.specs.inner.Sums.{More}
 use Rattle.totals.specs.inner.Sizes.{flowMost}
@@ -25,7 +25,8 @@ use Rattle.places.specs.laws.Members.{member-set}
 use Rattle.settle.specs.declared.First.{First}
 use Rattle.settle.specs.Change.{changes}
 use Rattle.settle.specs.First.{firstBelow}
-use Rattle.settle.specs.inner.Working.{deckOf, Settling, gained, overOf, cardAt, nodesAt}
+use Rattle.flows.specs.inner.Workable.{deckOf}
+use Rattle.settle.specs.inner.Working.{Settling, gained, overOf, cardAt, nodesAt}
 use Rattle.settle.specs.laws.Firsts.{first-same}
 use Rattle.settle.specs.laws.Changes.{changes-same}
 use Rattle.model.specs.Board.{Board}
@@ -36,7 +37,7 @@ use Rattle.model.specs.Verdict.{moveVerdict}
 use Rattle.model.specs.Model.{cardsOf, transistorsOf, transistorAt, workedOn, Shift, shifted, touched, oneShift}
 use Rattle.model.specs.Model.{firstOver, gains, voltsOf, refuse, movedOf, Reached}
 use Rattle.model.specs.inner.Lent.{Lends, LeavesLevels}
-use Rattle.model.proofs.Answers.{off-board, on-board}
+use Rattle.model.proofs.Verdicts.{off-board, on-board}
 use Rattle.model.proofs.Gains.{more-is, touched-stands, gains-small}
 use Rattle.model.proofs.Invariant.{Invariant, invariant, totals-long}
 use Rattle.model.proofs.Lent.{deckIn, stands-there, nodes-there, worked-there, able-at, volts-kept}

@@ -14,9 +14,9 @@ use Rattle.refusal.specs.Order.{Verdict, yes}
 use Rattle.card.specs.declared.WorkedCard.{WorkedCard}
 use Rattle.volts.specs.Volts.{givenBack}
 use Rattle.octave.specs.Table.{entries}
-use Rattle.branch.specs.declared.Over.{Over}
+use Rattle.rows.specs.declared.Over.{Over}
 use Rattle.terms.specs.declared.Ready.{Ready}
-use Rattle.branch.specs.Outcome.{isOver}
+use Rattle.rows.specs.Outcome.{isOver}
 use Rattle.terms.specs.Rows.{roles}
 use Rattle.totals.specs.Flow.{overAt, overloads, flow}
 use Rattle.totals.specs.inner.Sums.{More, Room}
@@ -24,18 +24,19 @@ use Rattle.totals.specs.inner.Sizes.{roomMost}
 use Rattle.given.specs.Arguments.{Found, none, some, issueOf, issuesMost, usedUp}
 use Rattle.given.specs.inner.Nodes.{nodeOf}
 use Rattle.deck.specs.Stretch.{written}
-use Rattle.places.specs.declared.Way.{Way}
-use Rattle.places.specs.declared.Way.the-variants.{Go, Stop}
+use Rattle.placing.specs.declared.Way.{Way}
+use Rattle.placing.specs.declared.Way.the-variants.{Go, Stop}
 use Rattle.places.specs.Gathered.{Transistor, emptyTransistor, noCard, workedAt}
 use Rattle.places.specs.Finding.{cardPlace, transistorPlace, freeTransistor}
 use Rattle.places.specs.inner.Flat.{firstAt, freePlace, numberPlace, joinedAt}
 use Rattle.places.specs.inner.Parts.{placeOr}
-use Rattle.places.specs.inner.Placing.{placing, wayOf}
+use Rattle.placing.specs.inner.Placing.{placing, wayOf}
 use Rattle.places.specs.laws.Gather.{card-place, joined-flat, first-transistor, transistor-place}
 use Rattle.places.specs.laws.Founds.{not-there}
-use Rattle.places.specs.laws.Ways.{stopped, went}
-use Rattle.settle.specs.Change.{backFlow}
-use Rattle.settle.specs.inner.Working.{deckOf, Workable, cardOf, nodesAt}
+use Rattle.placing.specs.laws.Ways.{stopped, went}
+use Rattle.flows.specs.Back.{backFlow}
+use Rattle.flows.specs.inner.Workable.{deckOf, Workable, cardOf}
+use Rattle.settle.specs.inner.Working.{nodesAt}
 use Rattle.model.specs.Board.{Board}
 use Rattle.model.specs.declared.Answer.the-variants.{Issue, Done, Refused}
 use Rattle.model.specs.Board.{Answered}

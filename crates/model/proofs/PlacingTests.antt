@@ -17,7 +17,7 @@ use Rattle.given.specs.Arguments.{Found, none, some, offNode, someNodeOff, apar
 use Rattle.model.specs.Verdict.{placeVerdict}
 use Rattle.given.specs.Lists.{anyOf}
 use Rattle.given.specs.inner.Nodes.{nodeOf}
-use Rattle.places.specs.inner.Placing.{apartOn, placing}
+use Rattle.placing.specs.inner.Placing.{apartOn, placing}
 use Rattle.model.proofs.Verdicts.{on-node}
 
 abbrev pub lastly : {A : Type 0} → Verdict A → (A → Bool) → Verdict A

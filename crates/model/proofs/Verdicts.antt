@@ -1,8 +1,9 @@
 -- What a call that is taken has passed: each test of its order.
 use mathlib.Core.Path.{_≡_, refl, ap, _∙_}
-use mathlib.Core.Bool.{Bool, true, false, not, _&&_, _||_}
+use mathlib.Core.Bool.{Bool, true, false, cond, not, _&&_, _||_}
 use mathlib.Core.List.{List}
-use Prim.Native.Nat.{ℕ, _<_}
+use Prim.Native.Nat.{ℕ, _≤_, _<_}
+use native.Mathlib.Omega.{arith}
 use lib.IntN.{ℤ, pos, negsuc, natAbs}
 use Rattle.refusal.specs.declared.Refusal.the-variants.{NoRoom, NumbersUsedUp}
 use Rattle.card.specs.declared.WorkedCard.{WorkedCard}
@@ -13,6 +14,7 @@ use lib.Dec.{leb, ltb}
 use borrow.Author.Tests.{leb-false}
 use Rattle.model.specs.Counts.{nodesMost}
 use Rattle.given.specs.Arguments.{Found, none, some, offNode, someNodeOff, apart}
+use Rattle.given.specs.inner.Nodes.{nodeOf}
 use Rattle.model.specs.Verdict.{loadVerdict, placeVerdict, moveVerdict, liftVerdict, withdrawVerdict, nodeVerdict}
 use Rattle.refusal.specs.Order.{Verdict, no, yes, refuseIf, andThen, passes-if}
 use Rattle.volts.specs.Volts.{offVolts}
@@ -109,6 +111,22 @@ on-node (pos n) e = go (ltb n 0) (leb nodesMost n) refl e
     go false true p q = clash cc
     go false false p q = leb-false nodesMost n p
 on-node (negsuc n) e = clash cc
+
+-- a caller's node in range, and out of it
+pub off-board : (z : ℤ) → nodesMost ≤ nodeOf z → offNode z ≡ true
+off-board z h = go (offNode z) refl h
+  where
+    go : (t : Bool) → offNode z ≡ t → nodesMost ≤ cond t nodesMost (natAbs z) → offNode z ≡ true
+    go true e k = e
+    go false e k = let o = on-node z e in absurd (omega arith)
+
+pub on-board : (z : ℤ) → nodeOf z < nodesMost → (offNode z ≡ false) × (nodeOf z ≡ natAbs z)
+on-board z h = go (offNode z) refl h
+  where
+    go : (t : Bool) → offNode z ≡ t → cond t nodesMost (natAbs z) < nodesMost →
+        (offNode z ≡ false) × (cond t nodesMost (natAbs z) ≡ natAbs z)
+    go true e k = absurd (omega arith)
+    go false e k = (e, refl)
 
 pub shown : (n : ℤ) {k : ℕ} → nodeVerdict n ≡ yes k → k < nodesMost
 unfolding nodeVerdict

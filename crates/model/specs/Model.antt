@@ -11,9 +11,9 @@ use Rattle.refusal.specs.Order.{Verdict, no, yes}
 use Rattle.name.specs.Name.{padded, nameLength}
 use Rattle.volts.specs.Volts.{givenBack, keptAs}
 use Rattle.card.specs.declared.WorkedCard.{WorkedCard}
-use Rattle.branch.specs.declared.Over.{Over}
+use Rattle.rows.specs.declared.Over.{Over}
 use Rattle.terms.specs.inner.Ready.{readyOf}
-use Rattle.branch.specs.Outcome.{isOver}
+use Rattle.rows.specs.Outcome.{isOver}
 use Rattle.terms.specs.Rows.{roles}
 use Rattle.totals.specs.Flow.{flow, overAt, overloads, withMore}
 use Rattle.given.specs.Lists.{anyOf}
@@ -25,7 +25,8 @@ use Rattle.places.specs.Gathered.{Card, Transistor, cardsIn, transistorsIn, emp
 use Rattle.places.specs.Gathered.{noTransistor, workedAt}
 use Rattle.places.specs.Finding.{cardPlace, transistorPlace, freeCard, freeTransistor, standsOn, standsAt, highestAt}
 use Rattle.settle.specs.declared.First.{First}
-use Rattle.settle.specs.Change.{backFlow, changes}
+use Rattle.flows.specs.Back.{backFlow}
+use Rattle.settle.specs.Change.{changes}
 use Rattle.settle.specs.First.{firstBelow}
 use Rattle.model.specs.Board.{Board}
 use Rattle.model.specs.declared.Answer.the-variants.{Issue, Done, Node, Refused}

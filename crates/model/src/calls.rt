@@ -5,7 +5,7 @@ ghost use Rattle.model.specs.Model.{placedOf, movedOf, liftedOf, Reached
 ghost use Rattle.model.specs.inner.Lent.{Lends, LendsPlaces, LeavesLevels, LeavesPlaces};
 use crate::Answer;
 use branch::ROLES;
-use places::Way;
+use placing::Way;
 use refusal::Refusal;
 use volts::Voltage;
 
@@ -32,7 +32,7 @@ pub fn place(
     let n = given::issue_of(card);
     let on = given::nodes_of(roles);
     let issue = *next;
-    let way = places::may_place(held, switches, issues, issue, n, &on);
+    let way = placing::may_place(held, switches, issues, issue, n, &on);
     match way {
         Way::Stop(f) => Answer::Refused(f),
         Way::Go(at, free) => {

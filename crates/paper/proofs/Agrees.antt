@@ -21,21 +21,22 @@ use Rattle.card.specs.Judge.{judgeOf}
 use Rattle.card.specs.inner.Worked.{IsWorked}
 use Rattle.card.proofs.WorkedCards.{judged-is-worked}
 use Rattle.terms.specs.Rows.{roles}
-use Rattle.terms.specs.Values.{expOf}
-use Rattle.branch.specs.Ticks.{rootFor}
-use Rattle.branch.specs.Outcome.{outcomeOf}
+use Rattle.scaling.specs.Scaled.{expOf}
+use Rattle.rows.specs.Ticks.{rootFor}
+use Rattle.rows.specs.Outcome.{outcomeOf}
 use Rattle.terms.specs.inner.Ready.{readyOf, Askable}
 use Rattle.terms.proofs.Laws.{askable}
 use Rattle.totals.specs.Gives.{rowsGive}
 use Rattle.totals.specs.Flow.{overAt, overloads, flow, sumBelow, withMore}
-use Rattle.branch.specs.inner.FromTerms.{listUp}
+use Rattle.rows.specs.inner.FromTerms.{listUp}
 use Rattle.given.specs.Lists.{anyOf}
 use Rattle.given.specs.Arguments.{usedUp}
 use Rattle.deck.specs.Stretch.{stretch, written}
 use Rattle.deck.specs.Layout.{readyAt, cardsMost}
 use Rattle.places.specs.Gathered.{cardsIn, transistorsIn}
 use Rattle.places.specs.Finding.{first, freeCard}
-use Rattle.settle.specs.Change.{backFlow, changeBy, changes}
+use Rattle.flows.specs.Back.{backFlow}
+use Rattle.settle.specs.Change.{changeBy, changes}
 use Rattle.settle.specs.First.{firstBelow}
 use Rattle.model.specs.Board.{Board}
 use Rattle.model.specs.Verdict.{loadOrder, loadVerdict, placeVerdict, moveVerdict}

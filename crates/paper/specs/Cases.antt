@@ -13,10 +13,10 @@ use Rattle.card.specs.declared.WorkedCard.{WorkedCard}
 use Rattle.clip.specs.Limits.{width}
 use Rattle.clip.specs.Clip.{clipOf, numbersOf, maskOf}
 use Rattle.card.specs.Judge.{judgeOf}
-use Rattle.branch.specs.declared.Over.{Over}
-use Rattle.branch.specs.declared.Over.the-variants.{Within, Ticks, Injection}
+use Rattle.rows.specs.declared.Over.{Over}
+use Rattle.rows.specs.declared.Over.the-variants.{Within, Ticks, Injection}
 use Rattle.terms.specs.Rows.{roles}
-use Rattle.branch.specs.Outcome.{outcomeOf}
+use Rattle.rows.specs.Outcome.{outcomeOf}
 use Rattle.model.specs.Board.{Board}
 use Rattle.model.specs.Model.{freshBoard, loadedOf, placedOf, movedOf}
 use Rattle.paper.specs.Words.{one, two, four, minus-zero, two-to-minus-40, two-to-minus-38, wordsOf, recordOf}

@@ -12,7 +12,7 @@ use lib.ListN.{length, getD, drop, drop-of-length-le}
 use lib.Seq.{drop-cons, ext-getD}
 use borrow.Author.Tests.{ltb-false, lt-ltb}
 use Rattle.refusal.specs.Clash.{clash}
-use Rattle.branch.specs.laws.Filled.{Filled}
+use Rattle.rows.specs.laws.Filled.{Filled}
 use Rattle.deck.specs.Stretch.{stretch}
 use Rattle.deck.specs.laws.Ups.{length-up, getD-up}
 use Rattle.deck.specs.laws.Stretches.{length-stretch, getD-stretch}

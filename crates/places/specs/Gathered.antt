@@ -7,7 +7,7 @@ use Rattle.name.specs.Name.{nameLength}
 use Rattle.card.specs.declared.WorkedCard.{WorkedCard}
 use Rattle.terms.specs.declared.Ready.{Ready}
 use Rattle.terms.specs.inner.Ready.{noReady}
-use Rattle.branch.specs.inner.FromTerms.{listUp}
+use Rattle.rows.specs.inner.FromTerms.{listUp}
 use Rattle.terms.specs.Rows.{roles}
 use Rattle.deck.specs.Stretch.{stretch}
 use Rattle.deck.specs.Layout.{readyAt}

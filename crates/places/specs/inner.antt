@@ -1,4 +1,3 @@
--- Words of inner contracts: what looking through the flat arrays, sets of places and placing's tests give.
+-- Words of inner contracts: what looking through the flat arrays and sets of places give.
 pub mod Parts
 pub mod Flat
-pub mod Placing

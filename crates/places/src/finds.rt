@@ -23,7 +23,7 @@ pub fn find_card(held: &[u32; CARDS], n: u32) -> usize
     CARDS
 }
 
-pub(crate) fn find_transistor(issues: &[u32; TRANSISTORS], n: u32) -> usize
+pub fn find_transistor(issues: &[u32; TRANSISTORS], n: u32) -> usize
     ensures { λ r. ⌜ r ≡ firstAt transistorsMost n (now (issues .entry)) ⌝ }
 {
     for i in 0..TRANSISTORS {

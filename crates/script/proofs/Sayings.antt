@@ -6,19 +6,19 @@ use Prim.Native.Nat.{ℕ, _-_, _<_, _≤_}
 use borrow.Author.Tests.{eq-eqb, ne-eqb, lt-ltb, le-ltb}
 use lib.Dec.{eqb}
 use lib.ListN.{length}
-use Rattle.spelling.specs.declared.Hex.{Hex}
-use Rattle.spelling.specs.declared.Hex.the-variants.{Bytes, Bad}
-use Rattle.spelling.specs.Hex.{ReadsHex}
+use Rattle.hex.specs.declared.Hex.{Hex}
+use Rattle.hex.specs.declared.Hex.the-variants.{Bytes, Bad}
+use Rattle.hex.specs.Hex.{ReadsHex}
 use Rattle.words.specs.declared.Words.{Words}
 use Rattle.script.specs.declared.Command.{Command}
-use Rattle.script.specs.declared.Row.{Row}
-use Rattle.script.specs.declared.Verb.{Verb}
-use Rattle.script.specs.declared.Verb.the-variants.{Nothing, TooLong, Error}
-use Rattle.script.specs.declared.Wants.{Wants}
-use Rattle.script.specs.declared.Wants.the-variants.{Texts, Numbers, NameAndHex}
+use Rattle.verbs.specs.declared.Row.{Row}
+use Rattle.verbs.specs.declared.Verb.{Verb}
+use Rattle.verbs.specs.declared.Verb.the-variants.{Nothing, TooLong, Error}
+use Rattle.verbs.specs.declared.Wants.{Wants}
+use Rattle.verbs.specs.declared.Wants.the-variants.{Texts, Numbers, NameAndHex}
 use Rattle.words.specs.Words.{noWords, wordsOf, wordAt}
-use Rattle.script.specs.Table.{rowNamed}
-use Rattle.words.specs.Numbers.{areNumbers}
+use Rattle.verbs.specs.Table.{rowNamed}
+use Rattle.numbered.specs.Numbers.{areNumbers}
 use Rattle.script.specs.Command.{longestLine, mostBytes, passedOver, said, verbIf, hexOf, saidTo}
 use Rattle.script.specs.Command.{spelledTo, SaysTo, commandOf, bufferOf, Says}
 

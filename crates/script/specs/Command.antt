@@ -5,19 +5,19 @@ use mathlib.Core.List.{List}
 use Prim.Native.Nat.{ℕ, _-_}
 use lib.Dec.{eqb, ltb}
 use lib.ListN.{length, getD}
-use Rattle.spelling.specs.declared.Hex.{Hex}
-use Rattle.spelling.specs.declared.Hex.the-variants.{Bytes, Bad}
-use Rattle.spelling.specs.Hex.{spells, pairsOf, hexIf, overIf}
+use Rattle.hex.specs.declared.Hex.{Hex}
+use Rattle.hex.specs.declared.Hex.the-variants.{Bytes, Bad}
+use Rattle.hex.specs.Hex.{spells, pairsOf, hexIf, overIf}
 use Rattle.words.specs.declared.Words.{Words}
 use Rattle.script.specs.declared.Command.{Command}
-use Rattle.script.specs.declared.Row.{Row}
-use Rattle.script.specs.declared.Verb.{Verb}
-use Rattle.script.specs.declared.Verb.the-variants.{Nothing, TooLong, Error}
-use Rattle.script.specs.declared.Wants.{Wants}
-use Rattle.script.specs.declared.Wants.the-variants.{Texts, Numbers, NameAndHex}
+use Rattle.verbs.specs.declared.Row.{Row}
+use Rattle.verbs.specs.declared.Verb.{Verb}
+use Rattle.verbs.specs.declared.Verb.the-variants.{Nothing, TooLong, Error}
+use Rattle.verbs.specs.declared.Wants.{Wants}
+use Rattle.verbs.specs.declared.Wants.the-variants.{Texts, Numbers, NameAndHex}
 use Rattle.words.specs.Words.{noWords, wordsOf, wordAt}
-use Rattle.words.specs.Numbers.{mostNumbers, areNumbers, numbersTo}
-use Rattle.script.specs.Table.{rowNamed}
+use Rattle.numbered.specs.Numbers.{mostNumbers, areNumbers, numbersTo}
+use Rattle.verbs.specs.Table.{rowNamed}
 
 -- the most bytes of a line, without the newline that ends it
 abbrev pub longestLine : ℕ

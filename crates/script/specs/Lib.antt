@@ -1,6 +1,4 @@
--- What a line of a script says; `inner` has the words of inner contracts, `laws` what follows.
-pub mod Table
+-- What a line of a script says; `laws` has what follows.
 pub mod Command
 pub mod Unique
-pub mod inner
 pub mod laws

@@ -1,10 +1,10 @@
 // What a line of a script says. The line is lent; what it says comes back by value, its words by their places in the line.
 ghost use Rattle.script.specs.Command.{Says};
 
-mod table; // table.rt: the commands
 mod saying; // saying.rt: what a line says
 
-pub use words::MOST_NUMBERS;
+pub use numbered::MOST_NUMBERS;
+pub use verbs::Verb;
 pub use words::MOST_WORDS;
 pub use words::Words;
 pub use words::word;
@@ -14,39 +14,6 @@ pub const LONGEST_LINE: usize = 4096;
 
 // More bytes than a line has hex digits for.
 pub const MOST_BYTES: usize = 2048;
-
-pub enum Verb {
-    Library,
-    Find,
-    Clip,
-    Load,
-    Record,
-    Place,
-    Move,
-    Lift,
-    Withdraw,
-    Lookup,
-    Node,
-    Sheet,
-    // a line that is passed over
-    Nothing,
-    TooLong,
-    // a line that is no command
-    Error,
-}
-
-// What the words of a command have to be, beside the first: any, or numbers, as many as make so many words in all; or a
-// name and hex digits.
-pub enum Wants {
-    Texts(usize),
-    Numbers(usize),
-    NameAndHex,
-}
-
-pub struct Row {
-    pub verb: Verb,
-    pub wants: Wants,
-}
 
 // What a line says: the verb, the words, those after the first as numbers, and how many bytes its hex digits spell.
 pub struct Command {
@@ -67,7 +34,7 @@ pub fn read(line: &[u8], bytes: &mut [u8; MOST_BYTES]) -> Command
     if saying::is_passed_over(word(line, words, 0)) {
         return saying::said(line, words, Verb::Nothing, 0);
     }
-    let row = table::named(word(line, words, 0));
+    let row = verbs::named(word(line, words, 0));
     let verb = row.verb;
     let wants = row.wants;
     saying::said_to(line, words, verb, wants, bytes)

@@ -4,15 +4,15 @@ ghost use mathlib.Core.Bool.{_&&_};
 ghost use Prim.Native.Nat.{_-_};
 ghost use lib.Dec.{eqb};
 ghost use lib.ListN.{length};
-ghost use Rattle.words.specs.Numbers.{areNumbers};
+ghost use Rattle.numbered.specs.Numbers.{areNumbers};
 ghost use Rattle.script.specs.Command.{mostBytes, passedOver, said, SaysTo, verbIf};
 use crate::Command;
 use crate::Verb;
-use crate::Wants;
-use spelling::Hex;
+use hex::Hex;
+use numbered::are_numbers;
+use numbered::numbers_of;
+use verbs::Wants;
 use words::Words;
-use words::are_numbers;
-use words::numbers_of;
 use words::word;
 
 // Whether a line with that first word is passed over: it has no word, or a comment.
@@ -64,7 +64,7 @@ fn said_hex(line: &[u8], words: Words, verb: Verb, bytes: &mut [u8]) -> Command
     if words.count != 3 {
         return said(line, words, Verb::Error, 0);
     }
-    match spelling::hex_bytes(word(line, words, 2), bytes) {
+    match hex::hex_bytes(word(line, words, 2), bytes) {
         Hex::Bytes(n) => said(line, words, verb, n),
         Hex::Bad => said(line, words, Verb::Error, 0),
     }

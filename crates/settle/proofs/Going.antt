@@ -7,14 +7,12 @@ use mathlib.Core.List.{List, map}
 use Prim.Native.Nat.{ℕ, zero, suc, _+_, _-_, _≤_, _<_, zero-le}
 use native.Mathlib.Numerals.{add-one}
 use native.Mathlib.Omega.{arith}
-use lib.Dec.{eqb}
 use lib.ListN.{length, getD, List·getD-eq-default}
 use lib.IntN.{ℤ, pos, natAbs, _+ℤ_, +ℤ-idr, +ℤ-assoc}
-use borrow.Author.Tests.{eqb-true, eqb-false}
 use Rattle.whole.specs.laws.Biased.{below-or-not}
 use Rattle.volts.specs.Volts.{givenBack}
 use Rattle.octave.specs.Table.{entries}
-use Rattle.branch.specs.declared.Over.{Over}
+use Rattle.rows.specs.declared.Over.{Over}
 use Rattle.totals.specs.Gives.{nodesMost}
 use Rattle.totals.specs.Flow.{flow, overAt, sumBelow}
 use Rattle.totals.specs.inner.Sums.{More, Room}
@@ -22,10 +20,12 @@ use Rattle.places.specs.Counts.{transistorsMost}
 use Rattle.places.specs.Sets.{member}
 use Rattle.places.specs.inner.Parts.{NextIn}
 use Rattle.settle.specs.declared.First.{First}
-use Rattle.settle.specs.Change.{backFlow, changeBy, changes}
+use Rattle.flows.specs.Back.{backFlow}
+use Rattle.settle.specs.Change.{changeBy, changes}
 use Rattle.settle.specs.First.{earlier, firstBelow, nobody}
-use Rattle.settle.specs.inner.Working.{Deck, cardAt, nodesAt, gained, overOf, Settling, totalMost, Able, Workable}
-use Rattle.settle.specs.inner.Working.{Volts, cardOf}
+use Rattle.flows.specs.inner.Workable.{Deck, Workable}
+use Rattle.settle.specs.inner.Working.{cardAt, nodesAt, gained, overOf, Settling, totalMost}
+use Rattle.flows.specs.inner.Workable.{Volts, cardOf}
 
 -- ---- sums and firsts over places that are passed over
 

@@ -1,2 +1,1 @@
-pub mod Currents
 pub mod Going

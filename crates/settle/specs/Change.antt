@@ -2,13 +2,10 @@
 use mathlib.Core.Bool.{Bool, cond}
 use mathlib.Core.List.{List}
 use Prim.Native.Nat.{ℕ}
-use lib.IntN.{ℤ, pos, negℤ, _+ℤ_}
+use lib.IntN.{ℤ, pos, _+ℤ_}
 use Rattle.card.specs.declared.WorkedCard.{WorkedCard}
 use Rattle.totals.specs.Flow.{flow, sumBelow}
-
--- what a transistor adds to node n, taken away
-unfoldable pub backFlow : WorkedCard → List ℕ → List ℤ → ℕ → ℤ
-backFlow c nodes volts n = negℤ (flow c nodes volts n)
+use Rattle.flows.specs.Back.{backFlow}
 
 -- what node n gains by one transistor: its flow as it was out, its flow as it will be in
 unfoldable pub changeBy : WorkedCard → List ℕ → List ℤ → List ℤ → ℕ → ℤ

@@ -2,9 +2,9 @@
 use mathlib.Core.Bool.{Bool, cond, _&&_}
 use Prim.Native.Nat.{ℕ, zero, suc}
 use lib.Dec.{leb}
-use Rattle.branch.specs.declared.Over.{Over}
-use Rattle.branch.specs.declared.Over.the-variants.{Within}
-use Rattle.branch.specs.Outcome.{isOver}
+use Rattle.rows.specs.declared.Over.{Over}
+use Rattle.rows.specs.declared.Over.the-variants.{Within}
+use Rattle.rows.specs.Outcome.{isOver}
 use Rattle.settle.specs.declared.First.{First}
 
 abbrev pub nobody : First

@@ -1,2 +1,2 @@
--- Words of inner contracts: what working a transistor asks, and going through a set of places.
+-- Words of inner contracts: going through a set of places.
 pub mod Working

@@ -10,7 +10,7 @@ use Rattle.card.specs.Judge.{judgeOf}
 use Rattle.sheet.specs.declared.Text.{Text}
 use Rattle.sheet.specs.Text.{Adds}
 use Rattle.sheet.specs.Digits.{hexDigits, decimalOf, maskDigits}
-use Rattle.sheet.specs.Lines.{listedMask}
+use Rattle.listed.specs.Listed.{listedMask}
 
 module _ {t r : Text} {n : ℕ} (s : List ℕ) (e : n ≡ numberTold (judgeOf s)) where
   pub mask-listed : {m : ℕ} {k : Clipping} → Clips width s k → m ≡ listedMask n (k .mask)

@@ -7,14 +7,15 @@ use native.Mathlib.Nat.{not-suc-le-zero}
 use native.Mathlib.Omega.{arith}
 use borrow.Author.Tests.{lt-ltb, le-ltb}
 use Rattle.sheet.specs.declared.Text.{Text}
-use Rattle.sheet.specs.declared.digits.Opened.{Opened}
+use Rattle.current.specs.declared.Opened.{Opened}
 use Rattle.sheet.specs.Text.{Adds}
 use lib.Dec.{ltb}
 use mir.Syntax.{w64}
 use mir.Val.{SFits, toZ, ofZ}
 use Rattle.whole.proofs.Halves.{back}
 use lib.IntN.{ℤ, natAbs}
-use Rattle.sheet.specs.Digits.{glyphOf, digitsOf, plainDigits, decimalOf, signOf, belowZero, openedOf, signedDigits, picoOf, ampereDigits, decimals}
+use Rattle.current.specs.Current.{decimals, belowZero, openedOf, picoOf}
+use Rattle.sheet.specs.Digits.{glyphOf, digitsOf, plainDigits, decimalOf, signOf, signedDigits, ampereDigits}
 use Rattle.sheet.specs.Lines.{readingOf}
 use Rattle.sheet.proofs.Texts.{then}
 

@@ -51,7 +51,8 @@ module _ (m : List ℕ) (b : ℕ) where
       let all : take room m ≡ m = take-all room m (le-of-lt h) in
       let more : take room (m ++ b ∷ []) ≡ m ++ b ∷ [] = take-all room (m ++ b ∷ []) (rw longer (omega arith)) in
       let left : room - length m - 1 ≡ room - length (m ++ b ∷ []) = rw longer (omega arith) in
-      let stored : set (m ++ replicate (room - length m) 0) (length m) b ≡ (m ++ b ∷ []) ++ replicate (room - length (m ++ b ∷ [])) 0 =
+      let n = length (m ++ b ∷ []) in
+      let stored : set (m ++ replicate (room - length m) 0) (length m) b ≡ (m ++ b ∷ []) ++ replicate (room - n) 0 =
       ap (λ (l : List ℕ). set (m ++ l) (length m) b) (more-zeros (room - length m) (omega arith))
       ∙ set-at m 0 (replicate (room - length m - 1) 0) b (length m) refl
       ∙ sym (append-snoc m b (replicate (room - length m - 1) 0))

@@ -1,10 +1,10 @@
 -- Numbers in digits: hexadecimal of a fixed width, plain decimal, signed, and amperes.
 use mathlib.Core.Bool.{Bool, true, false, cond, _&&_}
 use mathlib.Core.List.{List, [], _∷_, _++_}
-use Prim.Native.Nat.{ℕ, zero, suc, _+_, _*_, _/_, _%_, _^_}
+use Prim.Native.Nat.{ℕ, zero, suc, _+_, _/_, _%_, _^_}
 use lib.Dec.{ltb}
-use lib.IntN.{ℤ, pos, negsuc, natAbs}
-use Rattle.sheet.specs.declared.digits.Opened.{Opened}
+use lib.IntN.{ℤ, natAbs}
+use Rattle.current.specs.Current.{decimals, belowZero, picoOf}
 
 -- how many hexadecimal digits a clip mask has, and a word of 64 bits
 abbrev pub maskDigits : ℕ
@@ -16,13 +16,6 @@ wordDigits = 16
 -- how many decimal digits a number of 64 bits has at most
 abbrev pub mostDigits : ℕ
 mostDigits = 20
-
--- how many ticks an ampere has, and with how many decimals it is printed
-abbrev pub ampereTicks : ℕ
-ampereTicks = 2 ^ 50
-
-abbrev pub decimals : ℕ
-decimals = 12
 
 -- the byte of a digit below sixteen: 0 to 9, then a to f
 abbrev pub glyphOf : ℕ → ℕ
@@ -50,19 +43,8 @@ abbrev pub signOf : Bool → List ℕ
 signOf true = 45 ∷ []
 signOf false = []
 
-abbrev pub belowZero : ℤ → Bool
-belowZero (pos n) = false
-belowZero (negsuc n) = true
-
-abbrev pub openedOf : ℤ → Opened
-openedOf z = record { below = belowZero z; size = natAbs z }
-
 abbrev pub signedDigits : ℤ → List ℕ
 signedDigits z = signOf (belowZero z) ++ decimalOf (natAbs z)
-
--- n ticks in whole picoamperes, the last decimal, cut
-abbrev pub picoOf : ℕ → ℕ
-picoOf n = n * 10 ^ decimals / ampereTicks
 
 -- ticks as amperes with their decimals, cut toward zero: a minus sign only where some digit is not zero
 abbrev pub ampereDigits : ℤ → List ℕ

@@ -1,28 +1,18 @@
 -- The lines that are printed, each with the newline that ends it.
-use mathlib.Core.Bool.{cond, _&&_}
 use mathlib.Core.List.{List, [], _∷_, _++_}
 use Prim.Native.Nat.{ℕ}
-use lib.Dec.{eqb, leb}
 use lib.IntN.{ℤ}
 use Rattle.refusal.specs.Order.{numberTold}
 use Rattle.clip.specs.Limits.{width}
 use Rattle.clip.specs.Clip.{maskOf}
 use Rattle.card.specs.Judge.{judgeOf}
 use Rattle.spelling.specs.Bytes.{space, newline}
+use Rattle.listed.specs.Listed.{listedMask}
 use Rattle.sheet.specs.Digits.{maskDigits, hexDigits, decimalOf, signedDigits, ampereDigits}
 
 -- a word and a number
 unfoldable pub labelLine : List ℕ → ℕ → List ℕ
 labelLine label n = label ++ (space ∷ (decimalOf n ++ newline ∷ []))
-
--- a name without its padding: what stands before the first zero
-unfoldable pub unpadded : List ℕ → List ℕ
-unpadded [] = []
-unpadded (b ∷ l) = cond (eqb b 0) [] (b ∷ unpadded l)
-
--- the mask beside the number of a card: none where that is one of 6 to 10
-abbrev pub listedMask : ℕ → ℕ → ℕ
-listedMask number mask = cond (leb 6 number && leb number 10) 0 mask
 
 -- a card's name, which has no padding, its mask and its number
 abbrev pub cardLine : List ℕ → ℕ → ℕ → List ℕ

@@ -2,7 +2,8 @@
 ghost use mathlib.Core.Path.{_≡_};
 ghost use Rattle.sheet.specs.Text.{textOf};
 ghost use Rattle.sheet.specs.Digits.{maskDigits, wordDigits, hexDigits};
-ghost use Rattle.sheet.specs.Lines.{labelLine, unpadded, listingLine, nodeLine, sheetLine};
+ghost use Rattle.sheet.specs.Lines.{labelLine, listingLine, nodeLine, sheetLine};
+pub use listed::bare_name;
 
 mod gather; // gather.rt: bytes gathered one after the other
 mod digits; // digits.rt: numbers in digits
@@ -46,26 +47,12 @@ pub fn word_digits(word: u64) -> Text
     digits::hex(gather::empty(), word, WORD_DIGITS)
 }
 
-// A name without its padding: the part before the first zero.
-pub fn bare_name(padded: &[u8]) -> &[u8]
-    ensures { λ r. ⌜ now r ≡ unpadded (now (padded .entry)) ⌝ }
-{
-    let mut i = 0;
-    while i < padded.len() {
-        if padded[i] == 0 {
-            return &padded[0..i];
-        }
-        i += 1;
-    }
-    padded
-}
-
 // A card's line in the listing, from its name without padding and its record.
 pub fn listing_line(name: &[u8], bytes: &[u8]) -> Text
     ensures { λ r. ⌜ r ≡ textOf (listingLine (now (name .entry)) (now (bytes .entry))) ⌝ }
 {
     let number = lines::judged(bytes);
-    let mask = lines::listed_mask(number, card::clip(bytes).mask);
+    let mask = listed::listed_mask(number, card::clip(bytes).mask);
     let named = gather::append(gather::empty(), name);
     let spaced = gather::push(named, b' ');
     let masked = digits::hex(spaced, mask as u64, MASK_DIGITS);

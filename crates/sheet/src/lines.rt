@@ -3,7 +3,7 @@ ghost use mathlib.Core.Path.{_≡_};
 ghost use Rattle.refusal.specs.Order.{numberTold};
 ghost use Rattle.card.specs.Judge.{judgeOf};
 ghost use Rattle.sheet.specs.Text.{Adds};
-ghost use Rattle.sheet.specs.Lines.{listedMask, readingOf};
+ghost use Rattle.sheet.specs.Lines.{readingOf};
 use crate::Text;
 use crate::digits;
 use crate::gather;
@@ -16,16 +16,6 @@ pub(crate) fn judged(bytes: &[u8]) -> u32
     match card::judge(bytes) {
         Judged::Card(_) => 0,
         Judged::Refused(f) => refusal::number(f),
-    }
-}
-
-// The mask that is listed beside a number.
-pub(crate) fn listed_mask(number: u32, mask: u32) -> u32
-    ensures { λ r. ⌜ r ≡ listedMask number mask ⌝ }
-{
-    match number {
-        6..=10 => 0,
-        _ => mask,
     }
 }
 

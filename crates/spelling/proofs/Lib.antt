@@ -2,4 +2,3 @@
 pub mod Ranges
 pub mod ByteLoops
 pub mod Numerals
-pub mod HexPairs

@@ -12,7 +12,8 @@ use lib.Seq.{take-all}
 use lib.IntN.{ℤ, pos, negsuc, negℤ}
 use Rattle.spelling.specs.declared.Parsed.{Parsed}
 use Rattle.spelling.specs.declared.Parsed.the-variants.{Number, Nothing}
-use Rattle.spelling.specs.Number.{allDigits, decimalValue, nearest, parsedWith, parsedAfter, parsedOf, firstBeyond}
+use Rattle.spelling.specs.Number.{firstBeyond, allDigits, decimalValue, nearest}
+use Rattle.spelling.specs.Number.{parsedWith, parsedAfter, parsedOf}
 
 -- ---- a number held among those of 64 bits
 

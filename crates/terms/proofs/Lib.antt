@@ -1,4 +1,2 @@
-pub mod Scaling
-pub mod Junctions
 pub mod Readied
 pub mod Laws

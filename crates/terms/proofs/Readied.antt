@@ -15,10 +15,11 @@ use Rattle.card.specs.declared.WorkedCard.{WorkedCard}
 use Rattle.card.specs.inner.Worked.{IsWorked}
 use Rattle.terms.specs.declared.Ready.{Ready}
 use Rattle.terms.specs.Rows.{roles}
-use Rattle.terms.specs.Values.{valueAt, expOf, times, wholeTicks, wholeParts, tickLimit, ratioLimit}
-use Rattle.terms.specs.inner.Ready.{aloneOf, readyOf, IsReady, Askable, expAt}
-use Rattle.terms.specs.inner.Terms.{UpTo, IsExp, Scalable, Junction, scaledOf, moreParts}
-use Rattle.terms.proofs.Scaling.{ticks-upto, parts-upto, alone-upto}
+use Rattle.scaling.specs.Scaled.{valueAt, expOf, times, wholeTicks, wholeParts, tickLimit, ratioLimit}
+use Rattle.scaling.specs.inner.Shifts.{aloneOf, expAt}
+use Rattle.terms.specs.inner.Ready.{readyOf, IsReady, Askable}
+use Rattle.scaling.specs.inner.Shifts.{UpTo, IsExp, Scalable, Junction, scaledOf, moreParts}
+use Rattle.scaling.proofs.Scaling.{ticks-upto, parts-upto, alone-upto}
 
 -- both octaves are in range
 pub octave-in : {c : WorkedCard} → IsWorked c → InRange (c .octave)

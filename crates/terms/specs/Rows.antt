@@ -4,33 +4,7 @@ use mathlib.Core.Bool.{Bool, true, false}
 use mathlib.Core.List.{List, [], _∷_}
 use Prim.Native.Nat.{ℕ}
 use lib.ListN.{length}
-
--- the places of a transistor to which a node is given
-pub data Role : Type 0 where
-  E1 : Role
-  B1 : Role
-  B2 : Role
-  C1 : Role
-  C2 : Role
-  C4 : Role
-  S : Role
-
--- in the order in which a placing names them
-abbrev pub allRoles : List Role
-allRoles = E1 ∷ B1 ∷ B2 ∷ C1 ∷ C2 ∷ C4 ∷ S ∷ []
-
-abbrev pub roles : ℕ
-roles = length allRoles
-
--- a role's number in that order
-abbrev pub roleIndex : Role → ℕ
-roleIndex E1 = 0
-roleIndex B1 = 1
-roleIndex B2 = 2
-roleIndex C1 = 3
-roleIndex C2 = 4
-roleIndex C4 = 5
-roleIndex S = 6
+pub use Rattle.scaling.specs.Roles.{Role, E1, B1, B2, C1, C2, C4, S, allRoles, roles, roleIndex}
 
 -- the worked values of a card
 pub data Value : Type 0 where

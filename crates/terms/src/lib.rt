@@ -14,20 +14,12 @@ pub use ends::C4;
 pub use ends::from_roles;
 pub use ends::to_roles;
 use octave::Reciprocal;
+pub use scaling::PART_PLACES;
+pub use scaling::ROLES;
+pub use scaling::TICKS_MOST;
 pub use values::all_terms;
 
 pub const BRANCHES: usize = 7;
-
-// E1, B1, B2, C1, C2, C4, S.
-pub const ROLES: usize = 7;
-
-// The most that a T may be.
-pub const TICKS_MOST: u64 = 9007199254740992;
-
-// Binary places of a tick, and of the unit in which ratios count.
-const TICK_PLACES: u64 = 50;
-
-pub const PART_PLACES: u64 = 20;
 
 // A card with what depends on it alone: the octaves' reciprocals, and each T without an exponential.
 pub struct Ready {
@@ -61,11 +53,11 @@ pub fn prepare(c: WorkedCard) -> Ready
         card: c,
         plain: plain,
         second: second,
-        bulk: values::alone(c.bulk),
-        side: values::alone(c.side),
-        nonideal: values::alone(c.nonideal),
-        ex: values::alone(c.ex),
-        sub: values::alone(c.sub),
-        sf: values::alone(c.sf),
+        bulk: scaling::alone(c.bulk),
+        side: scaling::alone(c.side),
+        nonideal: scaling::alone(c.nonideal),
+        ex: scaling::alone(c.ex),
+        sub: scaling::alone(c.sub),
+        sf: scaling::alone(c.sf),
     }
 }

@@ -16,7 +16,7 @@ use borrow.Author.Tests.{eqb-true, eqb-false}
 use mir.Syntax.{w64}
 use mir.Val.{SFits}
 use Rattle.whole.specs.laws.Biased.{below-or-not}
-use Rattle.terms.specs.Values.{tickLimit}
+use Rattle.scaling.specs.Scaled.{tickLimit}
 use Rattle.terms.specs.Rows.{Row, roleIndex, roles, branches}
 use Rattle.totals.specs.Gives.{nodesMost, atNode, rowsGive}
 use Rattle.totals.specs.inner.Sums.{More, Within, Room, Wired, ends, endsGive, spread}

@@ -5,7 +5,7 @@ use Prim.Native.Nat.{ℕ, zero, suc, _≤_, _<_}
 use native.Mathlib.Nat.{zero-add}
 use native.Mathlib.Omega.{arith}
 use lib.ListN.{length, getD}
-use Rattle.branch.specs.laws.Filled.{Filled, filled-all, up-map}
+use Rattle.rows.specs.laws.Filled.{Filled, filled-all, up-map}
 
 pub getD-map : {A B : Type 0} (f : A → B) (l : List A) (i : ℕ) (d : A) (e : B) → i < length l →
     getD (map f l) i e ≡ f (getD l i d)

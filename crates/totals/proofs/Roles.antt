@@ -11,7 +11,7 @@ use lib.ListN.{length, getD, replicate, length-map}
 use lib.IntN.{ℤ, pos, negℤ, _+ℤ_, _-ℤ_, +ℤ-idl, +ℤ-idr, +ℤ-assoc, +ℤ-comm, negℤ-+ℤ, negℤ-negℤ}
 use borrow.Author.Tests.{eqb-true, eqb-false, ne-eqb}
 use Rattle.terms.specs.Rows.{Role, E1, B1, B2, C1, C2, C4, S, Row, roleIndex, roles, branches}
-use Rattle.terms.specs.Values.{tickLimit}
+use Rattle.scaling.specs.Scaled.{tickLimit}
 use Rattle.terms.specs.Ends.{fromsOf, tosOf}
 use Rattle.totals.specs.Gives.{nodesMost, atNode, rowsGive}
 use Rattle.totals.specs.inner.Sums.{More, Within, Room, Wired, Givable, ends, endsGive, spread, rolesGive}

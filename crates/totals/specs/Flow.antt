@@ -6,10 +6,10 @@ use Prim.Native.Nat.{ℕ, zero, suc}
 use lib.ListN.{getD}
 use lib.IntN.{ℤ, pos, _+ℤ_}
 use Rattle.card.specs.declared.WorkedCard.{WorkedCard}
-use Rattle.branch.specs.declared.Over.{Over}
+use Rattle.rows.specs.declared.Over.{Over}
 use Rattle.terms.specs.Rows.{rowsFor}
-use Rattle.branch.specs.Outcome.{isOver, outcomeOf}
-use Rattle.branch.specs.inner.FromTerms.{listUp}
+use Rattle.rows.specs.Outcome.{isOver, outcomeOf}
+use Rattle.rows.specs.inner.FromTerms.{listUp}
 use Rattle.totals.specs.Gives.{nodesMost, rowsGive}
 
 -- the voltages of its roles

@@ -3,7 +3,7 @@ ghost use Prim.Native.Nat.{ℕ, _≤_, _<_};
 ghost use lib.ListN.{getD};
 ghost use lib.IntN.{natAbs, pos};
 ghost use Rattle.terms.specs.Rows.{roles, branches};
-ghost use Rattle.terms.specs.Values.{tickLimit};
+ghost use Rattle.scaling.specs.Scaled.{tickLimit};
 ghost use Rattle.terms.specs.Ends.{fromRoles, toRoles};
 ghost use Rattle.totals.specs.Gives.{nodesMost, atNode};
 ghost use Rattle.totals.specs.inner.Sizes.{flowMost, roomMost, handedMost};

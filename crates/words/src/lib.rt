@@ -1,19 +1,14 @@
-// The words of a line, by their places in it, and the numbers that they are.
+// The words of a line, by their places in it.
 ghost use mathlib.Core.Path.{_≡_};
 ghost use Rattle.words.specs.Words.{wordAt};
 
 mod parting; // parting.rt: a line parted in words
-mod numbers; // numbers.rt: the numbers of a line
 
-pub use numbers::are_numbers;
-pub use numbers::numbers_of;
 pub use parting::no_words;
 pub use parting::words_of;
 
-// The most words that a command has, and the most numbers.
+// The most words that a command has.
 pub const MOST_WORDS: usize = 9;
-
-pub const MOST_NUMBERS: usize = 8;
 
 // Where the first words of a line begin, and the places after them. `count` is how many there are; one more than the
 // most stands for any more.

@@ -18,7 +18,8 @@ returns c =
     let m = masked c in
     then (m .before .before .before .put .ensures)
     (then
-    (text-written (m .before .before .mask-digits .ensures) (hex-whole maskDigits _ (omega arith)) (m .put-text .ensures))
+    (text-written (m .before .before .mask-digits .ensures) (hex-whole maskDigits _ (omega arith))
+    (m .put-text .ensures))
     (c .put-words .ensures))
 
 pub clip-line-spec : {M : Type 1} → statement M

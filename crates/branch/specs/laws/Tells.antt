@@ -19,7 +19,7 @@ use Rattle.card.specs.laws.Tells.{judge-order}
 use Rattle.branch.specs.declared.Admission.{Admission}
 use Rattle.branch.specs.declared.Admission.the-variants.{Given, Refused}
 use Rattle.branch.specs.declared.Reply.{Reply}
-use Rattle.branch.specs.Outcome.{isOver, outcomeOf}
+use Rattle.rows.specs.Outcome.{isOver, outcomeOf}
 use Rattle.branch.specs.Currents.{atVolts, currentsOf, toldReply, Replies}
 
 -- ---- the number

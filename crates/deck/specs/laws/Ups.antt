@@ -9,8 +9,8 @@ use lib.Dec.{eqb}
 use lib.ListN.{length, getD, set, replicate, length-set}
 use lib.Seq.{getD-set-same, getD-set-other}
 use borrow.Author.Tests.{eqb-true, eqb-false}
-use Rattle.branch.specs.inner.FromTerms.{listUp}
-use Rattle.branch.specs.laws.Filled.{filled-all}
+use Rattle.rows.specs.inner.FromTerms.{listUp}
+use Rattle.rows.specs.laws.Filled.{filled-all}
 
 module _ {A : Type 0} where
   pub length-up : (f : ℕ → A) (n k : ℕ) → length (listUp f n k) ≡ n

@@ -1,6 +1,7 @@
 -- `directory::agrees` meets its contract: its tests are the definition's, in the same order.
 use native.Mathlib.Omega.{arith}
-use Rattle.directory.proofs.Headers.{few, agree-version, agree-count, agree-directory, agree-records, agree-whole, agree-length}
+use Rattle.directory.proofs.Headers.{few, agree-version, agree-count, agree-directory}
+use Rattle.directory.proofs.Headers.{agree-records, agree-whole, agree-length}
 use borrow.Author.Needs.{needs}
 use Rattle.directory.proofs.agrees.Statement.{statement}
 use Rattle.directory.proofs.agrees.Tie as tie

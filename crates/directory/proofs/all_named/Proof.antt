@@ -3,8 +3,8 @@ use mathlib.Core.Path.{refl, sym, _∙_}
 use lib.ListN.{length}
 use lib.Seq.{length-take-le}
 use Rattle.name.proofs.Laws.{and-true, and-false}
-use Rattle.directory.specs.Directory.{allNamed}
-use Rattle.directory.proofs.Names.{shorter, Walk, walk-end, walk-here, walk-on}
+use Rattle.roll.specs.Directory.{allNamed}
+use Rattle.roll.proofs.Names.{shorter, Walk, walk-end, walk-here, walk-on}
 use borrow.Author.Needs.{needs}
 use Rattle.directory.proofs.all_named.Statement.{statement}
 use Rattle.directory.proofs.all_named.Tie as tie

@@ -16,7 +16,8 @@ returns c =
     let a = d .before .before .before .args in
     c .refuse-if2 .ensures ∙ ap₂ (λ (t : Bool) (v : Verdict (ℕ × ℕ)). refuseIf t BadName v)
     (ap not (d .before .all-named .ensures))
-    (c .before .refuse-if .ensures ∙ ap (λ (t : Bool). refuseIf t NameTwice (yes (a .cards, a .words))) (d .doubled .ensures))
+    (c .before .refuse-if .ensures
+    ∙ ap (λ (t : Bool). refuseIf t NameTwice (yes (a .cards, a .words))) (d .doubled .ensures))
 
 pub judge-spec : {M : Type 1} → statement M
 judge-spec =

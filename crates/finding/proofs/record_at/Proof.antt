@@ -35,19 +35,22 @@ wide c = c .before .width .ensures .0 ∙ ap wordsOf (c .before .before .u16-at 
 returns : tie.Need-returns
 returns c =
     let d = c .before .before in
-    hands-none (d .before .before .before .before .args .library) (d .before .before .before .before .args .k) (d .u16-at2 .ensures) (wide d) (c .before .if1 .taken)
+    let s = d .before .before .before .before .args in
+    hands-none (s .library) (s .k) (d .u16-at2 .ensures) (wide d) (c .before .if1 .taken)
     refl refl
 
 returns-2 : tie.Need-returns-2
 returns-2 c =
     let d = c .before .before .before in
-    hands-short (d .before .before .before .before .args .library) (d .before .before .before .before .args .k) (d .u16-at2 .ensures) (wide d)
+    let s = d .before .before .before .before .args in
+    hands-short (s .library) (s .k) (d .u16-at2 .ensures) (wide d)
     (c .before .before .if1 .left) refl refl (c .before .if2 .taken) refl refl
 
 returns-3 : tie.Need-returns-3
 returns-3 c =
     let d = c .before .before .before in
-    hands-record (d .before .before .before .before .args .library) (d .before .before .before .before .args .k) (d .u16-at2 .ensures) (wide d)
+    let s = d .before .before .before .before .args in
+    hands-record (s .library) (s .k) (d .u16-at2 .ensures) (wide d)
     (c .before .before .if1 .left) refl refl (c .before .if2 .left) refl refl
 
 pub record-at-spec : {M : Type 1} → statement M

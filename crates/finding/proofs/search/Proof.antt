@@ -2,7 +2,7 @@
 use mathlib.Core.Path.{sym, _∙_}
 use native.Mathlib.Omega.{arith}
 use lib.ListN.{length}
-use Rattle.directory.proofs.Names.{shorter}
+use Rattle.roll.proofs.Names.{shorter}
 use Rattle.finding.proofs.Places.{Placed, place-end, place-here, place-on}
 use borrow.Author.Needs.{needs}
 use Rattle.finding.proofs.search.Statement.{statement}

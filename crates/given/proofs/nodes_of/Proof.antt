@@ -6,7 +6,7 @@ use lib.ListN.{length, getD}
 use lib.IntN.{pos}
 use borrow.Author.Needs.{needs}
 use Rattle.terms.specs.Rows.{roles}
-use Rattle.branch.specs.laws.Filled.{Filled, filled-none, filled-more}
+use Rattle.rows.specs.laws.Filled.{Filled, filled-none, filled-more}
 use Rattle.given.specs.inner.Nodes.{nodeOf}
 use Rattle.totals.proofs.Integers.{held}
 use Rattle.totals.proofs.Lists.{filled-map}

@@ -7,7 +7,7 @@ use Rattle.directory.proofs.Inspections.{Inspected, inspected}
 use borrow.Author.Needs.{needs}
 use Rattle.library.proofs.read.Statement.{statement}
 use Rattle.library.proofs.read.Tie as tie
-use Rattle.directory.proofs.Names.{or-true}
+use Rattle.roll.proofs.Names.{or-true}
 use Rattle.directory.specs.Judged.{found}
 
 abbrev start-before-cards : tie.After-cards → tie.Start

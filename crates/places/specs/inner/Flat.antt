@@ -7,7 +7,7 @@ use lib.Dec.{eqb}
 use lib.ListN.{getD}
 use Rattle.name.specs.Name.{nameLength}
 use Rattle.terms.specs.Rows.{roles}
-use Rattle.branch.specs.inner.FromTerms.{listUp}
+use Rattle.rows.specs.inner.FromTerms.{listUp}
 use Rattle.deck.specs.Stretch.{stretch}
 use Rattle.deck.specs.Layout.{switchesEach}
 use Rattle.given.specs.Lists.{anyOf, larger}

@@ -8,7 +8,7 @@ use lib.ListN.{length, set, replicate}
 use lib.Seq.{getD-set-same, getD-set-other}
 use Rattle.name.specs.Name.{nameLength}
 use Rattle.terms.specs.Rows.{roles}
-use Rattle.branch.specs.inner.FromTerms.{listUp}
+use Rattle.rows.specs.inner.FromTerms.{listUp}
 use Rattle.deck.specs.Stretch.{written}
 use Rattle.deck.specs.Layout.{numbersEach, powersEach, ticksEach, switchesEach}
 use Rattle.deck.specs.Layout.{numbersOf, powersOf, ticksOf, switchesOf}

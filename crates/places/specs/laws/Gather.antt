@@ -8,7 +8,7 @@ use native.Mathlib.Omega.{arith}
 use lib.Dec.{eqb, ltb}
 use lib.ListN.{length, getD, List·getD-eq-default}
 use borrow.Author.Tests.{ltb-true, ltb-false}
-use Rattle.branch.specs.inner.FromTerms.{listUp}
+use Rattle.rows.specs.inner.FromTerms.{listUp}
 use Rattle.deck.specs.Layout.{switchesEach}
 use Rattle.deck.specs.laws.Ups.{length-up, getD-up}
 use Rattle.deck.specs.laws.Laid.{ready-joined}

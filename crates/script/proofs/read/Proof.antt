@@ -2,7 +2,7 @@
 use mathlib.Core.Path.{sym, ap, _∙_}
 use borrow.Author.Needs.{needs}
 use Rattle.script.specs.Command.{passedOver}
-use Rattle.script.specs.Table.{rowNamed}
+use Rattle.verbs.specs.Table.{rowNamed}
 use Rattle.script.proofs.Sayings.{says-long, says-nothing, says-row}
 use Rattle.script.proofs.read.Tie as tie
 use Rattle.script.proofs.read.Statement.{statement}

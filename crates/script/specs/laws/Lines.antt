@@ -7,13 +7,13 @@ use borrow.Author.Tests.{lt-ltb}
 use lib.IntN.{pos, negsuc}
 use lib.ListN.{length}
 use Rattle.spelling.specs.Number.{parsedOf, parsedWith, allDigits, decimalFrom}
-use Rattle.spelling.specs.Hex.{spells, allPairs, pairsOf}
-use Rattle.script.specs.declared.Verb.{Verb}
-use Rattle.script.specs.declared.Verb.the-variants.{Record, Lift, Withdraw, Sheet, Nothing, TooLong, Error}
+use Rattle.hex.specs.Hex.{spells, allPairs, pairsOf}
+use Rattle.verbs.specs.declared.Verb.{Verb}
+use Rattle.verbs.specs.declared.Verb.the-variants.{Record, Lift, Withdraw, Sheet, Nothing, TooLong, Error}
 use Rattle.spelling.specs.Bytes.{bytes}
 use Rattle.words.specs.Words.{spansFrom, withWord, withWords, wordsOf, partOf}
-use Rattle.script.specs.Table.{placeIn, rowNamed}
-use Rattle.words.specs.Numbers.{areNumbers, numbersTo}
+use Rattle.verbs.specs.Table.{placeIn, rowNamed}
+use Rattle.numbered.specs.Numbers.{areNumbers, numbersTo}
 use Rattle.script.specs.Command.{longestLine, said, hexOf, saidTo, commandOf}
 
 -- too long before anything else

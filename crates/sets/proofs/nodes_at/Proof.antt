@@ -4,7 +4,7 @@ use Prim.Native.Nat.{ℕ, _≤_, _-_, _+_, _*_}
 use native.Mathlib.Omega.{arith}
 use lib.ListN.{getD}
 use borrow.Author.Needs.{needs}
-use Rattle.branch.specs.laws.Filled.{Filled, filled-none, filled-more}
+use Rattle.rows.specs.laws.Filled.{Filled, filled-none, filled-more}
 use Rattle.terms.specs.Rows.{roles}
 use Rattle.places.proofs.Scans.{filled-stretch}
 use Rattle.sets.proofs.nodes_at.Statement.{statement}

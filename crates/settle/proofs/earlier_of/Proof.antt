@@ -4,8 +4,8 @@ use mathlib.Core.Bool.{true, false}
 use Prim.Native.Nat.{ℕ, _≤_, _<_}
 use borrow.Author.Needs.{needs}
 use borrow.Author.Tests.{le-leb, lt-leb}
-use Rattle.branch.specs.declared.Over.{Over}
-use Rattle.branch.specs.Outcome.{isOver}
+use Rattle.rows.specs.declared.Over.{Over}
+use Rattle.rows.specs.Outcome.{isOver}
 use Rattle.settle.specs.declared.First.{First}
 use Rattle.settle.specs.First.{earlier}
 use Rattle.settle.proofs.earlier_of.Statement.{statement}

@@ -8,8 +8,9 @@ use Rattle.totals.specs.Gives.{nodesMost}
 use Rattle.totals.specs.inner.Sums.{Room}
 use Rattle.totals.proofs.Amounts.{room-less, room-more}
 use Rattle.places.specs.Counts.{transistorsMost}
-use Rattle.settle.specs.inner.Working.{deckOf, totalMost}
-use Rattle.settle.proofs.Currents.{takes-small}
+use Rattle.flows.specs.inner.Workable.{deckOf}
+use Rattle.settle.specs.inner.Working.{totalMost}
+use Rattle.flows.proofs.Currents.{takes-small}
 use Rattle.settle.proofs.Going.{Gone, gone-none, gone-room, gone-works, gone-more, next-later}
 use Rattle.settle.proofs.settle.Statement.{statement}
 use Rattle.settle.proofs.settle.Tie as tie

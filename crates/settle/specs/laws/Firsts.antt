@@ -7,8 +7,8 @@ use native.Mathlib.Omega.{arith}
 use lib.Dec.{eqb, leb}
 use borrow.Author.Tests.{eqb-true, eqb-false}
 use Rattle.refusal.specs.Clash.{clash}
-use Rattle.branch.specs.declared.Over.{Over}
-use Rattle.branch.specs.Outcome.{isOver}
+use Rattle.rows.specs.declared.Over.{Over}
+use Rattle.rows.specs.Outcome.{isOver}
 use Rattle.settle.specs.declared.First.{First}
 use Rattle.settle.specs.First.{earlier, firstBelow}
 

@@ -15,8 +15,11 @@ use Rattle.clip.specs.Clip.{maskOf}
 use Rattle.card.specs.Judge.{judgeOf}
 use Rattle.spelling.specs.Bytes.{newline}
 use Rattle.sheet.specs.Text.{room, textOf, shown}
-use Rattle.sheet.specs.Digits.{glyphOf, digitsOf, hexDigits, plainDigits, signOf, belowZero, picoOf, ampereDigits, decimals, maskDigits, mostDigits, wordDigits}
-use Rattle.sheet.specs.Lines.{labelLine, listedMask, listingLine, readingOf, nodeLine, sheetLine}
+use Rattle.current.specs.Current.{decimals, belowZero, picoOf}
+use Rattle.listed.specs.Listed.{listedMask}
+use Rattle.sheet.specs.Digits.{glyphOf, digitsOf, hexDigits, plainDigits, signOf, ampereDigits}
+use Rattle.sheet.specs.Digits.{maskDigits, mostDigits, wordDigits}
+use Rattle.sheet.specs.Lines.{labelLine, listingLine, readingOf, nodeLine, sheetLine}
 
 pub text-whole : (l : List ℕ) → length l ≤ room → shown (textOf l) ≡ l
 unfolding textOf

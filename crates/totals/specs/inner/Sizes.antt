@@ -2,7 +2,7 @@
 -- what they have.
 use Prim.Native.Nat.{ℕ, suc, _+_, _*_, _-_}
 use Rattle.whole.specs.Signed.{signedSpan}
-use Rattle.terms.specs.Values.{tickLimit}
+use Rattle.scaling.specs.Scaled.{tickLimit}
 use Rattle.terms.specs.Rows.{roles, branches}
 
 -- what a transistor gives to a node, or has at a role: a branch counts once there

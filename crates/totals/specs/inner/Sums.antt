@@ -6,7 +6,7 @@ use Prim.Native.Nat.{ℕ, zero, suc, _≤_, _<_}
 use lib.ListN.{getD, length}
 use lib.Seq.{ext-getD}
 use lib.IntN.{ℤ, pos, natAbs, _+ℤ_, _-ℤ_}
-use Rattle.terms.specs.Values.{tickLimit}
+use Rattle.scaling.specs.Scaled.{tickLimit}
 use Rattle.terms.specs.Rows.{roles, branches}
 use Rattle.totals.specs.Gives.{nodesMost, atNode}
 use Rattle.totals.specs.inner.Sizes.{roomMost}

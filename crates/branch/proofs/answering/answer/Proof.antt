@@ -6,7 +6,7 @@ use borrow.Author.Needs.{needs}
 use Rattle.volts.specs.Volts.{givenBack}
 use Rattle.card.specs.declared.WorkedCard.{WorkedCard}
 use Rattle.terms.specs.declared.Ready.{Ready}
-use Rattle.branch.specs.Outcome.{isOver, outcomeOf}
+use Rattle.rows.specs.Outcome.{isOver, outcomeOf}
 use Rattle.terms.specs.inner.Ready.{IsReady}
 use Rattle.terms.proofs.Laws.{ready-card, ready-made}
 use Rattle.branch.proofs.Replying.{reply-given, reply-over}

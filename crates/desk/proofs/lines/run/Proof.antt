@@ -25,11 +25,8 @@ read-requires c κs = search needs
 feed-requires : tie.Need-feed-requires Inv-loop μ-loop
 feed-requires c κs = search needs
 
-put-unreadable-requires : tie.Need-put-unreadable-requires Inv-loop μ-loop
-put-unreadable-requires c κs = search needs
-
-flush-requires : tie.Need-flush-requires Inv-loop μ-loop
-flush-requires c κs = search needs
+write-out-requires : tie.Need-write-out-requires Inv-loop μ-loop
+write-out-requires c κs = search needs
 
 returns : tie.Need-returns Inv-loop μ-loop
 returns c = search needs
@@ -57,8 +54,7 @@ run-spec =
     loop-holds
     read-requires
     feed-requires
-    put-unreadable-requires
-    flush-requires
+    write-out-requires
     returns
     sub-turns
     loop-less

@@ -11,7 +11,7 @@ use mir.ValLaws.{toZ-ofZ}
 use Rattle.terms.specs.Rows.{roles}
 use Rattle.given.specs.Arguments.{issueOf, issuesMost, usedUp}
 use Rattle.places.specs.inner.Flat.{freePlace, numberPlace, joinedAt}
-use Rattle.places.specs.inner.Placing.{placing, wayOf}
+use Rattle.placing.specs.inner.Placing.{placing, wayOf}
 use Rattle.model.specs.Counts.{cardsMost, transistorsMost}
 use Rattle.model.proofs.Placing.{lent-stops, lent-free, lent-number, lent-card, lent-works, lent-over}
 use Rattle.model.proofs.Placing.{lent-places}

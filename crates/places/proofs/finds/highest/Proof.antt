@@ -7,7 +7,7 @@ use native.Mathlib.Omega.{arith}
 use lib.ListN.{getD, drop}
 use borrow.Author.Needs.{needs}
 use Rattle.name.specs.Name.{nameLength}
-use Rattle.branch.specs.inner.FromTerms.{listUp}
+use Rattle.rows.specs.inner.FromTerms.{listUp}
 use Rattle.given.specs.Lists.{larger}
 use Rattle.deck.specs.Stretch.{stretch}
 use Rattle.deck.specs.laws.Ups.{length-up, getD-up}

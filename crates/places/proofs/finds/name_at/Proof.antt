@@ -5,7 +5,7 @@ use native.Mathlib.Omega.{arith}
 use lib.ListN.{getD}
 use borrow.Author.Needs.{needs}
 use Rattle.name.specs.Name.{nameLength}
-use Rattle.branch.specs.laws.Filled.{Filled, filled-none, filled-more}
+use Rattle.rows.specs.laws.Filled.{Filled, filled-none, filled-more}
 use Rattle.places.proofs.Scans.{filled-stretch}
 use Rattle.places.proofs.finds.name_at.Statement.{statement}
 use Rattle.places.proofs.finds.name_at.Tie as tie

@@ -2,7 +2,7 @@
 use mathlib.Core.Path.{ap, _∙_}
 use borrow.Author.Needs.{needs}
 use Rattle.whole.proofs.Halves.{back}
-use Rattle.sheet.specs.Digits.{openedOf}
+use Rattle.current.specs.Current.{openedOf}
 use Rattle.sheet.proofs.Texts.{then}
 use Rattle.sheet.proofs.Numerals.{amperes-done}
 use Rattle.sheet.proofs.digits.amperes.Tie as tie

@@ -2,7 +2,7 @@
 use lib.Dec.{lit<, lit≤}
 use borrow.Author.Needs.{needs}
 use Rattle.terms.specs.inner.Terms.{none, more}
-use Rattle.terms.proofs.Scaling.{upto-zero}
+use Rattle.scaling.proofs.Scaling.{upto-zero}
 use Rattle.terms.proofs.Readied.{Splits, splits, plain-octave, second-octave}
 use Rattle.terms.proofs.Readied.{own-bulk, own-side, own-nonideal, own-ex, own-sf}
 use Rattle.terms.proofs.Readied.{plain-junction, second-junction, ticks-at, parts-at}

@@ -1,0 +1,2 @@
+-- Signed numbers by their size, and ticks in picoamperes.
+pub mod Current

@@ -1,0 +1,93 @@
+-- A transistor's currents and what they do to the totals: its roles' voltages, and its branches.
+use mathlib.Core.Path.{_≡_, refl, ap, _∙_}
+use mathlib.Core.List.{List, [], _∷_, map}
+use Prim.Native.Nat.{ℕ, zero, suc, _≤_, _<_, zero-le}
+use lib.ListN.{getD}
+use lib.IntN.{ℤ, pos, natAbs, _+ℤ_}
+use Rattle.volts.specs.Volts.{givenBack, span, AllNear}
+use Rattle.card.specs.declared.WorkedCard.{WorkedCard}
+use Rattle.rows.specs.declared.Outcome.{Outcome}
+use Rattle.terms.specs.declared.Ready.{Ready}
+use Rattle.terms.specs.Rows.{rowsFor}
+use Rattle.rows.specs.Outcome.{tickLimit, outcomeOf}
+use Rattle.rows.proofs.Laws.{ticks-long, ticks-small}
+use Rattle.terms.specs.Ends.{fromRoles, toRoles}
+use Rattle.totals.specs.Gives.{nodesMost}
+use Rattle.totals.specs.Flow.{rolesAt, overAt, flow}
+use Rattle.totals.specs.inner.Sums.{More, Within, rolesGive}
+use Rattle.totals.specs.inner.Sizes.{flowMost}
+use Rattle.totals.proofs.Integers.{abs-neg}
+use Rattle.totals.proofs.Lists.{getD-map}
+use Rattle.totals.proofs.Roles.{roles-are-rows, roles-turned}
+use Rattle.totals.proofs.Amounts.{small-rows}
+use Rattle.flows.specs.Back.{backFlow}
+use Rattle.flows.specs.inner.Workable.{rolesOf, Volts}
+
+-- ---- the voltages of the roles
+
+module _ (volts : List ℕ) (v : Volts volts) where
+  pub roles-given-back : (nodes : List ℕ) → ((k : ℕ) → getD nodes k 0 < nodesMost) →
+      map givenBack (rolesOf volts nodes) ≡ rolesAt (map givenBack volts) nodes
+  roles-given-back [] h = refl
+  roles-given-back (n ∷ nodes) h =
+      rw (getD-map givenBack volts n 0 (pos 0) (rw (v .long) (h 0)), roles-given-back nodes (λ k. h (suc k)))
+
+  near-each : (nodes : List ℕ) (k : ℕ) → getD (rolesOf volts nodes) k 0 ≤ span
+  near-each [] k = zero-le
+  near-each (n ∷ nodes) zero = v .near .each n
+  near-each (n ∷ nodes) (suc k) = near-each nodes k
+
+  pub roles-near : (nodes : List ℕ) → AllNear (rolesOf volts nodes)
+  roles-near nodes = record { each = near-each nodes }
+
+  -- a card made ready, worked at the kept voltages of the roles
+  pub works : {o : Outcome} {r made : Ready} {v : List ℕ} (nodes : List ℕ) →
+      ((k : ℕ) → getD nodes k 0 < nodesMost) → o ≡ outcomeOf (r .card) (map givenBack v) → r ≡ made →
+      v ≡ rolesOf volts nodes → o ≡ outcomeOf (made .card) (rolesAt (map givenBack volts) nodes)
+  works nodes h e m q = rw (← (roles-given-back nodes h), ← m, ← q) e
+
+-- ---- what its branches do to the totals
+
+pub ticks-within : (c : WorkedCard) (v : List ℤ) → Within tickLimit (outcomeOf c v .ticks)
+ticks-within c v = record { within = ticks-small c v }
+
+module _ (c : WorkedCard) (nodes : List ℕ) (volts : List ℤ) where
+  pub over-told : {o : Outcome} → o ≡ outcomeOf c (rolesAt volts nodes) → o .over ≡ overAt c nodes volts
+  unfolding overAt
+  over-told e = rw e
+
+  pub gives-flow : {l l′ : List ℤ} →
+      More nodesMost l l′ (rolesGive nodes fromRoles toRoles (outcomeOf c (rolesAt volts nodes) .ticks)) →
+      More nodesMost l l′ (flow c nodes volts)
+  unfolding flow
+  gives-flow {l} m =
+      record {
+        long = m .long;
+        at =
+            λ n h. m .at n h
+            ∙ ap (λ (z : ℤ). getD l n (pos 0) +ℤ z)
+            (roles-are-rows (rowsFor (c .exsub)) nodes _ n (ticks-long c (rolesAt volts nodes)));
+      }
+
+  pub takes-flow : {l l′ : List ℤ} →
+      More nodesMost l l′ (rolesGive nodes toRoles fromRoles (outcomeOf c (rolesAt volts nodes) .ticks)) →
+      More nodesMost l l′ (backFlow c nodes volts)
+  unfolding flow backFlow
+  takes-flow {l} m =
+      record {
+        long = m .long;
+        at =
+            λ n h. m .at n h
+            ∙ ap (λ (z : ℤ). getD l n (pos 0) +ℤ z)
+            (roles-turned (rowsFor (c .exsub)) nodes _ n (ticks-long c (rolesAt volts nodes)));
+      }
+
+  pub small-flow : (n : ℕ) → natAbs (flow c nodes volts n) ≤ flowMost
+  unfolding flow
+  small-flow n =
+      small-rows (rowsFor (c .exsub)) nodes (outcomeOf c (rolesAt volts nodes) .ticks) n tickLimit
+      (ticks-small c (rolesAt volts nodes))
+
+  pub takes-small : (n : ℕ) → natAbs (backFlow c nodes volts n) ≤ flowMost
+  unfolding backFlow
+  takes-small n = rw (abs-neg (flow c nodes volts n)) (small-flow n)

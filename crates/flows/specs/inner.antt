@@ -1,0 +1,2 @@
+-- Words of inner contracts: what working a transistor asks.
+pub mod Workable

@@ -1,0 +1,112 @@
+// A transistor worked: its currents put into the totals of its nodes and taken out, and by what it overloads.
+ghost use mathlib.Core.Path.{_≡_};
+ghost use mathlib.Core.List.{map};
+ghost use Prim.Native.Nat.{_<_};
+ghost use lib.ListN.{length, getD};
+ghost use Rattle.volts.specs.Volts.{givenBack};
+ghost use Rattle.terms.specs.Rows.{roles};
+ghost use Rattle.rows.specs.Outcome.{outcomeOf, isOver};
+ghost use Rattle.totals.specs.Gives.{nodesMost};
+ghost use Rattle.totals.specs.Flow.{rolesAt, overAt, flow};
+ghost use Rattle.totals.specs.inner.Sums.{More, Room, Wired};
+ghost use Rattle.totals.specs.inner.Sizes.{roomMost};
+ghost use Rattle.flows.specs.Back.{backFlow};
+ghost use Rattle.flows.specs.inner.Workable.{rolesOf, deckOf, cardOf, Workable};
+use branch::Outcome;
+use branch::Over;
+use branch::ROLES;
+use octave::Table;
+use totals::NODES;
+
+fn volt(volts: &[u32; NODES], n: u8) -> u32
+    requires { ⌜ n < nodesMost ⌝ }
+    ensures { λ r. ⌜ r ≡ getD (now (volts .entry)) n 0 ⌝ }
+{
+    let k = n as usize;
+    volts[k]
+}
+
+// The voltages of a transistor's roles.
+fn role_volts(volts: &[u32; NODES], on: &[u8; ROLES]) -> [u32; ROLES]
+    requires { ⌜ Wired nodesMost (now on) × (length (now on) ≡ roles) ⌝ }
+    ensures { λ r. ⌜ r ≡ rolesOf (now (volts .entry)) (now (on .entry)) ⌝ }
+{
+    let mut v = [0u32; ROLES];
+    for k in 0..ROLES {
+        let n = on[k];
+        let x = volt(volts, n);
+        v[k] = x;
+    }
+    v
+}
+
+// The currents of a transistor on the card at place s of the deck, whole: its ticks, and by what it overloads first.
+fn work(
+    table: &Table,
+    numbers: &[u32; deck::ALL_NUMBERS],
+    powers: &[u16; deck::ALL_POWERS],
+    ticks: &[u64; deck::ALL_TICKS],
+    switches: &[bool; deck::ALL_SWITCHES],
+    s: usize,
+    on: &[u8; ROLES],
+    volts: &[u32; NODES],
+) -> Outcome
+    requires { ⌜ Workable (now table) (deckOf (now numbers) (now powers) (now ticks) (now switches)) s (now on) (now volts) ⌝ }
+    ensures { λ r. ⌜ r ≡ outcomeOf (cardOf (deckOf (now (numbers .entry)) (now (powers .entry)) (now (ticks .entry)) (now (switches .entry))) s) (rolesAt (map givenBack (now (volts .entry))) (now (on .entry))) ⌝ }
+{
+    let v = role_volts(volts, on);
+    let r = deck::ready_at(numbers, powers, ticks, switches, s);
+    branch::work_out(table, r, &v)
+}
+
+// Gives a transistor's currents to the totals, and tells by what it overloads.
+pub fn put_in(
+    l: &mut [i64; NODES],
+    table: &Table,
+    numbers: &[u32; deck::ALL_NUMBERS],
+    powers: &[u16; deck::ALL_POWERS],
+    ticks: &[u64; deck::ALL_TICKS],
+    switches: &[bool; deck::ALL_SWITCHES],
+    s: usize,
+    on: &[u8; ROLES],
+    volts: &[u32; NODES],
+) -> Over
+    requires { ⌜ Workable (now table) (deckOf (now numbers) (now powers) (now ticks) (now switches)) s (now on) (now volts) × Room nodesMost roomMost (now l) ⌝ }
+    ensures { λ r. ⌜ r ≡ overAt (cardOf (deckOf (now (numbers .entry)) (now (powers .entry)) (now (ticks .entry)) (now (switches .entry))) s) (now (on .entry)) (map givenBack (now (volts .entry))) ⌝ }
+    ensures { λ _. ⌜ More nodesMost (now (l .entry)) (now (l .exit)) (flow (cardOf (deckOf (now (numbers .entry)) (now (powers .entry)) (now (ticks .entry)) (now (switches .entry))) s) (now (on .entry)) (map givenBack (now (volts .entry)))) ⌝ }
+{
+    let o = work(table, numbers, powers, ticks, switches, s, on, volts);
+    let given = o.ticks;
+    totals::put(l, on, &given);
+    o.over
+}
+
+// Takes them out again.
+pub fn take_out(
+    l: &mut [i64; NODES],
+    table: &Table,
+    numbers: &[u32; deck::ALL_NUMBERS],
+    powers: &[u16; deck::ALL_POWERS],
+    ticks: &[u64; deck::ALL_TICKS],
+    switches: &[bool; deck::ALL_SWITCHES],
+    s: usize,
+    on: &[u8; ROLES],
+    volts: &[u32; NODES],
+)
+    requires { ⌜ Workable (now table) (deckOf (now numbers) (now powers) (now ticks) (now switches)) s (now on) (now volts) × Room nodesMost roomMost (now l) ⌝ }
+    ensures { λ _. ⌜ More nodesMost (now (l .entry)) (now (l .exit)) (backFlow (cardOf (deckOf (now (numbers .entry)) (now (powers .entry)) (now (ticks .entry)) (now (switches .entry))) s) (now (on .entry)) (map givenBack (now (volts .entry)))) ⌝ }
+{
+    let o = work(table, numbers, powers, ticks, switches, s, on, volts);
+    let given = o.ticks;
+    totals::take(l, on, &given);
+}
+
+pub fn is_over(o: Over) -> bool
+    ensures { λ r. ⌜ r ≡ isOver o ⌝ }
+{
+    match o {
+        Over::Within => false,
+        Over::Ticks(_) => true,
+        Over::Injection(_) => true,
+    }
+}

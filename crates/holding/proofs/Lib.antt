@@ -1,0 +1,4 @@
+pub mod Ways
+pub mod Cards
+pub mod Shows
+pub mod Whole

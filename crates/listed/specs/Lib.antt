@@ -1,0 +1,2 @@
+-- What a listing shows of a name and of a mask.
+pub mod Listed

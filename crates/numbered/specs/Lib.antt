@@ -1,0 +1,2 @@
+-- The numbers among a line's words.
+pub mod Numbers

@@ -1,0 +1,2 @@
+-- Words of inner contracts: what placing's tests give.
+pub mod Placing

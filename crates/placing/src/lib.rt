@@ -1,0 +1,83 @@
+// Placing's tests in their order, up to the last, which needs the currents.
+ghost use mathlib.Core.Path.{_≡_};
+ghost use mathlib.Core.Bool.{_&&_};
+ghost use Prim.Native.Nat.{_<_};
+ghost use lib.Dec.{leb};
+ghost use Rattle.totals.specs.Gives.{nodesMost};
+ghost use Rattle.given.specs.Lists.{anyOf};
+ghost use Rattle.given.specs.Arguments.{usedUp};
+ghost use Rattle.places.specs.Counts.{cardsMost, transistorsMost};
+ghost use Rattle.places.specs.inner.Flat.{numberPlace, freePlace, joinedAt};
+ghost use Rattle.placing.specs.inner.Placing.{apartOn, placing, wayOf};
+use branch::ROLES;
+use deck::ALL_SWITCHES;
+use deck::SWITCHES;
+use given::ISSUES;
+use places::CARDS;
+use places::TRANSISTORS;
+use refusal::Refusal;
+use terms::C1;
+use terms::C4;
+use totals::NODES;
+
+// The places of the card and of the transistor to be, or the refusal.
+pub enum Way {
+    Go(usize, usize),
+    Stop(Refusal),
+}
+
+// Whether a node is none of the board's.
+fn any_off(on: [u8; ROLES]) -> bool
+    ensures { λ r. ⌜ r ≡ anyOf (leb nodesMost) on ⌝ }
+{
+    for k in 0..ROLES {
+        let n = on[k] as usize;
+        if NODES <= n {
+            return true;
+        }
+    }
+    false
+}
+
+// Whether C4 stands apart from C1 on a card that joins them.
+fn is_split(switches: &[bool; ALL_SWITCHES], i: usize, on: &[u8; ROLES]) -> bool
+    requires { ⌜ i < cardsMost ⌝ }
+    ensures { λ r. ⌜ r ≡ (joinedAt (now (switches .entry)) i && apartOn (now (on .entry))) ⌝ }
+{
+    if switches[SWITCHES * i + 1] {
+        on[C4] != on[C1]
+    } else {
+        false
+    }
+}
+
+pub fn may_place(
+    held: &[u32; CARDS],
+    switches: &[bool; ALL_SWITCHES],
+    issues: &[u32; TRANSISTORS],
+    next: u32,
+    n: u32,
+    on: &[u8; ROLES],
+) -> Way
+    ensures { λ r. ⌜ r ≡ wayOf (freePlace (now (issues .entry))) (placing (numberPlace cardsMost n (now (held .entry))) (joinedAt (now (switches .entry))) (now (on .entry)) (leb transistorsMost (freePlace (now (issues .entry)))) (usedUp next)) ⌝ }
+{
+    let i = places::card_at(held, n);
+    if CARDS <= i {
+        return Way::Stop(Refusal::Unknown);
+    }
+    let own = *on;
+    if any_off(own) {
+        return Way::Stop(Refusal::OutOfRange);
+    }
+    if is_split(switches, i, on) {
+        return Way::Stop(Refusal::SplitCollector);
+    }
+    let free = places::find_transistor(issues, 0);
+    if TRANSISTORS <= free {
+        return Way::Stop(Refusal::NoRoom);
+    }
+    if ISSUES < next {
+        return Way::Stop(Refusal::NumbersUsedUp);
+    }
+    Way::Go(i, free)
+}

@@ -1,0 +1,5 @@
+pub mod Tests
+pub mod Roots
+pub mod RowLaws
+pub mod Loops
+pub mod Laws

@@ -1,0 +1,159 @@
+-- From the code's terms to the outcome, over rows of any kind: the same row overloads first, and where none does
+-- the ticks are the rows' own.
+use mathlib.Core.Path.{_≡_, refl, ap₂}
+use mathlib.Core.Bool.{Bool, false, _||_}
+use mathlib.Core.List.{List, [], _∷_, map}
+use Prim.Native.Nat.{ℕ, zero, suc, _+_, _^_, _≤_, _<_}
+use mathlib.Core.Logic.{_⊎_, inl, inr}
+use native.Mathlib.Omega.{arith}
+use lib.ListN.{getD, length}
+use lib.IntN.{ℤ, subℕ}
+use Rattle.refusal.specs.Unique.{unique-by-equation}
+use Rattle.whole.specs.laws.Biased.{below-or-not}
+use Rattle.whole.specs.Quotient.{quotientOf}
+use Rattle.card.specs.declared.WorkedCard.{WorkedCard}
+use Rattle.rows.specs.declared.Over.{Over}
+use Rattle.rows.specs.declared.Over.the-variants.{Within, Ticks, Injection}
+use Rattle.terms.specs.declared.Terms.{Terms}
+use Rattle.terms.specs.Rows.{Role, Summand, unit, root, Divisor, undivided, sumOf, Row, rowsFor, branches}
+use Rattle.terms.specs.Values.{tickOf, ratioOf}
+use Rattle.scaling.specs.inner.Shifts.{UpTo}
+use Rattle.terms.specs.inner.Terms.{leftOf, rightOf, RowTerms, RowsAt, none, more, TermsOf}
+use Rattle.rows.specs.Ticks.{rootFor, summandOf, dividedBy, rowTicks}
+use Rattle.rows.specs.Outcome.{tickLimit, ratioLimit, someAbove, ratiosIn, firstOver}
+use Rattle.rows.specs.Outcome.{outcomeAt}
+use Rattle.rows.specs.inner.FromTerms.{Small, Below, Most, overUp, dividedOf, ticksAt, listUp, NotOver, Fine}
+use Rattle.rows.specs.inner.FromTerms.{outcomeFrom}
+use Rattle.rows.proofs.Tests.{Passes, passes, BothWithin, both-within, none-above}
+use Rattle.rows.proofs.Roots.{root-unit, divided-plain}
+
+-- ---- tests come out the same
+
+same-test : {limit x y s t : ℕ} → UpTo limit x s → UpTo limit y t
+    → someAbove limit (x ∷ y ∷ []) ≡ someAbove limit (s ∷ t ∷ [])
+same-test a b = ap₂ (λ (m n : Bool). m || (n || false)) (a .above) (b .above)
+
+module _ (c : WorkedCard) (v : Role → Role → ℤ) where
+  same-ratios : (d : Divisor) {l g : ℕ} → UpTo ratioLimit l (leftOf c v d) → UpTo ratioLimit g (rightOf c v d) →
+      someAbove ratioLimit (l ∷ g ∷ []) ≡ someAbove ratioLimit (ratiosIn c v d)
+  same-ratios undivided a b = same-test a b
+  same-ratios (sumOf s t) a b = same-test a b
+
+  pub over-is : {x : Terms} {k : ℕ} {rows : List Row} → RowsAt c v x k rows
+      → overUp x (length rows) k ≡ firstOver c v (suc k) rows
+  unfolding overUp
+  over-is none = refl
+  over-is (more {k = k} {r = r} t rest) =
+      rw (same-test (t .plus) (t .minus), same-ratios (r .divisor) (t .left) (t .right), over-is rest)
+
+  -- ---- where no row overloads
+
+  summand-root : (s : Summand) → rootFor (ratioOf c v s) ≡ summandOf c v s
+  summand-root unit = root-unit
+  summand-root (root x p q) = refl
+
+  divided-is : (d : Divisor) (p m : ℕ) → dividedOf p m (leftOf c v d) (rightOf c v d) ≡ dividedBy c v d (subℕ p m)
+  unfolding dividedOf
+  divided-is undivided p m = divided-plain p m
+  divided-is (sumOf s t) p m =
+      ap₂ (λ (a b : ℕ). quotientOf (subℕ p m) 21 (a + b)) (summand-root s) (summand-root t)
+
+  row-is : {r : Row} {p m l g : ℕ} → RowTerms c v r p m l g → BothWithin tickLimit p m → BothWithin ratioLimit l g →
+      dividedOf p m l g ≡ rowTicks c v r
+  row-is {r} {p} {m} {l} {g} t a b =
+      let e1 = t .plus .same (a .first) in
+      let e2 = t .minus .same (a .second) in
+      let e3 = t .left .same (b .first) in
+      let e4 = t .right .same (b .second) in
+      rw (e1, e2, e3, e4) (divided-is (r .divisor) (tickOf c v (r .plus)) (tickOf c v (r .minus)))
+
+  pub ticks-are : {x : Terms} {k : ℕ} {rows : List Row} → RowsAt c v x k rows → overUp x (length rows) k ≡ Within →
+      listUp (ticksAt x) (length rows) k ≡ map (rowTicks c v) rows
+  unfolding overUp listUp
+  ticks-are none e = refl
+  ticks-are {x} (more {k = k} {r = r} {rs = rs} t rest) e =
+      let f = passes _ _ (suc k) (overUp x (length rs) (suc k)) e in
+      let here = row-is t (both-within _ _ _ (f .ticks)) (both-within _ _ _ (f .ratio)) in
+      let later = ticks-are rest (f .later) in
+      λ i. here i ∷ later i
+
+  -- ---- sizes
+
+  small-at : {x : Terms} {k : ℕ} {rows : List Row} → RowsAt c v x k rows → (i : ℕ) → k ≤ i → i < k + length rows →
+      (getD (x .plus) i 0 < 2 ^ 62) × (getD (x .minus) i 0 < 2 ^ 62)
+  small-at {k = k} none i a b = absurd (omega arith)
+  small-at {x} (more {k = k} {r = r} {rs = rs} t rest) i a b = go (below-or-not k i) (λ h. small-at rest i h (omega arith))
+    where
+      go : (k < i) ⊎ (i ≤ k) → (k < i → (getD (x .plus) i 0 < 2 ^ 62) × (getD (x .minus) i 0 < 2 ^ 62)) →
+          (getD (x .plus) i 0 < 2 ^ 62) × (getD (x .minus) i 0 < 2 ^ 62)
+      go (inl h) later = later h
+      go (inr h) later = let e : k ≡ i = omega arith in rw (← e) (t .plus .small, t .minus .small)
+
+  pub terms-small : {x : Terms} → TermsOf c v x → Small x
+  terms-small t =
+      record {
+        plus = λ k h. small-at (t .rows) k (omega arith) (omega arith) .0;
+        minus = λ k h. small-at (t .rows) k (omega arith) (omega arith) .1;
+      }
+
+  pub outcome-is : {x : Terms} → TermsOf c v x
+      → outcomeFrom x ≡ outcomeAt (firstOver c v 1 (rowsFor (c .exsub))) (map (rowTicks c v) (rowsFor (c .exsub)))
+  unfolding listUp
+  outcome-is {x} t = go (overUp x branches 0) refl (over-is (t .rows))
+    where
+      go : (o : Over) → overUp x branches 0 ≡ o → overUp x branches 0 ≡ firstOver c v 1 (rowsFor (c .exsub)) →
+          outcomeFrom x ≡ outcomeAt (firstOver c v 1 (rowsFor (c .exsub))) (map (rowTicks c v) (rowsFor (c .exsub)))
+      go Within e f = rw (← f, e, ticks-are (t .rows) e)
+      go (Ticks k) e f = rw (← f, e)
+      go (Injection k) e f = rw (← f, e)
+
+  -- whatever terms are permitted, they have one outcome
+  pub unique-outcome : {x y : Terms} → TermsOf c v x → TermsOf c v y → outcomeFrom x ≡ outcomeFrom y
+  unique-outcome t u = unique-by-equation (outcome-is t) (outcome-is u)
+
+-- ---- terms that are within, and rows of which none overloads
+
+module _ (x : Terms) where
+  passes-row : (n k : ℕ) → overUp x (suc n) k ≡ Within →
+      Passes (someAbove tickLimit (getD (x .plus) k 0 ∷ getD (x .minus) k 0 ∷ [])) (someAbove ratioLimit (getD (x .left) k 0 ∷ getD (x .right) k 0 ∷ [])) (overUp x n (suc k))
+  unfolding overUp
+  passes-row n k e = passes (someAbove tickLimit (getD (x .plus) k 0 ∷ getD (x .minus) k 0 ∷ [])) (someAbove ratioLimit (getD (x .left) k 0 ∷ getD (x .right) k 0 ∷ [])) (suc k) (overUp x n (suc k)) e
+
+  pub not-over : (n k : ℕ) → overUp x n k ≡ Within → (i : ℕ) → k ≤ i → i < k + n → NotOver x i
+  not-over zero k e i a b = absurd (omega arith)
+  not-over (suc n) k e i a b =
+      go (below-or-not k i) (λ h. not-over n (suc k) (passes-row n k e .later) i h (omega arith))
+    where
+      here : NotOver x k
+      here =
+          let f = passes-row n k e in
+          let p = both-within _ _ _ (f .ticks) in
+          let q = both-within _ _ _ (f .ratio) in
+          record { plus = p .first; minus = p .second; left = q .first; right = q .second }
+
+      go : (k < i) ⊎ (i ≤ k) → (k < i → NotOver x i) → NotOver x i
+      go (inl h) later = later h
+      go (inr h) later = let s : k ≡ i = omega arith in rw s at here
+
+  pub none-over : (n k : ℕ) → ((i : ℕ) → k ≤ i → i < k + n → NotOver x i) → overUp x n k ≡ Within
+  unfolding overUp
+  none-over zero k h = refl
+  none-over (suc n) k h =
+      let w = h k (omega arith) (omega arith) in
+      rw (none-above _ _ _ (w .plus) (w .minus), none-above _ _ _ (w .left) (w .right)) (none-over n (suc k) (λ i a b. h i (omega arith) (omega arith)))
+
+  pub fine : overUp x branches 0 ≡ Within → Fine x
+  fine e = record { at = λ k h. not-over branches 0 e k (omega arith) (omega arith) }
+
+  -- a low sum of T's, and floors that are within
+  pub low-within : (sum most : ℕ) → Below x sum → sum < 2 ^ 43 → Most x most → most ≤ ratioLimit
+      → overUp x branches 0 ≡ Within
+  low-within sum most b l m h = none-over branches 0 (λ i p q. at i (omega arith))
+    where
+      at : (i : ℕ) → i < branches → NotOver x i
+      at i q =
+          let p1 = b .plus i q in
+          let p2 = b .minus i q in
+          let m1 = m .left i q in
+          let m2 = m .right i q in
+          record { plus = omega arith; minus = omega arith; left = omega arith; right = omega arith }

@@ -1,0 +1,4 @@
+pub mod Ticks
+pub mod Outcome
+pub mod inner
+pub mod laws

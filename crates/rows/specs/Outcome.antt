@@ -1,0 +1,61 @@
+-- The currents of a transistor, row by row, or the first row that overloads.
+use mathlib.Core.Bool.{Bool, true, false, _||_}
+use mathlib.Core.List.{List, [], _∷_, map}
+use Prim.Native.Nat.{ℕ, suc}
+use lib.Dec.{ltb}
+use lib.ListN.{replicate, length}
+use lib.IntN.{ℤ, pos}
+use Rattle.card.specs.declared.WorkedCard.{WorkedCard}
+use Rattle.rows.specs.declared.Over.{Over}
+use Rattle.rows.specs.declared.Over.the-variants.{Within, Ticks, Injection}
+use Rattle.rows.specs.declared.Outcome.{Outcome}
+use Rattle.terms.specs.Rows.{Role, Divisor, undivided, sumOf, Row, rowsFor}
+use Rattle.terms.specs.Values.{tickOf, ratioOf, biasOf}
+pub use Rattle.scaling.specs.Scaled.{tickLimit, ratioLimit}
+use Rattle.rows.specs.Ticks.{rowTicks}
+
+-- some number of the list is above the limit
+abbrev pub someAbove : ℕ → List ℕ → Bool
+someAbove limit [] = false
+someAbove limit (x ∷ xs) = ltb limit x || someAbove limit xs
+
+-- the T's that a row names, and its ratios' floors
+abbrev pub ticksIn : WorkedCard → (Role → Role → ℤ) → Row → List ℕ
+ticksIn c v r = tickOf c v (r .plus) ∷ tickOf c v (r .minus) ∷ []
+
+abbrev pub ratiosIn : WorkedCard → (Role → Role → ℤ) → Divisor → List ℕ
+ratiosIn c v undivided = []
+ratiosIn c v (sumOf s t) = ratioOf c v s ∷ ratioOf c v t ∷ []
+
+-- whether row k overloads: a T goes before a ratio; and if neither, what comes after it
+abbrev pub injectionAt : Bool → ℕ → Over → Over
+injectionAt true k next = Injection k
+injectionAt false k next = next
+
+abbrev pub overAt : Bool → Bool → ℕ → Over → Over
+overAt true j k next = Ticks k
+overAt false j k next = injectionAt j k next
+
+-- the first of the rows, numbered from k, that overloads
+abbrev pub firstOver : WorkedCard → (Role → Role → ℤ) → ℕ → List Row → Over
+firstOver c v k [] = Within
+firstOver c v k (r ∷ rs) =
+    overAt (someAbove tickLimit (ticksIn c v r)) (someAbove ratioLimit (ratiosIn c v (r .divisor))) k
+    (firstOver c v (suc k) rs)
+
+-- whether a row overloads, whichever and however
+abbrev pub isOver : Over → Bool
+isOver Within = false
+isOver (Ticks k) = true
+isOver (Injection k) = true
+
+-- nothing counts where a row overloads
+abbrev pub outcomeAt : Over → List ℤ → Outcome
+outcomeAt Within ticks = record { over = Within; ticks = ticks }
+outcomeAt (Ticks k) ticks = record { over = Ticks k; ticks = replicate (length ticks) (pos 0) }
+outcomeAt (Injection k) ticks = record { over = Injection k; ticks = replicate (length ticks) (pos 0) }
+
+-- the outcome for a worked card at the voltages of its roles
+unfoldable pub outcomeOf : WorkedCard → List ℤ → Outcome
+outcomeOf c volts =
+    outcomeAt (firstOver c (biasOf volts) 1 (rowsFor (c .exsub))) (map (rowTicks c (biasOf volts)) (rowsFor (c .exsub)))

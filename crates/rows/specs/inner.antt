@@ -1,0 +1,2 @@
+-- Words that inner contracts use.
+pub mod FromTerms

@@ -1,0 +1,181 @@
+// Which row overloads first, and each row's ticks: one loop each over the rows' terms.
+ghost use mathlib.Core.Path.{_≡_};
+ghost use Prim.Native.Nat.{_≤_, _<_};
+ghost use Rattle.terms.specs.Rows.{branches};
+ghost use Rattle.rows.specs.Ticks.{rootFor};
+ghost use Rattle.rows.specs.Outcome.{tickLimit, ratioLimit};
+ghost use Rattle.rows.specs.inner.FromTerms.{Small, Below, Most, Fine, overUp, dividedOf, allTicks, outcomeFrom};
+use crate::BRANCHES;
+use crate::Outcome;
+use crate::Over;
+use crate::PARTS_MOST;
+use terms::PART_PLACES;
+use terms::TICKS_MOST;
+use terms::Terms;
+
+// The unit of ratios, 2^20; Q's shift; and the first size that no row's ticks have.
+const UNIT: u64 = 1 << PART_PLACES;
+
+const SHIFT: u64 = PART_PLACES + 1;
+
+const TICKS_OVER: u64 = TICKS_MOST + 1;
+
+// Sums of T's are taken without their last ten places, so that they stay within 64 bits.
+const PLACES: u64 = 1024;
+
+const LOW: u64 = TICKS_MOST / PLACES;
+
+// A divisor of two units, 2^21.
+const NOTHING_DIVIDED: u64 = 2 * UNIT;
+
+fn larger(a: u64, b: u64) -> u64
+    ensures { λ r. ⌜ (a ≤ r) × (b ≤ r) ⌝ }
+{
+    if a < b { b } else { a }
+}
+
+// The sum of all T's without their last places: where it is low, so is each.
+fn sum_of_ticks(x: Terms) -> u64
+    requires { ⌜ Small x ⌝ }
+    ensures { λ r. ⌜ Below x r ⌝ }
+{
+    let mut sum: u64 = 0;
+    for k in 0..BRANCHES {
+        sum = sum + x.plus[k] / PLACES + x.minus[k] / PLACES;
+    }
+    sum
+}
+
+// The largest floor of a ratio.
+fn largest_ratio(x: Terms) -> u64
+    ensures { λ r. ⌜ Most x r ⌝ }
+{
+    let mut most: u64 = 0;
+    for k in 0..BRANCHES {
+        let m = larger(x.left[k], x.right[k]);
+        most = larger(most, m);
+    }
+    most
+}
+
+// The first row that overloads.
+fn first_over(x: Terms) -> Over
+    ensures { λ r. ⌜ r ≡ overUp x branches 0 ⌝ }
+{
+    for k in 0..BRANCHES {
+        let number = k as u32 + 1;
+        if TICKS_MOST < x.plus[k] {
+            return Over::Ticks(number);
+        }
+        if TICKS_MOST < x.minus[k] {
+            return Over::Ticks(number);
+        }
+        if PARTS_MOST < x.left[k] {
+            return Over::Injection(number);
+        }
+        if PARTS_MOST < x.right[k] {
+            return Over::Injection(number);
+        }
+    }
+    Over::Within
+}
+
+// The root for a ratio's floor; 2^20 for the floor 0.
+fn root_for(ratio: u64) -> u64
+    requires { ⌜ ratio ≤ ratioLimit ⌝ }
+    ensures { λ r. ⌜ r ≡ rootFor ratio ⌝ }
+{
+    if ratio == 0 {
+        return UNIT;
+    }
+    whole::root((UNIT + ratio) * UNIT)
+}
+
+// Q of a row's difference over the two roots. With two floors of 0 the divisor is 2^21, and Q changes nothing.
+fn divided(plus: u64, minus: u64, left: u64, right: u64) -> i64
+    requires { ⌜ (plus ≤ tickLimit) × ((minus ≤ tickLimit) × ((left ≤ ratioLimit) × (right ≤ ratioLimit))) ⌝ }
+    ensures { λ r. ⌜ r ≡ dividedOf plus minus left right ⌝ }
+{
+    if plus == minus {
+        return 0;
+    }
+    let divisor = root_for(left) + root_for(right);
+    if divisor == NOTHING_DIVIDED {
+        return whole::difference(plus, minus);
+    }
+    whole::quotient(plus, minus, SHIFT, divisor, TICKS_OVER)
+}
+
+// Each row's ticks.
+fn all_divided(x: Terms) -> [i64; BRANCHES]
+    requires { ⌜ Fine x ⌝ }
+    ensures { λ r. ⌜ r ≡ allTicks x ⌝ }
+{
+    let mut ticks = [0i64; BRANCHES];
+    for k in 0..BRANCHES {
+        let t = divided(x.plus[k], x.minus[k], x.left[k], x.right[k]);
+        ticks[k] = t;
+    }
+    ticks
+}
+
+// The same where every floor is 0.
+fn all_plain(x: Terms) -> [i64; BRANCHES]
+    requires { ⌜ Fine x × Most x 0 ⌝ }
+    ensures { λ r. ⌜ r ≡ allTicks x ⌝ }
+{
+    let mut ticks = [0i64; BRANCHES];
+    for k in 0..BRANCHES {
+        let t = whole::difference(x.plus[k], x.minus[k]);
+        ticks[k] = t;
+    }
+    ticks
+}
+
+fn ticks_of(x: Terms, most: u64) -> [i64; BRANCHES]
+    requires { ⌜ Fine x × Most x most ⌝ }
+    ensures { λ r. ⌜ r ≡ allTicks x ⌝ }
+{
+    if most == 0 {
+        return all_plain(x);
+    }
+    all_divided(x)
+}
+
+// The first row that overloads. Where the sum of T's is low and no floor is over its limit, none does, and no row is looked at by itself.
+fn judged(x: Terms, most: u64) -> Over
+    requires { ⌜ Small x × Most x most ⌝ }
+    ensures { λ r. ⌜ r ≡ overUp x branches 0 ⌝ }
+{
+    if most <= PARTS_MOST {
+        if sum_of_ticks(x) < LOW {
+            return Over::Within;
+        }
+    }
+    first_over(x)
+}
+
+pub(crate) fn outcome(x: Terms) -> Outcome
+    requires { ⌜ Small x ⌝ }
+    ensures { λ r. ⌜ r ≡ outcomeFrom x ⌝ }
+{
+    let most = largest_ratio(x);
+    let o = judged(x, most);
+    match o {
+        Over::Within => {
+            let ticks = ticks_of(x, most);
+            Outcome {
+                over: Over::Within,
+                ticks: ticks,
+            }
+        }
+        Over::Ticks(k) => Outcome {
+            over: Over::Ticks(k),
+            ticks: [0i64; BRANCHES],
+        },
+        Over::Injection(k) => Outcome {
+            over: Over::Injection(k),
+            ticks: [0i64; BRANCHES],
+        },
+    }
+}

@@ -1,0 +1,2 @@
+-- Words that inner contracts use, and what callers may count on.
+pub mod Shifts

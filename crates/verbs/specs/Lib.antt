@@ -1,0 +1,3 @@
+-- The table of the commands; `inner` has the words of inner contracts.
+pub mod Table
+pub mod inner

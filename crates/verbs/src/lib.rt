@@ -1,0 +1,153 @@
+// The commands: the word of each, and what a line of it has to be.
+ghost use mathlib.Core.Path.{_≡_};
+ghost use Rattle.verbs.specs.Table.{rowAt, placeIn, table, rowNamed};
+ghost use Rattle.verbs.specs.inner.Packing.{packedOf};
+
+pub enum Verb {
+    Library,
+    Find,
+    Clip,
+    Load,
+    Record,
+    Place,
+    Move,
+    Lift,
+    Withdraw,
+    Lookup,
+    Node,
+    Sheet,
+    // a line that is passed over
+    Nothing,
+    TooLong,
+    // a line that is no command
+    Error,
+}
+
+// What the words of a command have to be, beside the first: any, or numbers, as many as make so many words in all; or a
+// name and hex digits.
+pub enum Wants {
+    Texts(usize),
+    Numbers(usize),
+    NameAndHex,
+}
+
+pub struct Row {
+    pub verb: Verb,
+    pub wants: Wants,
+}
+
+// How many commands there are.
+const ROWS: usize = 12;
+
+// The words of the commands as numbers, in the table's order: the first byte is the lowest.
+const PACKED: [u64; ROWS] = [
+    0x7972617262696c,
+    0x646e6966,
+    0x70696c63,
+    0x64616f6c,
+    0x64726f636572,
+    0x6563616c70,
+    0x65766f6d,
+    0x7466696c,
+    0x7761726468746977,
+    0x70756b6f6f6c,
+    0x65646f6e,
+    0x7465656873,
+];
+
+// A word of one to eight bytes that a name may have, as a number; 0 for any other.
+fn packed(word: &[u8]) -> u64
+    ensures { λ r. ⌜ r ≡ packedOf (now (word .entry)) ⌝ }
+{
+    if bytes_le::WORD_BYTES < word.len() {
+        return 0;
+    }
+    if name::is_asked(word) {
+        bytes_le::u64_at(word, 0)
+    } else {
+        0
+    }
+}
+
+// The place in the table of the command with that word; how many there are, where none has it.
+fn place_of(word: &[u8]) -> usize
+    ensures { λ r. ⌜ r ≡ placeIn (now (word .entry)) table ⌝ }
+{
+    let x = packed(word);
+    let words = PACKED;
+    let mut i = 0;
+    while i < ROWS {
+        if x == words[i] {
+            return i;
+        }
+        i += 1;
+    }
+    ROWS
+}
+
+// The row at a place of the table.
+fn row_at(i: usize) -> Row
+    ensures { λ r. ⌜ r ≡ rowAt i ⌝ }
+{
+    match i {
+        0 => Row {
+            verb: Verb::Library,
+            wants: Wants::Texts(2),
+        },
+        1 => Row {
+            verb: Verb::Find,
+            wants: Wants::Texts(2),
+        },
+        2 => Row {
+            verb: Verb::Clip,
+            wants: Wants::Texts(2),
+        },
+        3 => Row {
+            verb: Verb::Load,
+            wants: Wants::Texts(2),
+        },
+        4 => Row {
+            verb: Verb::Record,
+            wants: Wants::NameAndHex,
+        },
+        5 => Row {
+            verb: Verb::Place,
+            wants: Wants::Numbers(9),
+        },
+        6 => Row {
+            verb: Verb::Move,
+            wants: Wants::Numbers(3),
+        },
+        7 => Row {
+            verb: Verb::Lift,
+            wants: Wants::Numbers(2),
+        },
+        8 => Row {
+            verb: Verb::Withdraw,
+            wants: Wants::Numbers(2),
+        },
+        9 => Row {
+            verb: Verb::Lookup,
+            wants: Wants::Texts(2),
+        },
+        10 => Row {
+            verb: Verb::Node,
+            wants: Wants::Numbers(2),
+        },
+        11 => Row {
+            verb: Verb::Sheet,
+            wants: Wants::Texts(1),
+        },
+        _ => Row {
+            verb: Verb::Error,
+            wants: Wants::Texts(0),
+        },
+    }
+}
+
+// The row that a word names.
+pub fn named(word: &[u8]) -> Row
+    ensures { λ r. ⌜ r ≡ rowNamed (now (word .entry)) ⌝ }
+{
+    row_at(place_of(word))
+}
