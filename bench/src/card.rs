@@ -172,8 +172,8 @@ pub fn judge(record: &[u8]) -> Result<Card, u32> {
         [sn, bulk, side, nonideal, ex, sub, sf].map(current);
     let [rex, rsub] = [rex, rsub].map(ratio);
     let mut highest = Highest {
-        b2e1: highest(&[sn, bulk]),
-        b2c2: highest(&[sn]),
+        b2e1: highest(&[sn, bulk, rex]),
+        b2c2: highest(&[sn, rex]),
         b1e1: highest(&[side]),
         second: highest(&[nonideal]),
         b1c4: highest(&[ex, sub, rex, rsub]),

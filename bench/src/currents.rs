@@ -23,13 +23,22 @@ pub fn by_role([i1, i2, i3, i4, i5, i6, i7]: Currents) -> [i64; 7] {
     ]
 }
 
-/// n shared out by a ratio's floor.
+/// The root for a ratio's floor.
 #[inline]
-fn shared(n: i64, f: i64) -> i64 {
-    if f == 0 || n == 0 {
+fn share(f: i64) -> u64 {
+    if f == 0 {
+        return 1 << 20;
+    }
+    root(((1 << 20) + f as u64) << 20)
+}
+
+/// n shared out by the floors of two ratios.
+#[inline]
+fn shared(n: i64, f: i64, g: i64) -> i64 {
+    if f | g == 0 || n == 0 {
         return n;
     }
-    quotient(n, (1 << 20) + root(((1 << 20) + f as u64) << 20))
+    quotient(n, share(f) + share(g))
 }
 
 /// The currents, or nothing where the transistor overloads. Each exponential is worked once for the rows that share it,
@@ -61,12 +70,16 @@ pub fn currents(curve: &Curve, c: &Card, v: &Volts) -> Option<Currents> {
         return None;
     }
     Some([
-        c.sn.floor(b2e1) - c.sn.floor(b2c2),
+        shared(
+            c.sn.floor(b2e1) - c.sn.floor(b2c2),
+            c.rex.floor(b2e1),
+            c.rex.floor(b2c2),
+        ),
         c.bulk.floor(b2e1) - c.alone.bulk,
         c.side.floor(b1e1) - c.alone.side,
         c.nonideal.floor(second) - c.alone.nonideal,
-        shared(c.ex.floor(b1c4) - c.alone.ex, c.rex.floor(b1c4)),
-        shared(c.sub.floor(b1c4) - minus, c.rsub.floor(b1c4)),
+        shared(c.ex.floor(b1c4) - c.alone.ex, 0, c.rex.floor(b1c4)),
+        shared(c.sub.floor(b1c4) - minus, 0, c.rsub.floor(b1c4)),
         c.sf.floor(sc1) - c.alone.sf,
     ])
 }

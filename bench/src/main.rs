@@ -13,7 +13,7 @@ mod library;
 mod numbers;
 mod protocol;
 
-use std::path::Path;
+use std::path::{Path, PathBuf};
 
 fn read_file(path: &[u8]) -> Option<Vec<u8>> {
     use std::os::unix::ffi::OsStrExt;
@@ -46,6 +46,16 @@ fn stems(folder: &Path, ending: &str) -> Vec<String> {
     v
 }
 
+/// The part of a folder of vectors, or the folder itself where everything lies in one.
+fn part(folder: &Path, name: &str) -> PathBuf {
+    let inner = folder.join(name);
+    if inner.is_dir() {
+        inner
+    } else {
+        folder.into()
+    }
+}
+
 fn vectors(folder: &Path) {
     let (mut good, mut bad) = (0, 0);
     let mut tell = |same: bool, what: &str| {
@@ -56,7 +66,7 @@ fn vectors(folder: &Path) {
             println!("differs: {what}");
         }
     };
-    let listing = folder.join("listing");
+    let listing = part(folder, "listing");
     for s in stems(&listing, ".lib") {
         let want = std::fs::read(listing.join(format!("{s}.listing"))).unwrap();
         tell(
@@ -86,7 +96,7 @@ fn vectors(folder: &Path) {
             );
         }
     }
-    let desk = folder.join("desk");
+    let desk = part(folder, "desk");
     std::env::set_current_dir(&desk).unwrap();
     for s in stems(Path::new("."), ".desk") {
         let want = std::fs::read(format!("{s}.out")).unwrap();

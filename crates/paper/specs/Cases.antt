@@ -3,7 +3,7 @@
 use mathlib.Core.List.{List, [], _∷_}
 use Prim.Native.Nat.{ℕ}
 use lib.ListN.{getD, take, replicate}
-use lib.IntN.{ℤ, pos, negsuc}
+use lib.IntN.{ℤ, pos, negsuc, negℤ}
 use lib.Ieee.{nan, binary64, toBits}
 use Rattle.refusal.specs.Order.{Verdict, no, yes}
 use Rattle.octave.specs.Table.{entryOf}
@@ -37,9 +37,23 @@ unfoldable pub ideal : ℤ → List ℤ
 unfolding recordOf judgeOf outcomeOf
 ideal v = ticksAt (judgeOf (recordOf theCard)) 1 v
 
+-- a card whose I_s is its I_k, 2^-38, so that 0 microvolts are near the knee
+abbrev knee : List ℕ
+knee = wordsOf two-to-minus-38 two-to-minus-38 0 four
+
 unfoldable pub five : ℤ → List ℤ
 unfolding recordOf judgeOf outcomeOf
-five v = ticksAt (judgeOf (recordOf (wordsOf two-to-minus-38 two-to-minus-38 0 four))) 4 v
+five v = ticksAt (judgeOf (recordOf knee)) 4 v
+
+-- row 1 of a judged card, at these voltages from B2 to E1 and from B2 to C2
+abbrev pub mainOf : Verdict WorkedCard → ℤ → ℤ → List ℤ
+mainOf (no f) e c = []
+mainOf (yes w) e c =
+    getD (outcomeOf w (negℤ e ∷ pos 0 ∷ pos 0 ∷ pos 0 ∷ negℤ c ∷ pos 0 ∷ pos 0 ∷ []) .ticks) 0 (pos 0) ∷ []
+
+unfoldable pub mainAt : ℤ → ℤ → List ℤ
+unfolding recordOf judgeOf outcomeOf
+mainAt e c = mainOf (judgeOf (recordOf knee)) e c
 
 -- what overloads: nothing, or a row by its T or by its ratio
 abbrev pub overNumbers : Over → List ℤ
@@ -81,7 +95,7 @@ unfolding theBoard
 boardCase = record { worked = take 4 (theBoard .totals); paper = negsuc 2047 ∷ pos 1024 ∷ pos 1024 ∷ pos 0 ∷ [] }
 
 unfoldable pub cases : List Case
-unfolding entryOf ideal five recordOf judgeOf outcomeOf clipOf boardCase
+unfolding entryOf ideal five mainAt recordOf judgeOf outcomeOf clipOf boardCase
 cases =
     boardCase
     ∷ record { worked = pos (entryOf 0) ∷ pos (entryOf 32) ∷ pos (entryOf 64) ∷ []; paper = pos 1073741824 ∷ pos 1518500249 ∷ pos 2147483648 ∷ [] }
@@ -93,6 +107,13 @@ cases =
     ∷ record { worked = ideal (negsuc 0); paper = negsuc 0 ∷ [] }
     ∷ record { worked = five (pos 16000); paper = pos 512 ∷ [] }
     ∷ record { worked = five (negsuc 15999); paper = negsuc 373 ∷ [] }
+    ∷ record { worked = mainAt (pos 16000) (pos 0); paper = pos 1564 ∷ [] }
+    ∷ record { worked = mainAt (pos 0) (pos 16000); paper = negsuc 1563 ∷ [] }
+    ∷ record { worked = mainAt (negsuc 15999) (pos 0); paper = negsuc 1031 ∷ [] }
+    ∷ record { worked = mainAt (pos 0) (negsuc 15999); paper = pos 1032 ∷ [] }
+    ∷ record { worked = mainAt (pos 16000) (negsuc 15999); paper = pos 2596 ∷ [] }
+    ∷ record { worked = mainAt (pos 16000) (pos 16000); paper = pos 0 ∷ [] }
+    ∷ record { worked = mainAt (pos 0) (pos 0); paper = pos 0 ∷ [] }
     ∷ record { worked = withSn (record { a = 1073741825; down = keptPower (negsuc 26) }) (judgeOf (recordOf theCard)); paper = pos 15 ∷ pos 1 ∷ [] }
     ∷ record { worked = clipShows 4 (recordOf (wordsOf two-to-minus-40 one two one)); paper = pos 16 ∷ pos one ∷ [] }
     ∷ record { worked = clipShows 4 (recordOf (wordsOf two-to-minus-40 one one one)); paper = pos 0 ∷ pos one ∷ [] }

@@ -64,12 +64,6 @@ divided-unit plus minus left right l r =
     let b : right ≡ 0 = omega arith in
     rw (a, b) (sym (divided-plain plus minus))
 
--- roots that add up to two units change nothing
-pub divided-two : (plus minus left right : ℕ) → rootFor left + rootFor right ≡ 2 ^ 20 + 2 ^ 20 →
-    subℕ plus minus ≡ dividedOf plus minus left right
-unfolding dividedOf
-divided-two plus minus left right e = rw e (sym (quotient-plain plus minus))
-
 -- a row that takes away what it adds has no ticks, whatever it is divided by
 pub divided-equal : (plus minus left right : ℕ) → plus ≡ minus → pos 0 ≡ dividedOf plus minus left right
 unfolding dividedOf

@@ -25,8 +25,8 @@ const PLACES: u64 = 1024;
 
 const LOW: u64 = TICKS_MOST / PLACES;
 
-// A divisor of two units, 2^21.
-const NOTHING_DIVIDED: u64 = 2 * UNIT;
+// Below this floor, a ratio of 1/64, three terms of the root's series are the root or one less.
+const NEAR: u64 = UNIT / 64;
 
 fn larger(a: u64, b: u64) -> u64
     ensures { λ r. ⌜ (a ≤ r) × (b ≤ r) ⌝ }
@@ -80,6 +80,12 @@ fn first_over(x: Terms) -> Over
     Over::Within
 }
 
+// One more than 2^20 + n/2 - n^2/2^23 for a small floor n: most often one above its root, else the root, and never below it, so that `root_near` need not search. Nothing is promised of it.
+fn near(ratio: u64) -> u32 {
+    let n = ratio % NEAR;
+    (UNIT + 1 + (n * (4 * UNIT) - n * n) / (8 * UNIT)) as u32
+}
+
 // The root for a ratio's floor; 2^20 for the floor 0.
 fn root_for(ratio: u64) -> u64
     requires { ⌜ ratio ≤ ratioLimit ⌝ }
@@ -88,11 +94,15 @@ fn root_for(ratio: u64) -> u64
     if ratio == 0 {
         return UNIT;
     }
-    whole::root((UNIT + ratio) * UNIT)
+    let x = (UNIT + ratio) * UNIT;
+    if ratio < NEAR {
+        return whole::root_near(x, near(ratio));
+    }
+    whole::root(x)
 }
 
-// Q of a row's difference over the two roots. With two floors of 0 the divisor is 2^21, and Q changes nothing.
-fn divided(plus: u64, minus: u64, left: u64, right: u64) -> i64
+// Q of a row's difference over the two roots.
+fn over_roots(plus: u64, minus: u64, left: u64, right: u64) -> i64
     requires { ⌜ (plus ≤ tickLimit) × ((minus ≤ tickLimit) × ((left ≤ ratioLimit) × (right ≤ ratioLimit))) ⌝ }
     ensures { λ r. ⌜ r ≡ dividedOf plus minus left right ⌝ }
 {
@@ -100,10 +110,22 @@ fn divided(plus: u64, minus: u64, left: u64, right: u64) -> i64
         return 0;
     }
     let divisor = root_for(left) + root_for(right);
-    if divisor == NOTHING_DIVIDED {
-        return whole::difference(plus, minus);
-    }
     whole::quotient(plus, minus, SHIFT, divisor, TICKS_OVER)
+}
+
+// The same. Most rows have two floors of 0: there the divisor is 2^21, Q changes nothing and no root is worked.
+// It is called in two places so that the compiler leaves it apart from the loop over the rows, which it then unrolls.
+fn divided(plus: u64, minus: u64, left: u64, right: u64) -> i64
+    requires { ⌜ (plus ≤ tickLimit) × ((minus ≤ tickLimit) × ((left ≤ ratioLimit) × (right ≤ ratioLimit))) ⌝ }
+    ensures { λ r. ⌜ r ≡ dividedOf plus minus left right ⌝ }
+{
+    if 0 < left {
+        return over_roots(plus, minus, left, right);
+    }
+    if 0 < right {
+        return over_roots(plus, minus, left, right);
+    }
+    whole::difference(plus, minus)
 }
 
 // Each row's ticks.
@@ -117,29 +139,6 @@ fn all_divided(x: Terms) -> [i64; BRANCHES]
         ticks[k] = t;
     }
     ticks
-}
-
-// The same where every floor is 0.
-fn all_plain(x: Terms) -> [i64; BRANCHES]
-    requires { ⌜ Fine x × Most x 0 ⌝ }
-    ensures { λ r. ⌜ r ≡ allTicks x ⌝ }
-{
-    let mut ticks = [0i64; BRANCHES];
-    for k in 0..BRANCHES {
-        let t = whole::difference(x.plus[k], x.minus[k]);
-        ticks[k] = t;
-    }
-    ticks
-}
-
-fn ticks_of(x: Terms, most: u64) -> [i64; BRANCHES]
-    requires { ⌜ Fine x × Most x most ⌝ }
-    ensures { λ r. ⌜ r ≡ allTicks x ⌝ }
-{
-    if most == 0 {
-        return all_plain(x);
-    }
-    all_divided(x)
 }
 
 // The first row that overloads. Where the sum of T's is low and no floor is over its limit, none does, and no row is looked at by itself.
@@ -163,7 +162,7 @@ pub(crate) fn outcome(x: Terms) -> Outcome
     let o = judged(x, most);
     match o {
         Over::Within => {
-            let ticks = ticks_of(x, most);
+            let ticks = all_divided(x);
             Outcome {
                 over: Over::Within,
                 ticks: ticks,

@@ -46,9 +46,16 @@ pub record Row : Type 0 where
   pub minus : Term
   pub divisor : Divisor
 
--- the main current, (4.52) and (4.53), with q_B as 1
+-- the main current, (4.52) and (4.53), over q_B, (4.56), (4.57), (4.148) and (4.151), with the Early factor as 1
 abbrev pub row1 : Row
-row1 = record { from = C2; to = E1; plus = across sN plain B2 E1; minus = across sN plain B2 C2; divisor = undivided }
+row1 =
+    record {
+      from = C2;
+      to = E1;
+      plus = across sN plain B2 E1;
+      minus = across sN plain B2 C2;
+      divisor = sumOf (root rEx B2 E1) (root rEx B2 C2);
+    }
 
 -- the ideal base current of the bulk, (4.58)
 abbrev pub row2 : Row

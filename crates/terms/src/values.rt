@@ -58,11 +58,13 @@ pub fn all_terms(t: &Table, r: Ready, v: &[u32; ROLES]) -> Terms
     let subratio = faint(c.rsub, b1c4, PARTS);
     let sf = faint(c.sf, sc1, 0);
     let reverse = faint(c.sn, b2c2, 0);
+    let knee = scaled(c.rex, b2e1, PARTS);
+    let back = faint(c.rex, b2c2, PARTS);
     let x = term_x(t, r, v);
     Terms {
         plus: [forward, bulk, side, nonideal, ex, sub, sf],
         minus: [reverse, r.bulk, r.side, r.nonideal, r.ex, x, r.sf],
-        left: [0, 0, 0, 0, 0, 0, 0],
-        right: [0, 0, 0, 0, exratio, subratio, 0],
+        left: [knee, 0, 0, 0, 0, 0, 0],
+        right: [back, 0, 0, 0, exratio, subratio, 0],
     }
 }

@@ -151,7 +151,7 @@ fn nearer(x: u64, g: u32) -> u32 {
     ((d + x / d % HALF_SPAN) / 2) as u32
 }
 
-// A number near the root of x, most often the root, else one more. Nothing is promised of it: `root` judges it.
+// A number near the root of x, most often the root, else one more. Nothing is promised of it: `root_near` judges it.
 fn guess(x: u64) -> u32 {
     let h = (u64::leading_zeros(x) as u64) / 2 % 32;
     let t = (x << 2 * h) >> 46;
@@ -159,11 +159,11 @@ fn guess(x: u64) -> u32 {
     nearer(x, nearer(x, g as u32))
 }
 
-// The greatest r with r * r <= x.
-pub fn root(x: u64) -> u64
+// The greatest r with r * r <= x, from a number near it. Nothing is asked of that number: its square judges it.
+pub fn root_near(x: u64, near: u32) -> u64
     ensures { λ r. ⌜ r ≡ rootOf x ⌝ }
 {
-    let r = guess(x) as u64;
+    let r = near as u64;
     let q = r * r;
     if q <= x {
         if x - q <= 2 * r {
@@ -175,6 +175,13 @@ pub fn root(x: u64) -> u64
         }
     }
     bitwise(x)
+}
+
+// The greatest r with r * r <= x.
+pub fn root(x: u64) -> u64
+    ensures { λ r. ⌜ r ≡ rootOf x ⌝ }
+{
+    root_near(x, guess(x))
 }
 
 // n * 2^s / d, rounded downward and held at `over`.

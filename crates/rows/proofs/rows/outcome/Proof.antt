@@ -15,11 +15,11 @@ start c = c .before .before
 within : (c : tie.After-enum-told) → overUp (start (c .before .before) .args .x) branches 0 ≡ Within
 within c = sym (c .before .before .judged .ensures) ∙ c .enum-told .given .1
 
-ticks-of-requires : tie.Need-ticks-of-requires
-ticks-of-requires c κs = (fine _ (within c), c .before .before .before .largest-ratio .ensures)
+all-divided-requires : tie.Need-all-divided-requires
+all-divided-requires c κs = fine _ (within c)
 
 returns : tie.Need-returns
-returns c = outcome-within _ (within (c .before)) (c .ticks-of .ensures)
+returns c = outcome-within _ (within (c .before)) (c .all-divided .ensures)
 
 returns-2 : tie.Need-returns-2
 returns-2 c =
@@ -34,5 +34,5 @@ returns-3 c =
 pub outcome-spec : {M : Type 1} → statement M
 outcome-spec =
     tie.close
-    (tie.spec (λ c κs. search needs) (λ c κs. search needs) (λ c. search needs) ticks-of-requires (λ c. search needs)
+    (tie.spec (λ c κs. search needs) (λ c κs. search needs) (λ c. search needs) all-divided-requires (λ c. search needs)
     (λ c. search needs) returns returns-2 returns-3)

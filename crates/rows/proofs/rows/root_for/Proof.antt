@@ -11,7 +11,14 @@ returns c = rw (c .if1 .taken) (sym root-unit)
 
 returns-2 : tie.Need-returns-2
 unfolding rootFor
-returns-2 c = c .root .ensures
+returns-2 c = c .root-near .ensures
+
+returns-3 : tie.Need-returns-3
+unfolding rootFor
+returns-3 c = c .root .ensures
 
 pub root-for-spec : {M : Type 1} → statement M
-root-for-spec = tie.close (tie.spec returns (λ c. search needs) (λ c. search needs) (λ c κs. search needs) returns-2)
+root-for-spec =
+    tie.close
+    (tie.spec returns (λ c. search needs) (λ c. search needs) (λ c κs. search needs) (λ c κs. search needs) returns-2
+    (λ c κs. search needs) returns-3)

@@ -106,12 +106,27 @@ faint-requires-6 c κs =
     let g = at2 at .exponential2 .ensures .sized in
     record { split = search needs; sized = search needs; near = lit≤ tt }
 
+scaled-requires-5 : tie.Need-scaled-requires-5
+scaled-requires-5 c κs =
+    let at = emitter (three (all c)) in
+    let s = values at in
+    let g = at1 at .exponential .ensures .sized in
+    record { split = search needs; sized = search needs; near = lit≤ tt }
+
+faint-requires-7 : tie.Need-faint-requires-7
+faint-requires-7 c κs =
+    let at = emitter (three (all (c .before))) in
+    let s = values at in
+    let e = at1 at .exponential .ensures .sized in
+    let g = at2 at .exponential2 .ensures .sized in
+    record { split = search needs; sized = search needs; near = lit≤ tt }
+
 term-x-requires : tie.Need-term-x-requires
-term-x-requires c κs = start (emitter (three (all c))) .pre
+term-x-requires c κs = start (emitter (three (all (c .before .before)))) .pre
 
 returns : tie.Need-returns
 returns c =
-    let w = c .before in
+    let w = c .before .before .before in
     let u = all w in
     let e = three u in
     let at = emitter e in
@@ -133,9 +148,11 @@ returns c =
     let subratio = parts-at (s .rsub) j5 (plain-octave h) (w .before .before .faint4 .ensures) in
     let sf = ticks-at (s .sf) j6 (plain-octave h) (w .before .faint5 .ensures) in
     let reverse = ticks-at (s .sn) j2 (plain-octave h) (w .faint6 .ensures) in
+    let knee = parts-at (s .rex) j1 (plain-octave h) (c .before .before .scaled5 .ensures) in
+    let back = parts-at (s .rex) j2 (plain-octave h) (c .before .faint7 .ensures) in
     record {
       rows =
-          more (record { plus = forward; minus = reverse; left = upto-zero; right = upto-zero })
+          more (record { plus = forward; minus = reverse; left = knee; right = back })
           (more (record { plus = bulk; minus = own-bulk h; left = upto-zero; right = upto-zero })
           (more (record { plus = side; minus = own-side h; left = upto-zero; right = upto-zero })
           (more (record { plus = nonideal; minus = own-nonideal h; left = upto-zero; right = upto-zero })
@@ -165,5 +182,7 @@ all-terms-spec =
     faint-requires-4
     faint-requires-5
     faint-requires-6
+    scaled-requires-5
+    faint-requires-7
     term-x-requires
     returns)
