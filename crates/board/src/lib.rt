@@ -4,8 +4,8 @@ ghost use mathlib.Core.Path.{_≡_};
 ghost use mathlib.Core.List.{[], _∷_};
 ghost use Rattle.model.specs.Model.{freshBoard, loadedOf, placedOf, movedOf, liftedOf, withdrawnOf, lookedOf, showedOf};
 ghost use Rattle.board.specs.Promise.{modelOf, boardOf, givenAs, Reached};
-use terms::ROLES;
 pub use model::Answer;
+use terms::ROLES;
 
 // Flat arrays of numbers, so that each can be lent. The first six hold the cards by their places, the last four the transistors.
 pub struct Board {

@@ -12,10 +12,10 @@ ghost use Rattle.totals.specs.inner.Sums.{More, Room, Wired};
 ghost use Rattle.totals.specs.inner.Sizes.{roomMost};
 ghost use Rattle.flows.specs.Back.{backFlow};
 ghost use Rattle.flows.specs.inner.Workable.{rolesOf, deckOf, cardOf, Workable};
+use octave::Table;
 use rows::Outcome;
 use rows::Over;
 use terms::ROLES;
-use octave::Table;
 use totals::NODES;
 
 fn volt(volts: &[u32; NODES], n: u8) -> u32

@@ -6,7 +6,6 @@ ghost use Rattle.model.specs.Board.{Board};
 ghost use Rattle.model.specs.Model.{loadedOf, withdrawnOf, lookedOf, showedOf};
 ghost use Rattle.holding.specs.inner.Lent.{CardArrays, LeavesCards, Holds, cardOf};
 ghost use Rattle.holding.specs.inner.Loading.{loading};
-use terms::Ready;
 use card::Judged;
 use card::WorkedCard;
 use deck::ALL_NUMBERS;
@@ -19,6 +18,7 @@ use places::ALL_NAMES;
 use places::CARDS;
 use places::TRANSISTORS;
 use refusal::Refusal;
+use terms::Ready;
 use totals::NODES;
 
 // The free place for a card and the card worked, or the refusal.

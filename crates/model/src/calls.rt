@@ -4,9 +4,9 @@ ghost use Rattle.model.specs.Board.{Board};
 ghost use Rattle.model.specs.Model.{placedOf, liftedOf, Reached};
 ghost use Rattle.model.specs.inner.Lent.{Lends, LendsPlaces, LeavesPlaces};
 use crate::Answer;
-use terms::ROLES;
 use placing::Way;
 use refusal::Refusal;
+use terms::ROLES;
 
 // 12, 13, 14, 11, 17, 15.
 pub fn place(

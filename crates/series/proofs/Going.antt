@@ -1,8 +1,8 @@
 -- Going through the words of a line: what is written so far, with the words ahead.
-use mathlib.Core.Path.{_≡_, refl, sym, ap, _∙_}
+use mathlib.Core.Path.{_≡_, refl, sym, ap, ap₂, _∙_}
 use mathlib.Core.Bool.{Bool, true, false, cond, _&&_}
 use mathlib.Core.List.{List, [], _∷_}
-use Prim.Native.Nat.{ℕ, suc, _+_, _≤_, _<_}
+use Prim.Native.Nat.{ℕ, suc, _+_, _-_, _≤_, _<_}
 use native.Mathlib.Numerals.{add-one}
 use native.Mathlib.Omega.{arith}
 use lib.Dec.{ltb}
@@ -29,6 +29,9 @@ ahead-is {line} {at} {start} {end} w = go (ltb start end) refl
     go true e = w .some (ltb-true start end e)
     go false e = w .none (ltb-false start end e) .0
 
+abbrev goodSeries : ℕ → List ℤ → Series
+goodSeries n numbers = record { good = true; count = n; numbers = numbers }
+
 module _ (line : List ℕ) where
   abbrev rest : List Span
   rest = afterFirst (spansOf line)
@@ -39,7 +42,7 @@ module _ (line : List ℕ) where
     pub fewer : n ≤ start
     pub good : allNumbers line (ahead line start end) ≡ allNumbers line rest
     pub count : n + length (ahead line start end) ≡ length rest
-    pub numbers : writtenFrom line (ahead line start end) n numbers ≡ writtenFrom line rest 0 noNumbers
+    pub written : writtenFrom line (ahead line start end) n numbers ≡ writtenFrom line rest 0 noNumbers
 
   rest-is : {s e start end : ℕ} → NextWord line 0 s e → NextWord line e start end → ahead line start end ≡ rest
   rest-is {s} {e} {start} {end} w v = go (ltb s e) refl
@@ -67,8 +70,8 @@ module _ (line : List ℕ) where
         most = v .most;
         fewer = omega arith;
         good = ap (allNumbers line) r;
-        count = ap length r;
-        numbers = ap (λ (l : List Span). writtenFrom line l 0 noNumbers) r;
+        count = let e = ap length r in omega arith;
+        written = ap (λ (l : List Span). writtenFrom line l 0 noNumbers) r;
       }
 
   -- the words ahead of a word
@@ -81,7 +84,7 @@ module _ (line : List ℕ) where
   -- and where there is none
   ahead-none : {start end : ℕ} → end ≤ start → ahead line start end ≡ []
   ahead-none {start} {end} h =
-      ap (λ (t : Bool). cond t (span start end ∷ outside line end) []) (le-ltb end start h)
+      ap (λ (t : Bool). cond t (span start end ∷ outside line end) []) (le-ltb start end h)
 
   passed : {end s e n : ℕ} → NextWord line end s e → n < end → end ≤ length line → suc n ≤ s
   passed {end} {s} {e} {n} w h m = go (ltb s e) refl
@@ -92,6 +95,13 @@ module _ (line : List ℕ) where
           let l = ltb-false s e p in
           let last = w .none l .1 in
           let o = w .order in omega arith
+
+  -- the next word begins later, so that less of the line is left
+  pub further : {start end n s e : ℕ} {numbers : List ℤ} → Gone start end n numbers → start < end →
+      NextWord line end s e → length line - s < length line - start
+  further {start} {end} {n} {s} {e} g h w =
+      let m = g .most in
+      let next : suc start ≤ s = passed w h m in omega arith
 
   pub gone-on : {start end n s e : ℕ} {numbers : List ℤ} {x : ℤ} → Gone start end n numbers → start < end →
       parsedIn line (span start end) ≡ parsed.Number x → NextWord line end s e → Gone s e (n + 1) (set numbers n x)
@@ -107,12 +117,17 @@ module _ (line : List ℕ) where
         order = w .order;
         most = w .most;
         fewer = omega arith;
-        good = sym (ap (allNumbers line) a ∙ rw p) ∙ g .good;
+        good =
+            sym
+            (ap (allNumbers line) a ∙ ap (λ (y : Parsed). isNumber y && allNumbers line (ahead line s e)) p)
+            ∙ g .good;
         count = omega arith;
-        numbers =
+        written =
             ap (λ (i : ℕ). writtenFrom line (ahead line s e) i (set numbers n x)) (add-one n)
-            ∙ sym (ap (λ (l : List Span). writtenFrom line l n numbers) a ∙ rw p)
-            ∙ g .numbers;
+            ∙ sym
+            (ap (λ (l : List Span). writtenFrom line l n numbers) a
+            ∙ ap (λ (y : Parsed). writtenFrom line (ahead line s e) (suc n) (set numbers n (valueOf y))) p)
+            ∙ g .written;
       }
 
   pub gone-bad : {start end n : ℕ} {numbers : List ℤ} → Gone start end n numbers → start < end →
@@ -120,11 +135,14 @@ module _ (line : List ℕ) where
   unfolding allNumbers seriesOf
   gone-bad {start} {end} g h p =
       let a = ap (λ (t : Bool). cond t (span start end ∷ outside line end) []) (lt-ltb start end h) in
-      let none : allNumbers line rest ≡ false = sym (g .good) ∙ ap (allNumbers line) a ∙ rw p in
+      let none : allNumbers line rest ≡ false =
+      sym (g .good) ∙ ap (allNumbers line) a
+      ∙ ap (λ (y : Parsed). isNumber y && allNumbers line (outside line end)) p
+      in
       sym (ap (λ (t : Bool). seriesIf t line rest) none)
 
   pub gone-all : {start end n : ℕ} {numbers : List ℤ} → Gone start end n numbers → end ≤ start →
-      record { good = true; count = n; numbers = numbers } ≡ seriesOf line
+      goodSeries n numbers ≡ seriesOf line
   unfolding allNumbers writtenFrom seriesOf
   gone-all {start} {end} {n} {numbers} g h =
       let a = ahead-none h in
@@ -133,6 +151,6 @@ module _ (line : List ℕ) where
       let c : n + 0 ≡ length rest = rw a at k in
       let many : n ≡ length rest = omega arith in
       let w : numbers ≡ writtenFrom line rest 0 noNumbers =
-          sym (ap (λ (l : List Span). writtenFrom line l n numbers) a) ∙ g .numbers
+      sym (ap (λ (l : List Span). writtenFrom line l n numbers) a) ∙ g .written
       in
-      rw (← many, ← w, all)
+      ap₂ goodSeries many w ∙ sym (ap (λ (t : Bool). seriesIf t line rest) all)

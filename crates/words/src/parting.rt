@@ -103,10 +103,7 @@ pub fn next_word(line: &[u8], at: usize) -> Span
         };
     }
     let end = past_word(line, start);
-    Span {
-        start,
-        end,
-    }
+    Span { start, end }
 }
 
 pub fn words_of(line: &[u8]) -> Words

@@ -20,18 +20,18 @@ unique-next-word {line} {at} {s} {e} {t} {f} v w = go (ltb s e) refl (ltb t f) r
     go : (p : Bool) → ltb s e ≡ p → (q : Bool) → ltb t f ≡ q → (s ≡ t) × (e ≡ f)
     go true p true q =
         let same : span s e ∷ outside line e ≡ span t f ∷ outside line f =
-            sym (v .some (ltb-true s e p)) ∙ w .some (ltb-true t f q)
+        sym (v .some (ltb-true s e p)) ∙ w .some (ltb-true t f q)
         in
         let one : span s e ≡ span t f = cc in
         (ap (λ (x : Span). x .start) one, ap (λ (x : Span). x .end) one)
     go true p false q =
         let same : span s e ∷ outside line e ≡ [] =
-            sym (v .some (ltb-true s e p)) ∙ w .none (ltb-false t f q) .0
+        sym (v .some (ltb-true s e p)) ∙ w .none (ltb-false t f q) .0
         in
         clash cc
     go false p true q =
         let same : span t f ∷ outside line f ≡ [] =
-            sym (w .some (ltb-true t f q)) ∙ v .none (ltb-false s e p) .0
+        sym (w .some (ltb-true t f q)) ∙ v .none (ltb-false s e p) .0
         in
         clash cc
     go false p false q =

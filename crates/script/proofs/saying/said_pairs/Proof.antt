@@ -6,7 +6,13 @@ use Rattle.script.proofs.saying.said_pairs.Statement.{statement}
 
 returns : tie.Need-returns
 unfolding saidPairs
-returns c = ?
+returns c =
+    rw (
+      c .numbers-of .ensures,
+      c .before .verb-if .ensures,
+      c .before .before .are-pairs .ensures,
+      c .before .before .before .series-of .ensures,
+    )
 
 pub said-pairs-spec : {M : Type 1} → statement M
 said-pairs-spec =
