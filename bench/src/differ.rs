@@ -161,11 +161,14 @@ fn script(d: &mut Dice) -> Vec<u8> {
             4..=7 => format!("move {} {}", number(d, 32), volts(d)),
             13 | 14 => {
                 let most = if d.roll(8) == 0 { 70 } else { 5 };
-                let words: Vec<String> = (0..d.roll(most))
-                    .flat_map(|_| [number(d, 32), volts(d)])
-                    .chain((d.roll(12) == 0).then(|| "1".into()))
-                    .collect();
-                format!("moves {}", words.join(" "))
+                let mut line = String::from("moves");
+                for _ in 0..d.roll(most) {
+                    line += &format!(" {} {}", number(d, 32), volts(d));
+                }
+                if d.roll(12) == 0 {
+                    line += " 1";
+                }
+                line
             }
             8 => format!("lift {}", number(d, 40)),
             9 => format!("withdraw {}", number(d, 8)),

@@ -13,6 +13,7 @@ mod library;
 mod numbers;
 mod protocol;
 
+use std::io::Write;
 use std::path::{Path, PathBuf};
 
 fn read_file(path: &[u8]) -> Option<Vec<u8>> {
@@ -201,7 +202,8 @@ fn time_stages(times: u64, together: bool) {
     b.load(b"a", &timed_record()).unwrap();
     for i in 0..64 {
         let e = 4 * (i % 8);
-        b.place(1, &[e, e + 1, e + 1, e + 2, e + 2, e + 2, e + 3]).unwrap();
+        b.place(1, &[e, e + 1, e + 1, e + 2, e + 2, e + 2, e + 3])
+            .unwrap();
     }
     let mut x = 1u32;
     for _ in 0..times {
@@ -296,12 +298,9 @@ fn time(name: &str, times: u64) {
 fn main() {
     let args: Vec<String> = std::env::args().skip(1).collect();
     match args.iter().map(String::as_str).collect::<Vec<_>>()[..] {
-        ["desk", script] => print!(
-            "{}",
-            String::from_utf8_lossy(
-                &protocol::Desk::new(read_file).run(&std::fs::read(script).unwrap())
-            )
-        ),
+        ["desk", script] => std::io::stdout()
+            .write_all(&protocol::Desk::new(read_file).run(&std::fs::read(script).unwrap()))
+            .unwrap(),
         ["time", name, times] => time(name, times.parse().unwrap()),
         ["vectors", folder] => vectors(&std::fs::canonicalize(folder).unwrap()),
         ["differ", rounds] => {
