@@ -179,12 +179,12 @@ fn move_to(board: Board, node: i64, microvolts: i64, out: &mut [u8; ROOM], at: &
     asked.board
 }
 
-// The numbers of a list, as many as are kept.
-fn kept(numbers: &[i64; script::ROOM], count: usize) -> &[i64] {
-    if count < script::ROOM {
-        return &numbers[..count];
+// The first n of the numbers; all of them where there are not so many.
+fn first(numbers: &[i64], n: usize) -> &[i64] {
+    if n < numbers.len() {
+        return &numbers[0..n];
     }
-    &numbers[..script::ROOM]
+    numbers
 }
 
 fn move_all(board: Board, list: Series, out: &mut [u8; ROOM], at: &mut usize) -> Board
@@ -192,7 +192,7 @@ fn move_all(board: Board, list: Series, out: &mut [u8; ROOM], at: &mut usize) ->
     ensures { λ r. ⌜ Reached r ⌝ }
 {
     let numbers = list.numbers;
-    let asked = board.move_all(kept(&numbers, list.count));
+    let asked = board.move_all(first(&numbers, list.count));
     let answer = asked.answer;
     put_done(answer, Answer::Moved, out, at);
     asked.board
