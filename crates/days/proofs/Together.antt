@@ -2,7 +2,7 @@
 use mathlib.Core.Path.{_≡_, refl, sym, ap, subst, _∙_}
 use mathlib.Core.Bool.{Bool, true, false, _&&_, _||_}
 use mathlib.Core.List.{List, [], _∷_}
-use Prim.Native.Nat.{ℕ, _%_, _≤_}
+use Prim.Native.Nat.{_%_, _≤_}
 use native.Mathlib.Omega.{arith}
 use lib.Dec.{eqb, leb}
 use lib.ListN.{length, set}
@@ -13,7 +13,7 @@ use Rattle.refusal.specs.Order.{Verdict, no, yes}
 use Rattle.volts.specs.Volts.{offVolts}
 use Rattle.given.specs.Arguments.{offNode}
 use Rattle.given.specs.Pairs.{arePairs, somePairOff, Shift, shiftsOf, shiftedIn}
-use Rattle.model.specs.Desk.{Desk, Step, Reply, done, refused, move, moveOne, step, moved, mayMove, movedTo, someOverloads}
+use Rattle.model.specs.Desk.{Desk, done, refused, move, moveOne, step, moved, mayMove, movedTo, someOverloads}
 use Rattle.model.proofs.Verdicts.{moves}
 use Rattle.days.specs.Singly.{singly, AllDone}
 use Rattle.days.proofs.Orders.{order-move}

@@ -2,7 +2,7 @@
 use mathlib.Core.Path.{_≡_}
 use mathlib.Core.List.{List, [], _∷_}
 use lib.IntN.{ℤ}
-use Rattle.model.specs.Desk.{Desk, Reply, done, moveOne, step}
+use Rattle.model.specs.Desk.{Desk, done, moveOne, step}
 
 -- the desk that the single moves leave
 unfoldable pub singly : Desk → List ℤ → Desk

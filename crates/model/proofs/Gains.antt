@@ -14,7 +14,7 @@ use borrow.Author.Tests.{eqb-true, eqb-false, ne-eqb, eq-eqb}
 use Rattle.refusal.specs.Clash.{clash}
 use Rattle.volts.specs.Volts.{givenBack, keptAs}
 use Rattle.totals.specs.Gives.{nodesMost}
-use Rattle.totals.specs.Flow.{rolesAt, overAt, flow, sumOver, sumBelow, withMore}
+use Rattle.totals.specs.Flow.{rolesAt, flow, sumOver, sumBelow, withMore}
 use Rattle.totals.specs.inner.Sums.{More}
 use Rattle.totals.specs.inner.Sizes.{flowMost}
 use Rattle.totals.proofs.Integers.{abs-add}
@@ -27,7 +27,7 @@ use Rattle.settle.specs.Change.{changeBy}
 use Rattle.given.specs.Pairs.{Shift, shiftedIn}
 use Rattle.model.specs.Model.{shifted, touched}
 use Rattle.model.specs.inner.Sums.{placeGives, totalsOf}
-use Rattle.model.proofs.NodeSums.{up-at, small-place, small-sum, totals-at, totals-count, are-totals}
+use Rattle.model.proofs.NodeSums.{up-at, small-place, small-sum, totals-at, are-totals}
 
 -- ---- totals with more
 

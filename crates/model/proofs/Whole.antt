@@ -1,5 +1,5 @@
 -- What a call leaves in the arrays that it was lent is the whole next board: it changes nothing else.
-use mathlib.Core.Path.{_≡_, refl, sym, ap, _∙_}
+use mathlib.Core.Path.{_≡_, refl}
 use mathlib.Core.List.{List}
 use Prim.Native.Nat.{ℕ}
 use lib.IntN.{ℤ}

@@ -11,7 +11,6 @@ use Rattle.refusal.specs.Order.{Verdict, no, yes}
 use Rattle.name.specs.Name.{padded, nameLength}
 use Rattle.volts.specs.Volts.{givenBack, keptAs}
 use Rattle.card.specs.declared.WorkedCard.{WorkedCard}
-use Rattle.rows.specs.declared.Over.{Over}
 use Rattle.terms.specs.inner.Ready.{readyOf}
 use Rattle.rows.specs.Outcome.{isOver}
 use Rattle.terms.specs.Rows.{roles}

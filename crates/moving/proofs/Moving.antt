@@ -129,7 +129,8 @@ module _ (b : Board) (k : Reached b) (pairs : List ℤ) (good : arePairs pairs �
         transistorsMost worked-is (λ i h t. sym (ap (λ (u : Transistor). u .issue) (stands-there b i h)))
         (λ i h t. rw (worked-there b g i h (stands i t), nodes-there b i h)))
 
-    pub move-over : isOver (first .over) ≡ true → LeavesLevels (movedOf b pairs) (Refused Overload) (b .volts) (b .totals)
+    pub move-over : isOver (first .over) ≡ true →
+        LeavesLevels (movedOf b pairs) (Refused Overload) (b .volts) (b .totals)
     unfolding movedOf moveVerdict
     move-over o = levels-stay {b = b} (movedOf b pairs) (rw (good, on, ← first-is, o))
 

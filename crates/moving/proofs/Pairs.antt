@@ -1,7 +1,7 @@
 -- Going through a list of pairs: what is kept so far and what is named so far, with the pairs that are left.
 use mathlib.Core.Path.{_≡_, refl, sym, ap, _∙_}
-use mathlib.Core.Bool.{Bool, true, false, not, _||_}
-use mathlib.Core.List.{List, [], _∷_}
+use mathlib.Core.Bool.{Bool, true, false, _||_}
+use mathlib.Core.List.{List}
 use Prim.Native.Nat.{ℕ, zero, suc, _+_, _/_, _%_, _^_, _≤_, _<_}
 use native.Mathlib.Nat.{mod-lt, zero-div}
 use native.Mathlib.Omega.{arith}
@@ -10,7 +10,7 @@ use lib.Dec.{eqb}
 use lib.ListN.{length, getD, drop, set}
 use lib.IntN.{ℤ, pos, natAbs}
 use Rattle.refusal.specs.Clash.{clash}
-use Rattle.volts.specs.Volts.{keptAs, offVolts}
+use Rattle.volts.specs.Volts.{offVolts}
 use Rattle.volts.specs.laws.Keeping.{KeptIs}
 use Rattle.given.specs.Lists.{anyOf}
 use Rattle.given.specs.Arguments.{offNode}
@@ -159,7 +159,7 @@ module _ (pairs : List ℤ) (was : List ℕ) where
   pub off-by-volts : {will : List ℕ} {i : ℕ} (l : List ℕ) → KeptTo will i → i + 1 < length pairs →
       offVolts (getD pairs (i + 1) (pos 0)) ≡ true → KeepsPairs pairs was false l
   off-by-volts {will} {i} l t h e =
-      kept-off l t h (ap (λ (b : Bool). offNode (getD pairs i (pos 0)) || b) e ∙ either-all (offNode (getD pairs i (pos 0))))
+      let n = offNode (getD pairs i (pos 0)) in kept-off l t h (ap (λ (b : Bool). n || b) e ∙ either-all n)
 
   pub kept-all : {will : List ℕ} {i : ℕ} → KeptTo will i → length pairs ≤ i + 1 → KeepsPairs pairs was true will
   unfolding shiftedIn

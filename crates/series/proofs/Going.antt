@@ -7,16 +7,16 @@ use native.Mathlib.Numerals.{add-one}
 use native.Mathlib.Omega.{arith}
 use lib.Dec.{ltb}
 use lib.IntN.{ℤ}
-use lib.ListN.{length, take, drop, set}
+use lib.ListN.{length, set}
 use borrow.Author.Tests.{lt-ltb, le-ltb, ltb-true, ltb-false}
 use Rattle.spelling.specs.declared.Parsed.{Parsed}
 use Rattle.spelling.specs.declared.Parsed.the-variants as parsed
-use Rattle.spelling.specs.Number.{parsedOf}
-use Rattle.words.specs.Words.{Span, span, spansOf, partOf}
+use Rattle.words.specs.Words.{Span, span, spansOf}
 use Rattle.words.specs.inner.Passing.{outside, NextWord}
 use Rattle.numbered.specs.Numbers.{isNumber, valueOf}
 use Rattle.series.specs.declared.Series.{Series}
-use Rattle.series.specs.Series.{noNumbers, afterFirst, parsedIn, allNumbers, writtenFrom, noSeries, seriesIf, seriesOf}
+use Rattle.series.specs.Series.{noNumbers, afterFirst, parsedIn, allNumbers, writtenFrom, noSeries, seriesIf}
+use Rattle.series.specs.Series.{seriesOf}
 
 -- the words ahead, where the next one is known
 abbrev ahead : List ℕ → ℕ → ℕ → List Span

@@ -1,6 +1,6 @@
 -- A list of pairs from a place on: the pair that stands there, and the pairs after it.
-use mathlib.Core.Path.{_≡_, refl, sym, ap, _∙_}
-use mathlib.Core.Bool.{Bool, false, _||_}
+use mathlib.Core.Path.{_≡_, refl, ap, _∙_}
+use mathlib.Core.Bool.{false, _||_}
 use mathlib.Core.List.{List, [], _∷_}
 use Prim.Native.Nat.{ℕ, suc, _+_, _-_, _≤_, _<_}
 use native.Mathlib.Omega.{arith}
@@ -9,7 +9,7 @@ use lib.Seq.{drop-cons}
 use lib.IntN.{ℤ, pos, natAbs}
 use Rattle.volts.specs.Volts.{offVolts}
 use Rattle.given.specs.Arguments.{offNode}
-use Rattle.given.specs.Pairs.{Shift, somePairOff, shiftsOf}
+use Rattle.given.specs.Pairs.{somePairOff, shiftsOf}
 
 module _ (l : List ℤ) (i : ℕ) where
   abbrev nodeThere : ℤ

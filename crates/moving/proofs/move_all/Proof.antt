@@ -42,7 +42,8 @@ returns c = λ b r l. lent-malformed l _ (sym (c .before .are-pairs .ensures) �
 returns-2 : tie.Need-returns-2
 returns-2 c =
     let k = c .before in
-    let off = turned _ (somePairOff (start k .args .pairs .now)) (k .keep-pairs .ensures .told) .0 (not-true _ (c .if2 .taken)) in
+    let some = somePairOff (start k .args .pairs .now) in
+    let off = turned _ some (k .keep-pairs .ensures .told) .0 (not-true _ (c .if2 .taken)) in
     λ b r l. lent-off l _ (are-pairs k) off
 
 settle-requires : tie.Need-settle-requires
