@@ -193,6 +193,35 @@ impl Board {
         Ok(())
     }
 
+    /// Nodes moved together, by a list of a node, its microvolts, a node and so on; each transistor is worked once.
+    pub fn shift_all(&mut self, pairs: &[i64]) -> Result<(), u32> {
+        if pairs.len() % 2 != 0 || pairs.is_empty() || pairs.len() > 2 * NODES {
+            return Err(1);
+        }
+        for p in pairs.chunks_exact(2) {
+            node(p[0])?;
+            if !(-2_500_000..=2_500_000).contains(&p[1]) {
+                return Err(13);
+            }
+        }
+        let before = self.volts;
+        let mut places = 0;
+        for p in pairs.chunks_exact(2) {
+            let n = p[0] as usize % NODES;
+            self.volts[n] = p[1];
+            places |= self.naming[n];
+        }
+        for place in Members(places) {
+            let Some(i) = self.worked(&self.standing[place]) else {
+                self.volts = before;
+                self.put_back(places & ((1 << place) - 1));
+                return Err(15);
+            };
+            self.taken_out[place] = self.exchange(place, i);
+        }
+        Ok(())
+    }
+
     /// Takes the held currents of a transistor out of the totals and puts others in; gives those that were held.
     #[inline(always)]
     fn exchange(&mut self, place: usize, new: Currents) -> Currents {

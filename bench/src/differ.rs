@@ -125,6 +125,14 @@ fn number(d: &mut Dice, most: u64) -> String {
     }
 }
 
+fn volts(d: &mut Dice) -> String {
+    let v = *d.one_of(&[
+        0, 16_000, 600_000, 650_000, 700_000, 1_500_000, 2_500_000, 2_500_001,
+    ]);
+    let minus = if d.roll(4) == 0 { "-" } else { "" };
+    format!("{minus}{v}")
+}
+
 fn script(d: &mut Dice) -> Vec<u8> {
     let mut s = Vec::new();
     let hex = |b: &[u8]| b.iter().map(|x| format!("{x:02x}")).collect::<String>();
@@ -139,7 +147,7 @@ fn script(d: &mut Dice) -> Vec<u8> {
         );
     }
     for _ in 0..120 {
-        let line = match d.roll(14) {
+        let line = match d.roll(16) {
             0 => format!(
                 "record {} {}",
                 String::from_utf8(name(d)).unwrap(),
@@ -150,12 +158,17 @@ fn script(d: &mut Dice) -> Vec<u8> {
                 format!("place {} {}", number(d, 20), nodes.join(" "))
             }
             3 => format!("place {} 0 1 1 2 2 2 3", number(d, 6)),
-            4..=7 => {
-                let v = *d.one_of(&[
-                    0, 16_000, 600_000, 650_000, 700_000, 1_500_000, 2_500_000, 2_500_001,
-                ]);
-                let minus = if d.roll(4) == 0 { "-" } else { "" };
-                format!("move {} {minus}{v}", number(d, 32))
+            4..=7 => format!("move {} {}", number(d, 32), volts(d)),
+            13 | 14 => {
+                let most = if d.roll(8) == 0 { 70 } else { 5 };
+                let mut line = String::from("moves");
+                for _ in 0..d.roll(most) {
+                    line += &format!(" {} {}", number(d, 32), volts(d));
+                }
+                if d.roll(12) == 0 {
+                    line += " 1";
+                }
+                line
             }
             8 => format!("lift {}", number(d, 40)),
             9 => format!("withdraw {}", number(d, 8)),

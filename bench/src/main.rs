@@ -2,7 +2,7 @@
 //!
 //!   bench vectors FOLDER    this implementation against a folder of outside vectors
 //!   bench desk SCRIPT       what the desk must answer to a script
-//!   bench time NAME TIMES   one of the timed runs: root, exponential, currents, saturated, empty, still, move, all, pair, read, find
+//!   bench time NAME TIMES   one of the timed runs: root, exponential, currents, saturated, empty, still, move, all, singly, together, pair, read, find
 //!   bench differ ROUNDS     random inputs through the built programs (`./desk`, `./listing` of the project) and this implementation
 
 mod board;
@@ -13,6 +13,7 @@ mod library;
 mod numbers;
 mod protocol;
 
+use std::io::Write;
 use std::path::{Path, PathBuf};
 
 fn read_file(path: &[u8]) -> Option<Vec<u8>> {
@@ -195,6 +196,38 @@ fn time_moves(times: u64, places: i64, node: impl Fn(u64) -> u64, microvolts: i6
     println!("{}", told(&b));
 }
 
+/// Every node of a full board moved so often, node by node or all together: eight stages of eight transistors.
+fn time_stages(times: u64, together: bool) {
+    let mut b = board::Board::fresh();
+    b.load(b"a", &timed_record()).unwrap();
+    for i in 0..64 {
+        let e = 4 * (i % 8);
+        b.place(1, &[e, e + 1, e + 1, e + 2, e + 2, e + 2, e + 3])
+            .unwrap();
+    }
+    let mut x = 1u32;
+    for _ in 0..times {
+        x = (x * 1103 + 12345) % 65536;
+        let y = x as i64;
+        let to = [y, 600_000 + y, 2_000_000 - y, -y];
+        let pairs: [i64; 64] = std::array::from_fn(|k| {
+            if k % 2 == 0 {
+                k as i64 / 2
+            } else {
+                to[k / 2 % 4]
+            }
+        });
+        if together {
+            b.shift_all(std::hint::black_box(&pairs)).unwrap();
+        } else {
+            for p in std::hint::black_box(&pairs).chunks_exact(2) {
+                b.shift(p[0], p[1]).unwrap();
+            }
+        }
+    }
+    println!("{}", told(&b));
+}
+
 fn time_pair(times: u64) {
     let mut b = board::Board::fresh();
     for n in 0..times {
@@ -253,6 +286,8 @@ fn time(name: &str, times: u64) {
         "still" => time_moves(times, 64, |_| 31, 600_000),
         "move" => time_moves(times, 64, |n| 1 + n % 8, 600_000),
         "all" => time_moves(times, 64, |_| 20, 2_000_000),
+        "singly" => time_stages(times, false),
+        "together" => time_stages(times, true),
         "pair" => time_pair(times),
         "read" => time_read(times as usize),
         "find" => time_find(times as usize),
@@ -263,12 +298,9 @@ fn time(name: &str, times: u64) {
 fn main() {
     let args: Vec<String> = std::env::args().skip(1).collect();
     match args.iter().map(String::as_str).collect::<Vec<_>>()[..] {
-        ["desk", script] => print!(
-            "{}",
-            String::from_utf8_lossy(
-                &protocol::Desk::new(read_file).run(&std::fs::read(script).unwrap())
-            )
-        ),
+        ["desk", script] => std::io::stdout()
+            .write_all(&protocol::Desk::new(read_file).run(&std::fs::read(script).unwrap()))
+            .unwrap(),
         ["time", name, times] => time(name, times.parse().unwrap()),
         ["vectors", folder] => vectors(&std::fs::canonicalize(folder).unwrap()),
         ["differ", rounds] => {

@@ -172,6 +172,10 @@ impl Desk {
                 let (n, v) = (number(rest[0])?, number(rest[1])?);
                 told(self.board.shift(n, v), |_| "moved".into())
             }
+            (b"moves", n) if n % 2 == 0 => {
+                let pairs: Vec<i64> = rest.iter().map(|w| number(w)).collect::<Option<_>>()?;
+                told(self.board.shift_all(&pairs), |_| "moved".into())
+            }
             (b"lift", 1) => told(self.board.lift(number(rest[0])?), |_| "lifted".into()),
             (b"withdraw", 1) => told(self.board.withdraw(number(rest[0])?), |_| {
                 "withdrawn".into()

@@ -41,9 +41,10 @@ module _ {b : model.Board} {r : Answered} (k : Reached b) where
   unfolding answered
   after-place card nodes sized e d = gives (place card nodes sized) k e d
 
-  pub after-move : (n v : ℤ) {a : model.Answered} → r ≡ givenAs a → a ≡ movedOf b n v → Allows (movedOf b n v) r
+  pub after-move : (pairs : List ℤ) {a : model.Answered} → r ≡ givenAs a → a ≡ movedOf b pairs →
+      Allows (movedOf b pairs) r
   unfolding answered
-  after-move n v e d = gives (move n v) k e d
+  after-move pairs e d = gives (move pairs) k e d
 
   pub after-lift : (n : ℤ) {a : model.Answered} → r ≡ givenAs a → a ≡ liftedOf b n → Allows (liftedOf b n) r
   unfolding answered

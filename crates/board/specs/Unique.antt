@@ -28,9 +28,8 @@ module _ (b : model.Board) {r s : Answered} where
       Allows (placedOf b card nodes) s → r ≡ s
   unique-place card nodes p q = unique-by-equation (p .0) (q .0)
 
-  pub unique-move : (node microvolts : ℤ) → Allows (movedOf b node microvolts) r →
-      Allows (movedOf b node microvolts) s → r ≡ s
-  unique-move node microvolts p q = unique-by-equation (p .0) (q .0)
+  pub unique-move : (pairs : List ℤ) → Allows (movedOf b pairs) r → Allows (movedOf b pairs) s → r ≡ s
+  unique-move pairs p q = unique-by-equation (p .0) (q .0)
 
   pub unique-lift : (transistor : ℤ) → Allows (liftedOf b transistor) r → Allows (liftedOf b transistor) s → r ≡ s
   unique-lift transistor p q = unique-by-equation (p .0) (q .0)

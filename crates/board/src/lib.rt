@@ -1,10 +1,11 @@
 // The board: cards and transistors in places, voltages and node totals, handed from call to call by value.
 // Each method asks that calls from a fresh board left the board as it is, and gives the answer with the next board, which is such a board again.
 ghost use mathlib.Core.Path.{_≡_};
+ghost use mathlib.Core.List.{[], _∷_};
 ghost use Rattle.model.specs.Model.{freshBoard, loadedOf, placedOf, movedOf, liftedOf, withdrawnOf, lookedOf, showedOf};
 ghost use Rattle.board.specs.Promise.{modelOf, boardOf, givenAs, Reached};
-use branch::ROLES;
 pub use model::Answer;
+use terms::ROLES;
 
 // Flat arrays of numbers, so that each can be lent. The first six hold the cards by their places, the last four the transistors.
 pub struct Board {
@@ -141,10 +142,10 @@ impl Board {
         }
     }
 
-    // A node's voltage: 13, then 15 where some transistor would overload.
-    pub fn move_to(mut self, node: i64, microvolts: i64) -> Answered
+    // Nodes moved together, by a list of a node, its microvolts, a node, its microvolts and so on, the last pair of a node holding: 1 where it is not 1 to 32 pairs, 13 for any pair, then 15 where some transistor would overload at the end.
+    pub fn move_all(mut self, pairs: &[i64]) -> Answered
         requires { ⌜ Reached self ⌝ }
-        ensures { λ r. ⌜ r ≡ givenAs (movedOf (modelOf self) node microvolts) ⌝ }
+        ensures { λ r. ⌜ r ≡ givenAs (movedOf (modelOf self) (now (pairs .entry))) ⌝ }
         ensures { λ r. ⌜ Reached (r .board) ⌝ }
     {
         let numbers = self.numbers;
@@ -156,7 +157,7 @@ impl Board {
         let nodes = self.nodes;
         let mut volts = self.volts;
         let mut totals = self.totals;
-        let answer = model::move_to(
+        let answer = moving::move_all(
             &mut volts,
             &mut totals,
             &numbers,
@@ -166,8 +167,7 @@ impl Board {
             &issues,
             &seats,
             &nodes,
-            node,
-            microvolts,
+            pairs,
         );
         self.volts = volts;
         self.totals = totals;
@@ -175,6 +175,15 @@ impl Board {
             board: self,
             answer,
         }
+    }
+
+    // One node: a list of one pair.
+    pub fn move_to(self, node: i64, microvolts: i64) -> Answered
+        requires { ⌜ Reached self ⌝ }
+        ensures { λ r. ⌜ r ≡ givenAs (movedOf (modelOf self) (node ∷ microvolts ∷ [])) ⌝ }
+        ensures { λ r. ⌜ Reached (r .board) ⌝ }
+    {
+        self.move_all(&[node, microvolts])
     }
 
     // A transistor taken off, by its issue number: 12.

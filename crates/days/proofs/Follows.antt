@@ -14,8 +14,7 @@ use Rattle.refusal.specs.declared.Refusal.{Refusal}
 use Rattle.refusal.specs.declared.Refusal.the-variants.{CardInUse}
 use Rattle.refusal.specs.Order.{Verdict, no, yes, refuseIf}
 use Rattle.name.specs.Name.{padded, same}
-use Rattle.volts.specs.Volts.{givenBack, keptAs, offVolts}
-use Rattle.volts.specs.laws.Keeping.{kept}
+use Rattle.volts.specs.Volts.{givenBack}
 use Rattle.card.specs.declared.WorkedCard.{WorkedCard}
 use Rattle.terms.specs.inner.Ready.{readyOf}
 use Rattle.terms.proofs.Laws.{ready-card}
@@ -62,7 +61,10 @@ use Rattle.settle.specs.laws.Firsts.{first-over}
 use Rattle.totals.specs.Flow.{overAt}
 use Rattle.places.specs.Gathered.{workedAt}
 use Rattle.name.specs.Name.{nameLength}
-use Rattle.model.specs.Model.{Shift, shifted, touched, oneShift, firstOver, settled, workedOn}
+use Rattle.given.specs.Pairs.{somePairOff, Shift, shiftsOf}
+use Rattle.model.specs.Desk.{movedTo}
+use Rattle.model.specs.Model.{shifted, touched, firstOver, settled, workedOn}
+use Rattle.model.proofs.Shifts.{shifted-back}
 use Rattle.days.proofs.Orderly.{Orderly, orderly-after}
 use Rattle.days.proofs.Orders.{order-load, order-place, order-move, order-lift, order-withdraw, order-look}
 use Rattle.days.proofs.Orders.{order-read}
@@ -92,11 +94,6 @@ module _ {A B : Type 0} (g : A → B) where
   map-lift (some a) = refl
 
 -- ---- where board and desk agree
-
-map-set : {A B : Type 0} (f : A → B) (l : List A) (i : ℕ) (x : A) → map f (set l i x) ≡ set (map f l) i (f x)
-map-set f [] i x = refl
-map-set f (a ∷ rest) zero x = refl
-map-set {B = B} f (a ∷ rest) (suc i) x = ap (λ (l : List B). f a ∷ l) (map-set f rest i x)
 
 zero-larger : (n : ℕ) → larger 0 n ≡ n
 zero-larger n = go (ltb 0 n) refl
@@ -353,36 +350,34 @@ module _ (b : Board) (d : Desk) (g : Invariant b) (o : Orderly d) (s : Stands b 
                 });
           }
 
-  moved-volts : (v : ℤ) (k : ℕ) → offVolts v ≡ false → map givenBack (set (b .volts) k (keptAs v)) ≡ set (d .volts) k v
-  moved-volts v k e = map-set givenBack (b .volts) k (keptAs v) ∙ rw (kept v e .is, s .volts)
+  moved-volts : (pairs : List ℤ) → somePairOff pairs ≡ false →
+      map givenBack (shifted (b .volts) (shiftsOf pairs)) ≡ movedTo (d .volts) (shiftsOf pairs)
+  moved-volts pairs e = shifted-back pairs (b .volts) e ∙ ap (λ (l : List ℤ). movedTo l (shiftsOf pairs)) (s .volts)
 
   -- out of range both refuse before they look at what stands
-  agree-move : (n v : ℤ) (t : Bool) → offVolts v ≡ t → board.mayMove b n v ≡ desk.mayMove d n v
-  unfolding moveVerdict shifted
-  agree-move n v true e = rw (← (order-move d n v), e)
-  agree-move n v false e =
-      rw (← (order-move d n v), first-standing b d g o s (oneShift (natAbs n) v), moved-volts v (natAbs n) e)
+  agree-move : (pairs : List ℤ) (t : Bool) → somePairOff pairs ≡ t → board.mayMove b pairs ≡ desk.mayMove d pairs
+  unfolding moveVerdict
+  agree-move pairs true e = rw (← (order-move d pairs), e)
+  agree-move pairs false e =
+      rw (← (order-move d pairs), first-standing b d g o s (shiftsOf pairs), moved-volts pairs e)
 
-  follow-move : (n v : ℤ) → Follow (movedOf b n v) (step d (move n v))
-  unfolding movedOf shifted step
-  follow-move n v =
-      subst (λ (w : Verdict ℕ). Follow (movedOf b n v) (desk.moved d v w)) (agree-move n v (offVolts v) refl)
-      (go (board.mayMove b n v) refl)
+  follow-move : (pairs : List ℤ) → Follow (movedOf b pairs) (step d (move pairs))
+  unfolding movedOf step
+  follow-move pairs =
+      subst (λ (w : Verdict (List Shift)). Follow (movedOf b pairs) (desk.moved d w))
+      (agree-move pairs (somePairOff pairs) refl) (go (board.mayMove b pairs) refl)
     where
-      go : (w : Verdict ℕ) → board.mayMove b n v ≡ w → Follow (board.moved b v w) (desk.moved d v w)
+      go : (w : Verdict (List Shift)) → board.mayMove b pairs ≡ w → Follow (board.moved b w) (desk.moved d w)
       go (no f) e = record { reply = refl; board = s }
-      go (yes k) e =
+      go (yes shifts) e =
           record {
             reply = refl;
             board =
-                rw (
-                  cards-leveled g (oneShift k v) (settled b (oneShift k v)),
-                  transistors-leveled g (oneShift k v) (settled b (oneShift k v)),
-                )
+                rw (cards-leveled g shifts (settled b shifts), transistors-leveled g shifts (settled b shifts))
                 (record {
                   cards = s .cards;
                   standing = s .standing;
-                  volts = moved-volts v k (moves e .near);
+                  volts = let m = moves e in rw (m .by) (moved-volts pairs (m .on));
                   next = s .next;
                 });
           }
@@ -534,7 +529,7 @@ pub follow : (b : Board) (d : Desk) → Invariant b → Orderly d → Stands b d
 unfolding answered
 follow b d g o s (load name bytes) = follow-load b d g o s name bytes
 follow b d g o s (place card nodes sized) = follow-place b d g o s card nodes sized
-follow b d g o s (move n v) = follow-move b d g o s n v
+follow b d g o s (move pairs) = follow-move b d g o s pairs
 follow b d g o s (lift n) = follow-lift b d g o s n
 follow b d g o s (withdraw n) = follow-withdraw b d g o s n
 follow b d g o s (lookUp name) = follow-look b d g o s name

@@ -15,6 +15,7 @@ use Rattle.refusal.specs.Clash.{clash}
 use Rattle.whole.specs.laws.Biased.{below-or-not}
 use Rattle.card.specs.declared.WorkedCard.{WorkedCard}
 use Rattle.given.specs.Arguments.{Found, none, some, issueOf, known}
+use Rattle.given.specs.Pairs.{Shift}
 use Rattle.model.specs.Desk as desk
 use Rattle.model.specs.Desk.{Held, Standing, Desk, Call, load, place, move, lift, withdraw, lookUp, node}
 use Rattle.given.specs.Lists.{anyOf}
@@ -119,11 +120,11 @@ module _ (d : Desk) (k : ℕ) (given : k < d .next) where
       go (no f) = still d k
       go (yes c) = record { next = omega arith; standing = refl }
   stays (place card nodes sized) = stays-place nodes (desk.mayPlace d card nodes)
-  stays (move n v) = go (desk.mayMove d n v)
+  stays (move pairs) = go (desk.mayMove d pairs)
     where
-      go : (w : Verdict ℕ) → Stays d k false (desk.moved d v w .desk)
+      go : (w : Verdict (List Shift)) → Stays d k false (desk.moved d w .desk)
       go (no f) = still d k
-      go (yes m) = record { next = le-refl _; standing = refl }
+      go (yes shifts) = record { next = le-refl _; standing = refl }
   stays (lift n) = stays-lift n (standsAs (issueOf n) (d .standing)) refl
   stays (withdraw n) = go (desk.mayWithdraw d n)
     where

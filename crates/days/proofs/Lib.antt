@@ -7,3 +7,4 @@ pub mod Totals
 pub mod Numbers
 pub mod Keeps
 pub mod Methods
+pub mod Together

@@ -17,7 +17,7 @@ use Rattle.board.specs.Unique.{Allows}
 use Rattle.model.proofs.Invariant.{invariant}
 use Rattle.days.specs.Perm.{Perm}
 use Rattle.days.specs.Stands.{Stands, Follow}
-use Rattle.days.specs.Promised.{Promised, by-load, by-place, by-move, by-lift, by-withdraw, by-look-up}
+use Rattle.days.specs.Promised.{Promised, by-load, by-place, by-move-all, by-move-to, by-lift, by-withdraw, by-look-up}
 use Rattle.days.specs.Promised.{by-read-node, PromisedFresh, by-fresh, Day, begun, then}
 use Rattle.days.proofs.Perms.{count, perm-count}
 use Rattle.days.proofs.Orderly.{Numbered, Orderly, orderly-after}
@@ -55,7 +55,8 @@ kept-promise : {b : code.Board} {c : Call} {r : answered.Answered} → Promised 
 unfolding replied
 kept-promise (by-load κs a e p) = p
 kept-promise (by-place κs a e sized p) = p
-kept-promise (by-move κs a e p) = p
+kept-promise (by-move-all κs a e p) = p
+kept-promise (by-move-to κs a e p) = p
 kept-promise (by-lift κs a e p) = p
 kept-promise (by-withdraw κs a e p) = p
 kept-promise (by-look-up κs a e p) = p

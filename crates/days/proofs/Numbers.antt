@@ -18,6 +18,7 @@ use Rattle.model.specs.Board.{Board}
 use Rattle.model.specs.Model.{cardsOf}
 use Rattle.model.specs.declared.Answer.the-variants.{Issue}
 use Rattle.given.specs.Arguments.{issuesMost}
+use Rattle.given.specs.Pairs.{Shift}
 use Rattle.given.specs.Arguments.{issueOf}
 use Rattle.model.specs.Verdict.{nodeVerdict}
 use Rattle.model.specs.Desk as desk
@@ -68,11 +69,11 @@ module _ (b : Board) (l : List ℕ) (begun : 1 ≤ b .next) (f : Falls (b .next)
   unfolding answered movedOf liftedOf withdrawnOf lookedOf showedOf
   falls-call (load name bytes) = falls-load name bytes
   falls-call (place card nodes sized) = falls-place card nodes
-  falls-call (move n v) = go (board.mayMove b n v)
+  falls-call (move pairs) = go (board.mayMove b pairs)
     where
-      go : (w : Verdict ℕ) → Falls (board.moved b v w .board .next) l
+      go : (w : Verdict (List Shift)) → Falls (board.moved b w .board .next) l
       go (no g) = f
-      go (yes k) = f
+      go (yes shifts) = f
   falls-call (lift n) = go (board.mayLift b n)
     where
       go : (w : Verdict ℕ) → Falls (board.lifted b w .board .next) l

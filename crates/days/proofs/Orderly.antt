@@ -9,6 +9,7 @@ use lib.Dec.{eqb, lit≤}
 use borrow.Author.Tests.{eqb-true, ne-eqb}
 use Rattle.refusal.specs.Order.{Verdict, no, yes}
 use Rattle.card.specs.declared.WorkedCard.{WorkedCard}
+use Rattle.given.specs.Pairs.{Shift}
 use Rattle.model.specs.Desk.{Held, Standing, Desk, Call, load, place, move, lift, withdraw, lookUp, node}
 use Rattle.model.specs.Desk.{without, keepIf, loaded, placed, moved, lifted, withdrawn, looked, showed, mayLoad}
 use Rattle.model.specs.Desk.{mayPlace, mayMove, mayLift, mayWithdraw, mayLookUp, mayRead, step, freshDesk, after}
@@ -93,11 +94,11 @@ orderly-step d (place card nodes sized) o = go (mayPlace d card nodes)
           cards = numbered-later _ (o .cards);
           standing = numbered-join _ _ refl (o .standing);
         }
-orderly-step d (move n v) o = go (mayMove d n v)
+orderly-step d (move pairs) o = go (mayMove d pairs)
   where
-    go : (w : Verdict ℕ) → Orderly (moved d v w .desk)
+    go : (w : Verdict (List Shift)) → Orderly (moved d w .desk)
     go (no f) = o
-    go (yes k) = record { begun = o .begun; cards = o .cards; standing = o .standing }
+    go (yes shifts) = record { begun = o .begun; cards = o .cards; standing = o .standing }
 orderly-step d (lift n) o = go (mayLift d n)
   where
     go : (v : Verdict Standing) → Orderly (lifted d v .desk)

@@ -1,30 +1,21 @@
 -- The orders of refusals: what the board's verdicts say of the desk's own facts is what the desk says.
 use mathlib.Core.Path.{_≡_, refl}
-use mathlib.Core.Bool.{Bool, true, false, _||_}
 use mathlib.Core.List.{List, map}
 use Prim.Native.Nat.{ℕ}
 use lib.Dec.{eqb, leb}
-use lib.ListN.{length, set}
+use lib.ListN.{length}
 use lib.IntN.{ℤ, natAbs}
-use Rattle.refusal.specs.declared.Refusal.{Refusal}
-use Rattle.refusal.specs.Order.{Verdict, refuseIf}
 use Rattle.name.specs.Name.{padded}
-use Rattle.volts.specs.Volts.{offVolts}
 use Rattle.model.specs.Counts.{cardsMost, transistorsMost}
-use Rattle.given.specs.Arguments.{issueOf, offNode}
+use Rattle.given.specs.Arguments.{issueOf}
+use Rattle.given.specs.Pairs.{shiftsOf}
 use Rattle.model.specs.Verdict.{loadVerdict, placeVerdict, moveVerdict, liftVerdict, withdrawVerdict, lookVerdict}
 use Rattle.model.specs.Verdict.{nodeVerdict}
-use Rattle.model.specs.Desk.{Held, Standing, Desk, highest, someOverloads, heldAs, standsAs}
+use Rattle.model.specs.Desk.{Held, Standing, Desk, highest, movedTo, someOverloads, heldAs, standsAs}
 use Rattle.totals.specs.Flow.{overloads}
 use Rattle.given.specs.Lists.{anyOf}
 use Rattle.given.specs.Arguments.{usedUp}
 use Rattle.model.specs.Desk.{mayLoad, mayPlace, mayMove, mayLift, mayWithdraw, mayLookUp, mayRead}
-
--- a range of two tests is one test
-either-test : {A : Type 0} (t u : Bool) (f : Refusal) (v : Verdict A) →
-    refuseIf t f (refuseIf u f v) ≡ refuseIf (t || u) f v
-either-test true u f v = refl
-either-test false u f v = refl
 
 module _ (d : Desk) where
   pub order-load : (name bytes : List ℕ) →
@@ -40,9 +31,10 @@ module _ (d : Desk) where
   unfolding placeVerdict
   order-place card nodes = refl
 
-  pub order-move : (n v : ℤ) → moveVerdict n v (someOverloads d (set (d .volts) (natAbs n) v)) ≡ mayMove d n v
+  pub order-move : (pairs : List ℤ) →
+      moveVerdict pairs (someOverloads d (movedTo (d .volts) (shiftsOf pairs))) ≡ mayMove d pairs
   unfolding moveVerdict
-  order-move n v = either-test (offNode n) (offVolts v) _ _
+  order-move pairs = refl
 
   pub order-lift : (n : ℤ) → liftVerdict (standsAs (issueOf n) (d .standing)) ≡ mayLift d n
   unfolding liftVerdict

@@ -3,3 +3,4 @@ pub mod Stands
 pub mod Fitted
 pub mod Numbers
 pub mod Promised
+pub mod Singly

@@ -20,7 +20,7 @@ withNumber (Refused f) earlier = earlier
 abbrev pub gives : Call → Answer → List ℕ → List ℕ
 gives (load name bytes) a earlier = withNumber a earlier
 gives (place card nodes sized) a earlier = withNumber a earlier
-gives (move n v) a earlier = earlier
+gives (move pairs) a earlier = earlier
 gives (lift n) a earlier = earlier
 gives (withdraw n) a earlier = earlier
 gives (lookUp name) a earlier = earlier
@@ -40,7 +40,7 @@ pub data Falls : ℕ → List ℕ → Type 0 where
 abbrev pub asksToLift : ℕ → Call → Bool
 asksToLift k (load name bytes) = false
 asksToLift k (place card nodes sized) = false
-asksToLift k (move n v) = false
+asksToLift k (move pairs) = false
 asksToLift k (lift n) = eqb (issueOf n) k
 asksToLift k (withdraw n) = false
 asksToLift k (lookUp name) = false

@@ -10,15 +10,17 @@ use borrow.Fn.Kinds.{PK, RK, Dens, endedOf}
 use Rattle.terms.specs.Rows.{roles}
 use Rattle.board.specs.declared.Board.{Board}
 use Rattle.board.specs.declared.Answered.{Answered}
-use Rattle.model.specs.Desk.{Call, load, place, move, lift, withdraw, lookUp, node}
+use Rattle.model.specs.Desk.{Call, load, place, move, moveOne, lift, withdraw, lookUp, node}
 use Rattle.board.proofs.Board.fresh.Kinds as fresh-kinds
 use Rattle.board.proofs.Board.fresh.Reads as fresh-reads
 use Rattle.board.proofs.Board.load.Kinds as load-kinds
 use Rattle.board.proofs.Board.load.Reads as load-reads
 use Rattle.board.proofs.Board.place.Kinds as place-kinds
 use Rattle.board.proofs.Board.place.Reads as place-reads
-use Rattle.board.proofs.Board.«move_to».Kinds as move-kinds
-use Rattle.board.proofs.Board.«move_to».Reads as move-reads
+use Rattle.board.proofs.Board.«move_all».Kinds as move-all-kinds
+use Rattle.board.proofs.Board.«move_all».Reads as move-all-reads
+use Rattle.board.proofs.Board.«move_to».Kinds as move-to-kinds
+use Rattle.board.proofs.Board.«move_to».Reads as move-to-reads
 use Rattle.board.proofs.Board.lift.Kinds as lift-kinds
 use Rattle.board.proofs.Board.lift.Reads as lift-reads
 use Rattle.board.proofs.Board.withdraw.Kinds as withdraw-kinds
@@ -45,9 +47,12 @@ pub data Promised : Board → Call → Answered → Type 0 where
   by-place : (κs : Lfts 0) (a : Dens κs place-kinds.ps) {r : Answered}
       (e : Left κs place-kinds.ps place-kinds.r) (sized : length (a .1 .1 .0) ≡ roles) →
       place-reads.Learnt κs a r e → Promised (a .0) (place (a .1 .0) (a .1 .1 .0) sized) r
-  by-move : (κs : Lfts 0) (a : Dens κs move-kinds.ps) {r : Answered}
-      (e : Left κs move-kinds.ps move-kinds.r) →
-      move-reads.Learnt κs a r e → Promised (a .0) (move (a .1 .0) (a .1 .1 .0)) r
+  by-move-all : (κs : Lfts 1) (a : Dens κs move-all-kinds.ps) {r : Answered}
+      (e : Left κs move-all-kinds.ps move-all-kinds.r) →
+      move-all-reads.Learnt κs a r e → Promised (a .0) (move (a .1 .0 .now)) r
+  by-move-to : (κs : Lfts 0) (a : Dens κs move-to-kinds.ps) {r : Answered}
+      (e : Left κs move-to-kinds.ps move-to-kinds.r) →
+      move-to-reads.Learnt κs a r e → Promised (a .0) (moveOne (a .1 .0) (a .1 .1 .0)) r
   by-lift : (κs : Lfts 0) (a : Dens κs lift-kinds.ps) {r : Answered}
       (e : Left κs lift-kinds.ps lift-kinds.r) →
       lift-reads.Learnt κs a r e → Promised (a .0) (lift (a .1 .0)) r

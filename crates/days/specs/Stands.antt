@@ -15,7 +15,7 @@ use Rattle.model.specs.declared.Answer.the-variants.{Issue, Done, Node, Refused
 use Rattle.model.specs.Board.{Answered}
 use Rattle.given.specs.Arguments.{Found, none, some}
 use Rattle.model.specs.Desk.{Held, Standing, Desk, Step, Reply, issued, done, shows, refused, keepIf}
-use Rattle.places.specs.Gathered.{noCard, noTransistor, workedAt}
+use Rattle.places.specs.Gathered.{noCard, workedAt}
 use Rattle.places.specs.Finding.{transistorPlace}
 use Rattle.model.specs.Model.{voltsOf}
 use Rattle.days.specs.Perm.{Perm}

@@ -7,10 +7,10 @@ ghost use Rattle.deck.specs.Layout.{cardsMost, numbersEach, powersEach, 
 ghost use Rattle.deck.specs.Layout.{numbersOf, powersOf, ticksOf, switchesOf};
 ghost use Rattle.deck.specs.Layout.{numbersAt, powersAt, ticksAt, switchesAt};
 ghost use Rattle.deck.specs.Layout.{splitFrom, reciprocalFrom, workedFrom, readyAt, Laid};
-use branch::Ready;
 use card::WorkedCard;
 use float::Split;
 use octave::Reciprocal;
+use terms::Ready;
 
 // The places.
 pub const CARDS: usize = 16;

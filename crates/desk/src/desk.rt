@@ -18,6 +18,7 @@ use library::Reading;
 use script::Command;
 use script::MOST_BYTES;
 use script::MOST_NUMBERS;
+use script::Series;
 use script::Verb;
 
 // The n bytes that were read become the library held, where they are a library.
@@ -178,6 +179,25 @@ fn move_to(board: Board, node: i64, microvolts: i64, out: &mut [u8; ROOM], at: &
     asked.board
 }
 
+// The first n of the numbers; all of them where there are not so many.
+fn first(numbers: &[i64], n: usize) -> &[i64] {
+    if n < numbers.len() {
+        return &numbers[0..n];
+    }
+    numbers
+}
+
+fn move_all(board: Board, list: Series, out: &mut [u8; ROOM], at: &mut usize) -> Board
+    requires { ⌜ Reached board ⌝ }
+    ensures { λ r. ⌜ Reached r ⌝ }
+{
+    let numbers = list.numbers;
+    let asked = board.move_all(first(&numbers, list.count));
+    let answer = asked.answer;
+    put_done(answer, Answer::Moved, out, at);
+    asked.board
+}
+
 fn lift(board: Board, transistor: i64, out: &mut [u8; ROOM], at: &mut usize) -> Board
     requires { ⌜ Reached board ⌝ }
     ensures { λ r. ⌜ Reached r ⌝ }
@@ -315,6 +335,7 @@ pub fn obey(
     let words = c.words;
     let name = script::word(line, words, 1);
     let v = c.numbers;
+    let list = c.list;
     let verb = c.verb;
     match verb {
         Verb::Load => load(board, name, library, out, at),
@@ -323,6 +344,7 @@ pub fn obey(
             look_up(board, name, out, at);
             board
         }
+        Verb::Moves => move_all(board, list, out, at),
         _ => obey_numbers(board, verb, v, out, at),
     }
 }

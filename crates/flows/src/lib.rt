@@ -12,10 +12,10 @@ ghost use Rattle.totals.specs.inner.Sums.{More, Room, Wired};
 ghost use Rattle.totals.specs.inner.Sizes.{roomMost};
 ghost use Rattle.flows.specs.Back.{backFlow};
 ghost use Rattle.flows.specs.inner.Workable.{rolesOf, deckOf, cardOf, Workable};
-use branch::Outcome;
-use branch::Over;
-use branch::ROLES;
 use octave::Table;
+use rows::Outcome;
+use rows::Over;
+use terms::ROLES;
 use totals::NODES;
 
 fn volt(volts: &[u32; NODES], n: u8) -> u32
@@ -56,7 +56,7 @@ fn work(
 {
     let v = role_volts(volts, on);
     let r = deck::ready_at(numbers, powers, ticks, switches, s);
-    branch::work_out(table, r, &v)
+    rows::work_out(table, r, &v)
 }
 
 // Gives a transistor's currents to the totals, and tells by what it overloads.

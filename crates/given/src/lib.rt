@@ -3,7 +3,7 @@ ghost use mathlib.Core.Path.{_≡_};
 ghost use mathlib.Core.List.{map};
 ghost use Rattle.given.specs.Arguments.{issueOf};
 ghost use Rattle.given.specs.inner.Nodes.{nodeOf};
-use branch::ROLES;
+use terms::ROLES;
 use totals::NODES;
 use whole::Int;
 

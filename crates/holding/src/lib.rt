@@ -6,7 +6,6 @@ ghost use Rattle.model.specs.Board.{Board};
 ghost use Rattle.model.specs.Model.{loadedOf, withdrawnOf, lookedOf, showedOf};
 ghost use Rattle.holding.specs.inner.Lent.{CardArrays, LeavesCards, Holds, cardOf};
 ghost use Rattle.holding.specs.inner.Loading.{loading};
-use branch::Ready;
 use card::Judged;
 use card::WorkedCard;
 use deck::ALL_NUMBERS;
@@ -19,6 +18,7 @@ use places::ALL_NAMES;
 use places::CARDS;
 use places::TRANSISTORS;
 use refusal::Refusal;
+use terms::Ready;
 use totals::NODES;
 
 // The free place for a card and the card worked, or the refusal.
@@ -94,7 +94,7 @@ pub fn load(
         Loading::Stop(f) => Answer::Refused(f),
         Loading::Go(i, worked) => {
             let own = name::pad(name);
-            let ready = branch::prepare(worked);
+            let ready = terms::prepare(worked);
             hold(
                 numbers,
                 powers,
@@ -137,7 +137,7 @@ pub fn withdraw(
     }
     let gone: u32 = 0;
     let blank = [0u8; name::LENGTH];
-    let none = branch::no_ready();
+    let none = terms::no_ready();
     hold(
         numbers,
         powers,

@@ -14,7 +14,7 @@ use borrow.Author.Tests.{eqb-true, eqb-false, ne-eqb, eq-eqb}
 use Rattle.refusal.specs.Clash.{clash}
 use Rattle.volts.specs.Volts.{givenBack, keptAs}
 use Rattle.totals.specs.Gives.{nodesMost}
-use Rattle.totals.specs.Flow.{rolesAt, overAt, flow, sumOver, sumBelow, withMore}
+use Rattle.totals.specs.Flow.{rolesAt, flow, sumOver, sumBelow, withMore}
 use Rattle.totals.specs.inner.Sums.{More}
 use Rattle.totals.specs.inner.Sizes.{flowMost}
 use Rattle.totals.proofs.Integers.{abs-add}
@@ -24,9 +24,10 @@ use Rattle.places.specs.Gathered.{Card, Transistor, noTransistor, workedAt}
 use Rattle.places.specs.Finding.{names, standsAt}
 use Rattle.flows.specs.Back.{backFlow}
 use Rattle.settle.specs.Change.{changeBy}
-use Rattle.model.specs.Model.{Shift, shifted, touched}
+use Rattle.given.specs.Pairs.{Shift, shiftedIn}
+use Rattle.model.specs.Model.{shifted, touched}
 use Rattle.model.specs.inner.Sums.{placeGives, totalsOf}
-use Rattle.model.proofs.NodeSums.{up-at, small-place, small-sum, totals-at, totals-count, are-totals}
+use Rattle.model.proofs.NodeSums.{up-at, small-place, small-sum, totals-at, are-totals}
 
 -- ---- totals with more
 
@@ -76,7 +77,7 @@ either-false false b e = (refl, e)
 pub roles-same : (shifts : List Shift) (volts : List ℕ) (t : Transistor) → (t .issue ≡ 0 → ⊥) →
     touched shifts t ≡ false →
     rolesAt (map givenBack (shifted volts shifts)) (t .nodes) ≡ rolesAt (map givenBack volts) (t .nodes)
-unfolding shifted anyOf
+unfolding shiftedIn anyOf
 roles-same [] volts t h e = refl
 roles-same (s ∷ rest) volts t h e =
     let p = either-false (standsAt (s .node) t) (touched rest t) e in

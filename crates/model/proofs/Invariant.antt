@@ -14,7 +14,7 @@ use Rattle.refusal.specs.Order.{Verdict, no, yes}
 use Rattle.refusal.specs.Clash.{clash}
 use Rattle.name.specs.Name.{nameLength, padded}
 use Rattle.volts.specs.Volts.{givenBack, keptAs, span, AllNear}
-use Rattle.volts.specs.laws.Keeping.{kept, near-replicate, near-set}
+use Rattle.volts.specs.laws.Keeping.{near-replicate}
 use Rattle.card.specs.declared.WorkedCard.{WorkedCard}
 use Rattle.terms.specs.inner.Ready.{IsReady, readyOf}
 use Rattle.terms.proofs.Laws.{made-ready}
@@ -23,6 +23,7 @@ use Rattle.rows.specs.Outcome.{isOver, outcomeOf}
 use Rattle.totals.specs.Flow.{rolesAt, overAt, overloads, flow, sumOver}
 use Rattle.given.specs.Lists.{anyOf}
 use Rattle.given.specs.Arguments.{none, some, issueOf, offNode, someNodeOff}
+use Rattle.given.specs.Pairs.{Shift}
 use Rattle.deck.specs.Layout.{numbersEach, powersEach, ticksEach, switchesEach}
 use Rattle.deck.specs.laws.Stretches.{length-written}
 use Rattle.deck.specs.laws.Ups.{up-all, up-same}
@@ -37,7 +38,7 @@ use Rattle.model.specs.Counts.{nodesMost, cardsMost, transistorsMost}
 use Rattle.model.specs.Verdict.{lookVerdict, nodeVerdict}
 use Rattle.model.specs.Desk.{Call, load, place, move, lift, withdraw, lookUp, node}
 use Rattle.model.specs.Model.{cardsOf, transistorsOf, transistorAt, workedOn, Levels, voltsOf, shifted, touched}
-use Rattle.model.specs.Model.{Shift, oneShift, firstOver, settled, leveled, holding, standing, freshBoard}
+use Rattle.model.specs.Model.{firstOver, settled, leveled, holding, standing, freshBoard}
 use Rattle.model.specs.Model.{loaded, loadedOf, newcomer}
 use Rattle.model.specs.Model.{placed, placedOf, moved, movedOf, lifted, liftedOf, withdrawn, withdrawnOf, looked}
 use Rattle.model.specs.Model.{lookedOf, showed, showedOf, mayLoad, mayPlace, mayMove, mayLift, mayWithdraw}
@@ -47,6 +48,7 @@ use Rattle.model.specs.inner.Sized.{Sized}
 use Rattle.places.proofs.Scans.{none-of}
 use Rattle.model.proofs.Lists.{each-set, each-replicate, first-passes, found-is, stands, padded-long}
 use Rattle.model.proofs.NodeSums.{sum-same, totals-count}
+use Rattle.model.proofs.Shifts.{shifted-long, shifted-near}
 use Rattle.model.proofs.Gains.{roles-same, totals-settled, totals-put, totals-taken}
 use Rattle.model.proofs.Verdicts.{loads, places, moves, lifts, withdraws, on-node}
 
@@ -546,16 +548,16 @@ module _ {b : Board} (g : Invariant b) (shifts : List Shift) where
             });
       }
 
-invariant-moved : {b : Board} (n v : ℤ) → Invariant b → Invariant (movedOf b n v .board)
-unfolding movedOf shifted
-invariant-moved {b} n v g = go _ refl
+invariant-moved : {b : Board} (pairs : List ℤ) → Invariant b → Invariant (movedOf b pairs .board)
+unfolding movedOf
+invariant-moved {b} pairs g = go _ refl
   where
-    go : (w : Verdict ℕ) → mayMove b n v ≡ w → Invariant (moved b v w .board)
+    go : (w : Verdict (List Shift)) → mayMove b pairs ≡ w → Invariant (moved b w .board)
     go (no f) e = g
-    go (yes k) e =
+    go (yes shifts) e =
         let m = moves e in
-        invariant-settled g (oneShift k v) (rw (m .at) (m .quiet))
-        (length-set (b .volts) k (keptAs v) ∙ g .sized .volts) (near-set k (kept v (m .near) .near) (g .holds .near))
+        invariant-settled g shifts (rw (m .by) (m .quiet))
+        (shifted-long shifts (b .volts) ∙ g .sized .volts) (rw (m .by) (shifted-near pairs (m .on) (g .holds .near)))
 
 -- ---- calls that change nothing
 
@@ -579,7 +581,7 @@ invariant-answered : {b : Board} (c : Call) → Invariant b → Invariant (answe
 unfolding answered
 invariant-answered (load name bytes) g = invariant-loaded name bytes g
 invariant-answered (place card nodes sized) g = invariant-placed card nodes sized g
-invariant-answered (move n v) g = invariant-moved n v g
+invariant-answered (move pairs) g = invariant-moved pairs g
 invariant-answered (lift n) g = invariant-lifted n g
 invariant-answered (withdraw n) g = invariant-withdrawn n g
 invariant-answered (lookUp name) g = invariant-looked name g

@@ -2,9 +2,9 @@ pub mod Verdicts
 pub mod Lists
 pub mod NodeSums
 pub mod Gains
+pub mod Shifts
 pub mod Invariant
 pub mod Lent
 pub mod PlacingTests
-pub mod Moving
 pub mod Placing
 pub mod Whole

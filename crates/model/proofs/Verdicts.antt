@@ -14,10 +14,10 @@ use lib.Dec.{leb, ltb}
 use borrow.Author.Tests.{leb-false}
 use Rattle.model.specs.Counts.{nodesMost}
 use Rattle.given.specs.Arguments.{Found, none, some, offNode, someNodeOff, apart}
+use Rattle.given.specs.Pairs.{arePairs, somePairOff, Shift, shiftsOf}
 use Rattle.given.specs.inner.Nodes.{nodeOf}
 use Rattle.model.specs.Verdict.{loadVerdict, placeVerdict, moveVerdict, liftVerdict, withdrawVerdict, nodeVerdict}
 use Rattle.refusal.specs.Order.{Verdict, no, yes, refuseIf, andThen, passes-if}
-use Rattle.volts.specs.Volts.{offVolts}
 use Rattle.refusal.specs.Clash.{clash}
 
 pub record Loads (bytes : List ℕ) (noRoom used : Bool) (c : WorkedCard) : Type 0 where
@@ -72,18 +72,18 @@ places (some b) {joins} {over} {nodes} {noRoom} {used} {a} e =
       quiet = rw (← same) (t .0);
     }
 
-pub record Moves (n v : ℤ) (over : Bool) (k : ℕ) : Type 0 where
-  pub at : k ≡ natAbs n
-  pub on : offNode n ≡ false
-  pub near : offVolts v ≡ false
+pub record Moves (pairs : List ℤ) (over : Bool) (shifts : List Shift) : Type 0 where
+  pub by : shifts ≡ shiftsOf pairs
+  pub on : somePairOff pairs ≡ false
   pub quiet : over ≡ false
 
-pub moves : {n v : ℤ} {over : Bool} {k : ℕ} → moveVerdict n v over ≡ yes k → Moves n v over k
+pub moves : {pairs : List ℤ} {over : Bool} {shifts : List Shift} → moveVerdict pairs over ≡ yes shifts →
+    Moves pairs over shifts
 unfolding moveVerdict
-moves {n} {v} {over} e =
-    let p = passes-if (offNode n) _ _ _ e in
-    let q = passes-if (offVolts v) _ _ _ (p .1) in
-    let r = passes-if over _ _ _ (q .1) in record { at = cc; on = p .0; near = q .0; quiet = r .0 }
+moves {pairs} {over} e =
+    let p = passes-if (not (arePairs pairs)) _ _ _ e in
+    let q = passes-if (somePairOff pairs) _ _ _ (p .1) in
+    let r = passes-if over _ _ _ (q .1) in record { by = cc; on = q .0; quiet = r .0 }
 
 pub lifts : {A : Type 0} (found : Found A) {a : A} → liftVerdict found ≡ yes a → found ≡ some a
 unfolding liftVerdict

@@ -1,9 +1,10 @@
 -- What a call leaves in the arrays that it was lent is the whole next board: it changes nothing else.
-use mathlib.Core.Path.{_≡_, refl, sym, ap, _∙_}
+use mathlib.Core.Path.{_≡_, refl}
 use mathlib.Core.List.{List}
 use Prim.Native.Nat.{ℕ}
 use lib.IntN.{ℤ}
 use Rattle.refusal.specs.Order.{Verdict, no, yes}
+use Rattle.given.specs.Pairs.{Shift}
 use Rattle.model.specs.Board.{Board}
 use Rattle.model.specs.declared.Answer.{Answer}
 use Rattle.model.specs.Board.{Answered}
@@ -76,13 +77,13 @@ lift-only b n = go (mayLift b n)
 abbrev OnlyLevels : Board → Board → Type 0
 OnlyLevels b c = c ≡ leveled b (record { volts = c .volts; totals = c .totals })
 
-move-only : (b : Board) (n v : ℤ) → OnlyLevels b (movedOf b n v .board)
+move-only : (b : Board) (pairs : List ℤ) → OnlyLevels b (movedOf b pairs .board)
 unfolding movedOf
-move-only b n v = go (mayMove b n v)
+move-only b pairs = go (mayMove b pairs)
   where
-    go : (w : Verdict ℕ) → OnlyLevels b (moved b v w .board)
+    go : (w : Verdict (List Shift)) → OnlyLevels b (moved b w .board)
     go (no f) = refl
-    go (yes k) = refl
+    go (yes shifts) = refl
 
 -- ---- so that what was left is the answer, whole
 
@@ -102,7 +103,7 @@ pub lifted-whole : (b : Board) (n : ℤ) {answer : Answer} {issues cards seats n
     record { board = withPlaces b issues cards seats nodes totals (b .next); answer = answer } ≡ liftedOf b n
 lifted-whole b n l = places-whole b (lift-only b n) l
 
-pub moved-whole : (b : Board) (n v : ℤ) {answer : Answer} {volts : List ℕ} {totals : List ℤ} →
-    LeavesLevels (movedOf b n v) answer volts totals →
-    record { board = leveled b (record { volts = volts; totals = totals }); answer = answer } ≡ movedOf b n v
-moved-whole b n v l = rw (l .volts-are, l .totals-are, l .answer-is, ← (move-only b n v))
+pub moved-whole : (b : Board) (pairs : List ℤ) {answer : Answer} {volts : List ℕ} {totals : List ℤ} →
+    LeavesLevels (movedOf b pairs) answer volts totals →
+    record { board = leveled b (record { volts = volts; totals = totals }); answer = answer } ≡ movedOf b pairs
+moved-whole b pairs l = rw (l .volts-are, l .totals-are, l .answer-is, ← (move-only b pairs))

@@ -2,18 +2,17 @@
 -- with, the voltages and the next issue number.
 -- No place, no array and no stored total is known here.
 use mathlib.Core.Path.{_≡_}
-use mathlib.Core.Bool.{Bool, true, false, cond, not, _&&_, _||_}
+use mathlib.Core.Bool.{Bool, true, false, cond, not, _&&_}
 use mathlib.Core.List.{List, [], _∷_, map}
-use Prim.Native.Nat.{ℕ, suc, _+_}
+use Prim.Native.Nat.{ℕ, suc}
 use lib.Dec.{eqb, leb}
-use lib.ListN.{getD, set, replicate, length}
+use lib.ListN.{getD, replicate, length}
 use lib.IntN.{ℤ, pos, natAbs}
 use Rattle.refusal.specs.declared.Refusal.{Refusal}
 use Rattle.refusal.specs.declared.Refusal.the-variants.{Malformed, BadName, NameNotHeld, NoRoom, OutOfRange}
 use Rattle.refusal.specs.declared.Refusal.the-variants.{SplitCollector, Overload, CardInUse, NumbersUsedUp}
 use Rattle.refusal.specs.Order.{Verdict, no, yes, refuseIf, andThen}
 use Rattle.name.specs.Name.{asked, padded, same}
-use Rattle.volts.specs.Volts.{offVolts}
 use Rattle.card.specs.Judge.{judgeOf}
 use Rattle.clip.specs.Record.{rightLength}
 use Rattle.card.specs.declared.WorkedCard.{WorkedCard}
@@ -21,6 +20,7 @@ use Rattle.terms.specs.Rows.{roles}
 use Rattle.totals.specs.Flow.{overloads, flow, sumOver}
 use Rattle.given.specs.Lists.{anyOf, larger}
 use Rattle.given.specs.Arguments.{Found, none, some, issueOf, offNode, someNodeOff, apart, known, usedUp}
+use Rattle.given.specs.Pairs.{arePairs, somePairOff, Shift, shiftsOf, shiftedIn}
 use Rattle.model.specs.Counts.{nodesMost, cardsMost, transistorsMost}
 
 pub record Held : Type 0 where
@@ -43,11 +43,15 @@ pub record Desk : Type 0 where
 pub data Call : Type 0 where
   load : List ℕ → List ℕ → Call
   place : ℤ → (nodes : List ℤ) → length nodes ≡ roles → Call
-  move : ℤ → ℤ → Call
+  move : List ℤ → Call
   lift : ℤ → Call
   withdraw : ℤ → Call
   lookUp : List ℕ → Call
   node : ℤ → Call
+
+-- one node moved: a list of one pair
+abbrev pub moveOne : ℤ → ℤ → Call
+moveOne n v = move (n ∷ v ∷ [])
 
 pub data Reply : Type 0 where
   issued : ℕ → Reply
@@ -126,12 +130,17 @@ placed d nodes (yes h) =
           };
     }
 
-abbrev pub moved : Desk → ℤ → Verdict ℕ → Step
-moved d v (no f) = refuse d f
-moved d v (yes n) =
+-- the voltages as nodes are moved to theirs, the last pair of a node holding
+abbrev pub movedTo : List ℤ → List Shift → List ℤ
+movedTo = shiftedIn (λ (v : ℤ). v)
+
+abbrev pub moved : Desk → Verdict (List Shift) → Step
+moved d (no f) = refuse d f
+moved d (yes shifts) =
     record {
       reply = done;
-      desk = record { cards = d .cards; standing = d .standing; volts = set (d .volts) n v; next = d .next };
+      desk =
+          record { cards = d .cards; standing = d .standing; volts = movedTo (d .volts) shifts; next = d .next };
     }
 
 abbrev pub lifted : Desk → Verdict Standing → Step
@@ -201,11 +210,12 @@ mayPlace d card nodes =
     (refuseIf (usedUp (d .next)) NumbersUsedUp
     (refuseIf (overloads (h .worked) (map natAbs nodes) (d .volts)) Overload (yes h))))))
 
--- Moving a voltage: 13, then 15 if some transistor that stands would overload
-abbrev pub mayMove : Desk → ℤ → ℤ → Verdict ℕ
-mayMove d n v =
-    refuseIf (offNode n || offVolts v) OutOfRange
-    (refuseIf (someOverloads d (set (d .volts) (natAbs n) v)) Overload (yes (natAbs n)))
+-- Moving voltages together: 1, 13 for any pair, then 15 if some transistor that stands would overload where they end
+abbrev pub mayMove : Desk → List ℤ → Verdict (List Shift)
+mayMove d pairs =
+    refuseIf (not (arePairs pairs)) Malformed
+    (refuseIf (somePairOff pairs) OutOfRange
+    (refuseIf (someOverloads d (movedTo (d .volts) (shiftsOf pairs))) Overload (yes (shiftsOf pairs))))
 
 -- Lifting: 12
 abbrev pub mayLift : Desk → ℤ → Verdict Standing
@@ -232,7 +242,7 @@ mayRead n = refuseIf (offNode n) OutOfRange (yes (natAbs n))
 unfoldable pub step : Desk → Call → Step
 step d (load name bytes) = loaded d name (mayLoad d name bytes)
 step d (place card nodes sized) = placed d nodes (mayPlace d card nodes)
-step d (move n v) = moved d v (mayMove d n v)
+step d (move pairs) = moved d (mayMove d pairs)
 step d (lift n) = lifted d (mayLift d n)
 step d (withdraw n) = withdrawn d (mayWithdraw d n)
 step d (lookUp name) = looked d (mayLookUp d name)

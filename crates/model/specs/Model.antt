@@ -11,13 +11,13 @@ use Rattle.refusal.specs.Order.{Verdict, no, yes}
 use Rattle.name.specs.Name.{padded, nameLength}
 use Rattle.volts.specs.Volts.{givenBack, keptAs}
 use Rattle.card.specs.declared.WorkedCard.{WorkedCard}
-use Rattle.rows.specs.declared.Over.{Over}
 use Rattle.terms.specs.inner.Ready.{readyOf}
 use Rattle.rows.specs.Outcome.{isOver}
 use Rattle.terms.specs.Rows.{roles}
 use Rattle.totals.specs.Flow.{flow, overAt, overloads, withMore}
 use Rattle.given.specs.Lists.{anyOf}
 use Rattle.given.specs.Arguments.{issueOf, usedUp}
+use Rattle.given.specs.Pairs.{Shift, shiftsOf, shiftedIn}
 use Rattle.deck.specs.Stretch.{written}
 use Rattle.deck.specs.Layout.{numbersEach, powersEach, ticksEach, switchesEach, numbersOf, powersOf, ticksOf}
 use Rattle.deck.specs.Layout.{switchesOf}
@@ -74,14 +74,9 @@ abbrev pub takenOut : Levels → WorkedCard → List ℕ → Levels
 takenOut l c nodes =
     record { volts = l .volts; totals = withMore (l .totals) (backFlow c nodes (map givenBack (l .volts))) }
 
--- nodes and the voltages that they are moved to, the last pair of a node holding
-pub record Shift : Type 0 where
-  pub node : ℕ
-  pub volts : ℤ
-
-unfoldable pub shifted : List ℕ → List Shift → List ℕ
-shifted volts [] = volts
-shifted volts (s ∷ rest) = shifted (set volts (s .node) (keptAs (s .volts))) rest
+-- the voltages as they are kept after shifts
+abbrev pub shifted : List ℕ → List Shift → List ℕ
+shifted = shiftedIn keptAs
 
 -- a transistor that names one of the nodes moved: it must be worked
 abbrev pub touched : List Shift → Transistor → Bool
@@ -225,19 +220,15 @@ mayPlace b card nodes =
 unfoldable pub placedOf : Board → ℤ → List ℤ → Answered
 placedOf b card nodes = placed b nodes (mayPlace b card nodes)
 
--- a move is a list of one pair
-abbrev pub oneShift : ℕ → ℤ → List Shift
-oneShift n v = record { node = n; volts = v } ∷ []
+abbrev pub moved : Board → Verdict (List Shift) → Answered
+moved b (no f) = refuse b f
+moved b (yes shifts) = record { board = leveled b (settled b shifts); answer = Done }
 
-abbrev pub moved : Board → ℤ → Verdict ℕ → Answered
-moved b v (no f) = refuse b f
-moved b v (yes n) = record { board = leveled b (settled b (oneShift n v)); answer = Done }
+abbrev pub mayMove : Board → List ℤ → Verdict (List Shift)
+mayMove b pairs = moveVerdict pairs (isOver (firstOver b (shiftsOf pairs) .over))
 
-abbrev pub mayMove : Board → ℤ → ℤ → Verdict ℕ
-mayMove b n v = moveVerdict n v (isOver (firstOver b (oneShift (natAbs n) v) .over))
-
-unfoldable pub movedOf : Board → ℤ → ℤ → Answered
-movedOf b n v = moved b v (mayMove b n v)
+unfoldable pub movedOf : Board → List ℤ → Answered
+movedOf b pairs = moved b (mayMove b pairs)
 
 abbrev pub lifted : Board → Verdict ℕ → Answered
 lifted b (no f) = refuse b f
@@ -287,7 +278,7 @@ showedOf b n = showed b (nodeVerdict n)
 unfoldable pub answered : Board → Call → Answered
 answered b (load name bytes) = loadedOf b name bytes
 answered b (place card nodes sized) = placedOf b card nodes
-answered b (move n v) = movedOf b n v
+answered b (move pairs) = movedOf b pairs
 answered b (lift n) = liftedOf b n
 answered b (withdraw n) = withdrawnOf b n
 answered b (lookUp name) = lookedOf b name

@@ -9,11 +9,11 @@ use Rattle.refusal.specs.declared.Refusal.the-variants.{Malformed, BadName, Nam
 use Rattle.refusal.specs.declared.Refusal.the-variants.{SplitCollector, Overload, CardInUse, NumbersUsedUp}
 use Rattle.refusal.specs.Order.{Verdict, yes, refuseIf, andThen}
 use Rattle.name.specs.Name.{asked}
-use Rattle.volts.specs.Volts.{offVolts}
 use Rattle.card.specs.declared.WorkedCard.{WorkedCard}
 use Rattle.card.specs.Judge.{judgeOf}
 use Rattle.clip.specs.Record.{rightLength}
 use Rattle.given.specs.Arguments.{Found, known, offNode, someNodeOff, apart}
+use Rattle.given.specs.Pairs.{arePairs, somePairOff, Shift, shiftsOf}
 
 -- Loading: 1, 2, 6 to 10, 11, 17, from what the record is judged to be
 abbrev pub loadOrder : List ℕ → List ℕ → Verdict WorkedCard → Bool → Bool → Verdict WorkedCard
@@ -37,10 +37,11 @@ placeVerdict {A} found joined over nodes noRoom usedUp =
     (refuseIf usedUp NumbersUsedUp
     (refuseIf (over a) Overload (yes a))))))
 
--- Moving a voltage: 13, 15
-unfoldable pub moveVerdict : ℤ → ℤ → Bool → Verdict ℕ
-moveVerdict n v over =
-    refuseIf (offNode n) OutOfRange (refuseIf (offVolts v) OutOfRange (refuseIf over Overload (yes (natAbs n))))
+-- Moving voltages: 1, 13, 15
+unfoldable pub moveVerdict : List ℤ → Bool → Verdict (List Shift)
+moveVerdict pairs over =
+    refuseIf (not (arePairs pairs)) Malformed
+    (refuseIf (somePairOff pairs) OutOfRange (refuseIf over Overload (yes (shiftsOf pairs))))
 
 -- Lifting: 12
 unfoldable pub liftVerdict : {A : Type 0} → Found A → Verdict A

@@ -1,13 +1,12 @@
-// Placing, moving and lifting on a board's arrays, lent one by one: each tests, works, and writes last, so that a refusal leaves them as they were.
+// Placing and lifting on a board's arrays, lent one by one: each tests, works, and writes last, so that a refusal leaves them as they were.
 ghost use mathlib.Core.Path.{_≡_};
 ghost use Rattle.model.specs.Board.{Board};
-ghost use Rattle.model.specs.Model.{placedOf, movedOf, liftedOf, Reached};
-ghost use Rattle.model.specs.inner.Lent.{Lends, LendsPlaces, LeavesLevels, LeavesPlaces};
+ghost use Rattle.model.specs.Model.{placedOf, liftedOf, Reached};
+ghost use Rattle.model.specs.inner.Lent.{Lends, LendsPlaces, LeavesPlaces};
 use crate::Answer;
-use branch::ROLES;
 use placing::Way;
 use refusal::Refusal;
-use volts::Voltage;
+use terms::ROLES;
 
 // 12, 13, 14, 11, 17, 15.
 pub fn place(
@@ -61,58 +60,6 @@ pub fn place(
             Answer::Issue(issue)
         }
     }
-}
-
-// 13, then 15 where some transistor would overload.
-pub fn move_to(
-    volts: &mut [u32; totals::NODES],
-    totals: &mut [i64; totals::NODES],
-    numbers: &[u32; deck::ALL_NUMBERS],
-    powers: &[u16; deck::ALL_POWERS],
-    ticks: &[u64; deck::ALL_TICKS],
-    switches: &[bool; deck::ALL_SWITCHES],
-    issues: &[u32; places::TRANSISTORS],
-    seats: &[u8; places::TRANSISTORS],
-    nodes: &[u8; places::ALL_NODES],
-    node: i64,
-    microvolts: i64,
-) -> Answer
-    requires { ⌜ ((b : Board) × Reached b × Lends b (now numbers) (now powers) (now ticks) (now switches) (now issues) (now seats) (now nodes) (now volts) (now totals)) ⌝ }
-    ensures { λ r. ⌜ ((b : Board) → Reached b → Lends b (now (numbers .entry)) (now (powers .entry)) (now (ticks .entry)) (now (switches .entry)) (now (issues .entry)) (now (seats .entry)) (now (nodes .entry)) (now (volts .entry)) (now (totals .entry)) → LeavesLevels (movedOf b node microvolts) r (now (volts .exit)) (now (totals .exit))) ⌝ }
-{
-    let k = given::node_of(node);
-    let n = k as usize;
-    if totals::NODES <= n {
-        return Answer::Refused(Refusal::OutOfRange);
-    }
-    let Voltage::Kept(v) = volts::keep(microvolts) else {
-        return Answer::Refused(Refusal::OutOfRange);
-    };
-    let set = sets::naming(issues, nodes, k);
-    let was = *volts;
-    let mut will = was;
-    will[n] = v;
-    let mut l = *totals;
-    let first = settle::settle(
-        &mut l,
-        numbers,
-        powers,
-        ticks,
-        switches,
-        issues,
-        seats,
-        nodes,
-        &was,
-        &will,
-        set,
-    );
-    let over = first.over;
-    if settle::is_over(over) {
-        return Answer::Refused(Refusal::Overload);
-    }
-    *volts = will;
-    *totals = l;
-    Answer::Done
 }
 
 // 12.

@@ -1,8 +1,7 @@
-// The board's model: what each call answers and changes, and the functions that place, move and lift on lent arrays.
-mod calls; // calls.rt: placing, moving and lifting on lent arrays
+// The board's model: what each call answers and changes, and the functions that place and lift on lent arrays.
+mod calls; // calls.rt: placing and lifting on lent arrays
 
 pub use calls::lift;
-pub use calls::move_to;
 pub use calls::place;
 use refusal::Refusal;
 

@@ -40,9 +40,10 @@ use Rattle.settle.specs.Change.{changeBy, changes}
 use Rattle.settle.specs.First.{firstBelow}
 use Rattle.model.specs.Board.{Board}
 use Rattle.model.specs.Verdict.{loadOrder, loadVerdict, placeVerdict, moveVerdict}
-use Rattle.model.specs.Model.{cardsOf, transistorsOf, shifted, freshBoard, loaded, loadedOf, placedOf, movedOf}
+use Rattle.given.specs.Pairs.{somePairOff, shiftsOf, shiftedIn}
+use Rattle.model.specs.Model.{cardsOf, transistorsOf, freshBoard, loaded, loadedOf, placedOf, movedOf}
 use Rattle.paper.specs.Words.{recordOf}
-use Rattle.paper.specs.Cases.{theCard, theBoard, Case, boardCase, cases}
+use Rattle.paper.specs.Cases.{theCard, theBoard, theStage, lifts, Case, boardCase, stageCase, cases}
 
 -- ---- the board: its card is worked once, and the calls go on from that
 
@@ -75,19 +76,42 @@ loadedFrom judged =
 
 runFrom : Board → Board
 runFrom b =
-    movedOf (movedOf (placedOf b (pos 1) (pos 0 ∷ pos 1 ∷ pos 1 ∷ pos 2 ∷ pos 2 ∷ pos 2 ∷ pos 3 ∷ []) .board) (pos 1) (pos 16000) .board) (pos 2) (pos 16000) .board
+    movedOf (movedOf (placedOf b (pos 1) (pos 0 ∷ pos 1 ∷ pos 1 ∷ pos 2 ∷ pos 2 ∷ pos 2 ∷ pos 3 ∷ []) .board) (pos 1 ∷ pos 16000 ∷ []) .board) (pos 2 ∷ pos 16000 ∷ []) .board
 
 board-from : theBoard ≡ runFrom (loadedFrom (judgeOf (recordOf theCard)))
 unfolding theBoard runFrom loadedFrom loadedOf loadVerdict
 board-from = refl
 
 totals-from : take 4 (runFrom (loadedFrom (yes worked)) .totals) ≡ negsuc 2047 ∷ pos 1024 ∷ pos 1024 ∷ pos 0 ∷ []
-unfolding runFrom loadedFrom loadedOf placedOf movedOf freshBoard recordOf entryOf entries expOf rootFor rootOf rootBits readyOf outcomeOf asked padded placeVerdict moveVerdict overAt overloads rowsGive flow sumBelow withMore listUp anyOf first stretch written readyAt cardsIn transistorsIn backFlow changeBy changes firstBelow cardsOf transistorsOf shifted
+unfolding runFrom loadedFrom loadedOf placedOf movedOf freshBoard recordOf entryOf entries expOf rootFor rootOf rootBits readyOf outcomeOf asked padded placeVerdict moveVerdict overAt overloads rowsGive flow sumBelow withMore listUp anyOf first stretch written readyAt cardsIn transistorsIn backFlow changeBy changes firstBelow cardsOf transistorsOf somePairOff shiftsOf shiftedIn
 totals-from = refl
 
 board-row : boardCase .worked ≡ boardCase .paper
 unfolding boardCase
 board-row = ap (λ (b : Board). take 4 (b .totals)) (board-from ∙ ap (λ (j : Verdict WorkedCard). runFrom (loadedFrom j)) card-is) ∙ totals-from
+
+-- ---- the stage
+
+stageFrom : Board → Board
+stageFrom b =
+    movedOf
+    (placedOf
+    (placedOf b (pos 1) (pos 2 ∷ pos 1 ∷ pos 1 ∷ pos 3 ∷ pos 3 ∷ pos 3 ∷ pos 0 ∷ []) .board)
+    (pos 1) (pos 1 ∷ pos 2 ∷ pos 2 ∷ pos 3 ∷ pos 3 ∷ pos 3 ∷ pos 0 ∷ []) .board)
+    (pos 3 ∷ pos 2000000 ∷ []) .board
+
+stage-from : theStage ≡ stageFrom (loadedFrom (judgeOf (recordOf theCard)))
+unfolding theStage stageFrom loadedFrom loadedOf loadVerdict
+stage-from = refl
+
+stage-lifts : lifts (stageFrom (loadedFrom (yes worked))) ≡ pos 15 ∷ pos 15 ∷ pos 0 ∷ []
+unfolding stageFrom loadedFrom loadedOf placedOf movedOf freshBoard recordOf entryOf entries expOf rootFor rootOf rootBits readyOf outcomeOf asked padded placeVerdict moveVerdict overAt overloads rowsGive flow sumBelow withMore listUp anyOf first stretch written readyAt cardsIn transistorsIn backFlow changeBy changes firstBelow cardsOf transistorsOf somePairOff shiftsOf shiftedIn
+stage-lifts = refl
+
+-- a stage that cannot be lifted one node after the other can be lifted together
+pub only-together : stageCase .worked ≡ stageCase .paper
+unfolding stageCase
+only-together = ap lifts (stage-from ∙ ap (λ (j : Verdict WorkedCard). stageFrom (loadedFrom j)) card-is) ∙ stage-lifts
 
 -- ---- all of them
 
@@ -95,13 +119,16 @@ abbrev tail : List Case → List Case
 tail [] = []
 tail (c ∷ rest) = rest
 
-other-rows : map (λ (c : Case). c .worked) (tail cases) ≡ map (λ (c : Case). c .paper) (tail cases)
+other-rows : map (λ (c : Case). c .worked) (tail (tail cases)) ≡ map (λ (c : Case). c .paper) (tail (tail cases))
 unfolding cases entries finiteUp clippedUp clippedAt maskUp ofBits toBits lt eq ne le whole mul div sub toUnsigned size expOf rootFor rootOf rootBits
 other-rows = refl
 
+abbrev first-then : List ℤ → List (List ℤ) → List (List ℤ)
+first-then l ls = l ∷ ls
+
 pub paper-agrees : map (λ (c : Case). c .worked) cases ≡ map (λ (c : Case). c .paper) cases
 unfolding cases
-paper-agrees = ap₂ (λ (l : List ℤ) (ls : List (List ℤ)). l ∷ ls) board-row other-rows
+paper-agrees = ap₂ first-then board-row (ap₂ first-then only-together other-rows)
 
 -- ---- what the inner functions ask can be met: by the paper's card
 

@@ -6,6 +6,7 @@ use lib.ListN.{getD, take, replicate}
 use lib.IntN.{ℤ, pos, negsuc, negℤ}
 use lib.Ieee.{nan, binary64, toBits}
 use Rattle.refusal.specs.Order.{Verdict, no, yes}
+use Rattle.refusal.specs.Told.{numberOf}
 use Rattle.octave.specs.Table.{entryOf}
 use Rattle.float.specs.declared.Split.{Split}
 use Rattle.float.specs.Split.{keptPower}
@@ -17,6 +18,8 @@ use Rattle.rows.specs.declared.Over.{Over}
 use Rattle.rows.specs.declared.Over.the-variants.{Within, Ticks, Injection}
 use Rattle.terms.specs.Rows.{roles}
 use Rattle.rows.specs.Outcome.{outcomeOf}
+use Rattle.model.specs.declared.Answer.{Answer}
+use Rattle.model.specs.declared.Answer.the-variants.{Issue, Done, Node, Refused}
 use Rattle.model.specs.Board.{Board}
 use Rattle.model.specs.Model.{freshBoard, loadedOf, placedOf, movedOf}
 use Rattle.paper.specs.Words.{one, two, four, minus-zero, two-to-minus-40, two-to-minus-38, wordsOf, recordOf}
@@ -81,7 +84,31 @@ unfolding freshBoard recordOf loadedOf placedOf movedOf
 theBoard =
     let loaded = loadedOf freshBoard (0x61 ∷ 0x31 ∷ []) (recordOf theCard) .board in
     let placed = placedOf loaded (pos 1) (pos 0 ∷ pos 1 ∷ pos 1 ∷ pos 2 ∷ pos 2 ∷ pos 2 ∷ pos 3 ∷ []) .board in
-    movedOf (movedOf placed (pos 1) (pos 16000) .board) (pos 2) (pos 16000) .board
+    movedOf (movedOf placed (pos 1 ∷ pos 16000 ∷ []) .board) (pos 2 ∷ pos 16000 ∷ []) .board
+
+-- a stage: two transistors of the card, the base of each on the other's emitter, and their collectors at 2 V
+unfoldable pub theStage : Board
+unfolding freshBoard recordOf loadedOf placedOf movedOf
+theStage =
+    let loaded = loadedOf freshBoard (0x61 ∷ 0x31 ∷ []) (recordOf theCard) .board in
+    let one = placedOf loaded (pos 1) (pos 2 ∷ pos 1 ∷ pos 1 ∷ pos 3 ∷ pos 3 ∷ pos 3 ∷ pos 0 ∷ []) .board in
+    let two = placedOf one (pos 1) (pos 1 ∷ pos 2 ∷ pos 2 ∷ pos 3 ∷ pos 3 ∷ pos 3 ∷ pos 0 ∷ []) .board in
+    movedOf two (pos 3 ∷ pos 2000000 ∷ []) .board
+
+-- the number of a refusal; 0 for what is done
+abbrev pub refusalIn : Answer → ℤ
+refusalIn (Refused f) = pos (numberOf f)
+refusalIn (Issue n) = pos 0
+refusalIn Done = pos 0
+refusalIn (Node v t) = pos 0
+
+-- lifted by 2 V: one node, the other, and both together
+abbrev pub lifts : Board → List ℤ
+lifts b =
+    refusalIn (movedOf b (pos 1 ∷ pos 2000000 ∷ []) .answer)
+    ∷ refusalIn (movedOf b (pos 2 ∷ pos 2000000 ∷ []) .answer)
+    ∷ refusalIn (movedOf b (pos 1 ∷ pos 2000000 ∷ pos 2 ∷ pos 2000000 ∷ []) .answer)
+    ∷ []
 
 -- ---- the table
 
@@ -94,10 +121,16 @@ unfoldable pub boardCase : Case
 unfolding theBoard
 boardCase = record { worked = take 4 (theBoard .totals); paper = negsuc 2047 ∷ pos 1024 ∷ pos 1024 ∷ pos 0 ∷ [] }
 
+-- neither node of the stage can be lifted alone, both can together
+unfoldable pub stageCase : Case
+unfolding theStage
+stageCase = record { worked = lifts theStage; paper = pos 15 ∷ pos 15 ∷ pos 0 ∷ [] }
+
 unfoldable pub cases : List Case
-unfolding entryOf ideal five mainAt recordOf judgeOf outcomeOf clipOf boardCase
+unfolding entryOf ideal five mainAt recordOf judgeOf outcomeOf clipOf boardCase stageCase
 cases =
     boardCase
+    ∷ stageCase
     ∷ record { worked = pos (entryOf 0) ∷ pos (entryOf 32) ∷ pos (entryOf 64) ∷ []; paper = pos 1073741824 ∷ pos 1518500249 ∷ pos 2147483648 ∷ [] }
     ∷ record { worked = ideal (pos 0); paper = pos 0 ∷ [] }
     ∷ record { worked = ideal (pos 16000); paper = pos 1024 ∷ [] }

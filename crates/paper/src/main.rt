@@ -94,6 +94,23 @@ fn run_board() {
     show_totals(again.board, b"again", -2048, 1024, 1024, 0);
 }
 
+// Two of the paper's transistors, the base of each on the other's emitter: which of its nodes can be lifted by 2 V.
+fn run_stage() {
+    let loaded = Board::fresh().load(b"a1", &records::paper());
+    let one = loaded.board.place(1, [2, 1, 1, 3, 3, 3, 0]);
+    let two = one.board.place(1, [1, 2, 2, 3, 3, 3, 0]);
+    let stage = two.board.move_to(3, 2000000);
+    let base = stage.board.move_to(1, 2000000);
+    let alone = base.answer;
+    shown::line(b"node 1 lifted", b"", answer_number(alone), 15);
+    let emitter = stage.board.move_to(2, 2000000);
+    let other = emitter.answer;
+    shown::line(b"node 2 lifted", b"", answer_number(other), 15);
+    let both = stage.board.move_all(&[1, 2000000, 2, 2000000]);
+    let together = both.answer;
+    shown::line(b"both lifted", b"", answer_number(together), 0);
+}
+
 fn wide(x: u32) -> i64 {
     x as i64
 }
@@ -132,4 +149,5 @@ fn main() {
         9,
     );
     run_board();
+    run_stage();
 }

@@ -2,13 +2,13 @@
 
 mod finds; // finds.rt: looking through the places
 
-use branch::ROLES;
 pub use finds::any_on;
 pub use finds::card_at;
 pub use finds::find_card;
 pub use finds::find_transistor;
 pub use finds::highest;
 pub use finds::transistor_at;
+use terms::ROLES;
 
 pub const CARDS: usize = deck::CARDS;
 

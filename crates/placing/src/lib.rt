@@ -9,7 +9,6 @@ ghost use Rattle.given.specs.Arguments.{usedUp};
 ghost use Rattle.places.specs.Counts.{cardsMost, transistorsMost};
 ghost use Rattle.places.specs.inner.Flat.{numberPlace, freePlace, joinedAt};
 ghost use Rattle.placing.specs.inner.Placing.{apartOn, placing, wayOf};
-use branch::ROLES;
 use deck::ALL_SWITCHES;
 use deck::SWITCHES;
 use given::ISSUES;
@@ -18,6 +17,7 @@ use places::TRANSISTORS;
 use refusal::Refusal;
 use terms::C1;
 use terms::C4;
+use terms::ROLES;
 use totals::NODES;
 
 // The places of the card and of the transistor to be, or the refusal.

@@ -15,11 +15,11 @@ use Rattle.verbs.specs.declared.Row.{Row}
 use Rattle.verbs.specs.declared.Verb.{Verb}
 use Rattle.verbs.specs.declared.Verb.the-variants.{Nothing, TooLong, Error}
 use Rattle.verbs.specs.declared.Wants.{Wants}
-use Rattle.verbs.specs.declared.Wants.the-variants.{Texts, Numbers, NameAndHex}
+use Rattle.verbs.specs.declared.Wants.the-variants.{Texts, Numbers, Pairs, NameAndHex}
 use Rattle.words.specs.Words.{noWords, wordsOf, wordAt}
 use Rattle.verbs.specs.Table.{rowNamed}
 use Rattle.numbered.specs.Numbers.{areNumbers}
-use Rattle.script.specs.Command.{longestLine, mostBytes, passedOver, said, verbIf, hexOf, saidTo}
+use Rattle.script.specs.Command.{longestLine, mostBytes, passedOver, said, saidPairs, verbIf, hexOf, saidTo}
 use Rattle.script.specs.Command.{spelledTo, SaysTo, commandOf, bufferOf, Says}
 
 -- ---- to a row
@@ -35,6 +35,10 @@ module _ (line : List ℕ) (w : Words) {old : List ℕ} {v : Verb} {r : Command}
       → SaysTo line w v want old r old
   unfolding saidTo spelledTo
   said-numbers e h f g = record { command = rw (e, ← h, ← f) g; buffer = rw e }
+
+  pub said-list : {want : Wants} → want ≡ Pairs → r ≡ saidPairs line w v → SaysTo line w v want old r old
+  unfolding saidTo spelledTo
+  said-list e g = record { command = rw e g; buffer = rw e }
 
   pub said-other : (w .count ≡ 3 → ⊥) → r ≡ said line w Error 0 → SaysTo line w v NameAndHex old r old
   unfolding saidTo spelledTo

@@ -2,7 +2,7 @@
 use mathlib.Core.Path.{_≡_}
 use mathlib.Core.Bool.{Bool, true, false, _&&_, _||_}
 use mathlib.Core.List.{List}
-use Prim.Native.Nat.{ℕ, _-_}
+use Prim.Native.Nat.{ℕ, _-_, _%_}
 use lib.Dec.{eqb, ltb}
 use lib.ListN.{length, getD}
 use Rattle.hex.specs.declared.Hex.{Hex}
@@ -14,9 +14,11 @@ use Rattle.verbs.specs.declared.Row.{Row}
 use Rattle.verbs.specs.declared.Verb.{Verb}
 use Rattle.verbs.specs.declared.Verb.the-variants.{Nothing, TooLong, Error}
 use Rattle.verbs.specs.declared.Wants.{Wants}
-use Rattle.verbs.specs.declared.Wants.the-variants.{Texts, Numbers, NameAndHex}
+use Rattle.verbs.specs.declared.Wants.the-variants.{Texts, Numbers, Pairs, NameAndHex}
 use Rattle.words.specs.Words.{noWords, wordsOf, wordAt}
 use Rattle.numbered.specs.Numbers.{mostNumbers, areNumbers, numbersTo}
+use Rattle.series.specs.declared.Series.{Series}
+use Rattle.series.specs.Series.{noSeries, seriesOf}
 use Rattle.verbs.specs.Table.{rowNamed}
 
 -- the most bytes of a line, without the newline that ends it
@@ -39,11 +41,27 @@ passedOver first = eqb (length first) 0 || eqb (getD first 0 0) hash
 
 -- a line with these words says the verb; its last word spells so many bytes
 unfoldable pub said : List ℕ → Words → Verb → ℕ → Command
-said line w v n = record { verb = v; words = w; numbers = numbersTo line w mostNumbers; bytes = n }
+said line w v n =
+    record { verb = v; words = w; numbers = numbersTo line w mostNumbers; bytes = n; list = noSeries }
 
 abbrev pub verbIf : Bool → Verb → Verb
 verbIf true v = v
 verbIf false v = Error
+
+-- the numbers of the line are pairs, however many
+abbrev pub arePairs : Series → Bool
+arePairs l = l .good && eqb (l .count % 2) 0
+
+-- a line of a list: the whole series of its numbers is kept
+unfoldable pub saidPairs : List ℕ → Words → Verb → Command
+saidPairs line w v =
+    record {
+      verb = verbIf (arePairs (seriesOf line)) v;
+      words = w;
+      numbers = numbersTo line w mostNumbers;
+      bytes = 0;
+      list = seriesOf line;
+    }
 
 -- the bytes in hex digits that word 2 spells
 unfoldable pub hexOf : List ℕ → Words → Hex
@@ -61,6 +79,7 @@ saidIf false line w v = said line w Error 0
 unfoldable pub saidTo : List ℕ → Words → Verb → Wants → Command
 saidTo line w v (Texts n) = said line w (verbIf (eqb (w .count) n) v) 0
 saidTo line w v (Numbers n) = said line w (verbIf (eqb (w .count) n && areNumbers line w 1 (n - 1)) v) 0
+saidTo line w v Pairs = saidPairs line w v
 saidTo line w v NameAndHex = saidIf (eqb (w .count) 3) line w v
 
 -- what stands in the lent buffer afterwards: the bytes that are spelled, where the row wants them
@@ -71,6 +90,7 @@ spelledIf false line w old = old
 unfoldable pub spelledTo : List ℕ → Words → Wants → List ℕ → List ℕ
 spelledTo line w (Texts n) old = old
 spelledTo line w (Numbers n) old = old
+spelledTo line w Pairs old = old
 spelledTo line w NameAndHex old = spelledIf (eqb (w .count) 3) line w old
 
 -- a line with these words that is not passed over says r to the row of that verb, and leaves new in the buffer

@@ -4,6 +4,8 @@ ghost use Rattle.script.specs.Command.{Says};
 mod saying; // saying.rt: what a line says
 
 pub use numbered::MOST_NUMBERS;
+pub use series::ROOM;
+pub use series::Series;
 pub use verbs::Verb;
 pub use words::MOST_WORDS;
 pub use words::Words;
@@ -15,12 +17,13 @@ pub const LONGEST_LINE: usize = 4096;
 // More bytes than a line has hex digits for.
 pub const MOST_BYTES: usize = 2048;
 
-// What a line says: the verb, the words, those after the first as numbers, and how many bytes its hex digits spell.
+// What a line says: the verb, the words, those after the first as numbers, how many bytes its hex digits spell, and the whole series of its numbers where the command is a list.
 pub struct Command {
     pub verb: Verb,
     pub words: Words,
     pub numbers: [i64; MOST_NUMBERS],
     pub bytes: usize,
+    pub list: Series,
 }
 
 // What a line says. The bytes that its hex digits spell are put at the start of `bytes`.

@@ -5,12 +5,13 @@ ghost use Prim.Native.Nat.{_-_};
 ghost use lib.Dec.{eqb};
 ghost use lib.ListN.{length};
 ghost use Rattle.numbered.specs.Numbers.{areNumbers};
-ghost use Rattle.script.specs.Command.{mostBytes, passedOver, said, SaysTo, verbIf};
+ghost use Rattle.script.specs.Command.{mostBytes, passedOver, said, arePairs, saidPairs, SaysTo, verbIf};
 use crate::Command;
 use crate::Verb;
 use hex::Hex;
 use numbered::are_numbers;
 use numbered::numbers_of;
+use series::Series;
 use verbs::Wants;
 use words::Words;
 use words::word;
@@ -30,11 +31,13 @@ pub(crate) fn said(line: &[u8], words: Words, verb: Verb, bytes: usize) -> Comma
     ensures { λ r. ⌜ r ≡ said (now (line .entry)) words verb bytes ⌝ }
 {
     let numbers = numbers_of(line, words);
+    let list = series::no_series();
     Command {
         verb,
         words,
         numbers,
         bytes,
+        list,
     }
 }
 
@@ -53,6 +56,33 @@ fn has_numbers(line: &[u8], words: Words, n: usize) -> bool
         are_numbers(line, words, n)
     } else {
         false
+    }
+}
+
+// Whether a series is one of pairs.
+fn are_pairs(list: Series) -> bool
+    ensures { λ r. ⌜ r ≡ arePairs list ⌝ }
+{
+    if list.good {
+        list.count % 2 == 0
+    } else {
+        false
+    }
+}
+
+// A line that has to have pairs of numbers.
+fn said_pairs(line: &[u8], words: Words, verb: Verb) -> Command
+    ensures { λ r. ⌜ r ≡ saidPairs (now (line .entry)) words verb ⌝ }
+{
+    let list = series::series_of(line);
+    let said = verb_if(are_pairs(list), verb);
+    let numbers = numbers_of(line, words);
+    Command {
+        verb: said,
+        words,
+        numbers,
+        bytes: 0,
+        list,
     }
 }
 
@@ -84,6 +114,7 @@ pub(crate) fn said_to(
     match wants {
         Wants::Texts(n) => said(line, words, verb_if(words.count == n, verb), 0),
         Wants::Numbers(n) => said(line, words, verb_if(has_numbers(line, words, n), verb), 0),
+        Wants::Pairs => said_pairs(line, words, verb),
         Wants::NameAndHex => said_hex(line, words, verb, bytes),
     }
 }

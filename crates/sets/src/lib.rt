@@ -11,10 +11,10 @@ ghost use Rattle.places.specs.Counts.{cardsMost, transistorsMost};
 ghost use Rattle.places.specs.Finding.{names};
 ghost use Rattle.places.specs.inner.Parts.{NextIn};
 ghost use Rattle.places.specs.inner.Flat.{below, isTaken, standsAtIn, namingIn};
-use branch::ROLES;
 use places::ALL_NAMES;
 use places::ALL_NODES;
 use places::TRANSISTORS;
+use terms::ROLES;
 
 pub fn nodes_at(nodes: &[u8; ALL_NODES], i: usize) -> [u8; ROLES]
     requires { ⌜ i < transistorsMost ⌝ }

@@ -8,11 +8,11 @@ ghost use Rattle.places.specs.Counts.{transistorsMost};
 ghost use Rattle.places.specs.Sets.{member};
 ghost use Rattle.settle.specs.First.{earlier, firstBelow};
 ghost use Rattle.settle.specs.inner.Working.{gained, overOf, Settling};
-use branch::Over;
 pub use flows::is_over;
 pub use flows::put_in;
 pub use flows::take_out;
 use places::TRANSISTORS;
+use rows::Over;
 use totals::NODES;
 
 // The first transistor that overloads, by issue number; 0 and within its limits where none does.

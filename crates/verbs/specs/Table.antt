@@ -7,9 +7,9 @@ use lib.ListN.{length, getD}
 use Rattle.name.specs.Name.{same}
 use Rattle.verbs.specs.declared.Verb.{Verb}
 use Rattle.verbs.specs.declared.Verb.the-variants.{Library, Find, Clip, Load, Record, Place}
-use Rattle.verbs.specs.declared.Verb.the-variants.{Move, Lift, Withdraw, Lookup, Node, Sheet, Error}
+use Rattle.verbs.specs.declared.Verb.the-variants.{Move, Moves, Lift, Withdraw, Lookup, Node, Sheet, Error}
 use Rattle.verbs.specs.declared.Wants.{Wants}
-use Rattle.verbs.specs.declared.Wants.the-variants.{Texts, Numbers, NameAndHex}
+use Rattle.verbs.specs.declared.Wants.the-variants.{Texts, Numbers, Pairs, NameAndHex}
 use Rattle.verbs.specs.declared.Row.{Row}
 use Rattle.spelling.specs.Bytes.{bytes}
 
@@ -34,6 +34,7 @@ table =
     ∷ entry "record" Record NameAndHex
     ∷ entry "place" Place (Numbers 9)
     ∷ entry "move" Move (Numbers 3)
+    ∷ entry "moves" Moves Pairs
     ∷ entry "lift" Lift (Numbers 2)
     ∷ entry "withdraw" Withdraw (Numbers 2)
     ∷ entry "lookup" Lookup (Texts 2)

@@ -11,6 +11,7 @@ pub enum Verb {
     Record,
     Place,
     Move,
+    Moves,
     Lift,
     Withdraw,
     Lookup,
@@ -23,11 +24,12 @@ pub enum Verb {
     Error,
 }
 
-// What the words of a command have to be, beside the first: any, or numbers, as many as make so many words in all; or a
-// name and hex digits.
+// What the words of a command have to be, beside the first: any, or numbers, as many as make so many words in all; pairs
+// of numbers, as many as there are; or a name and hex digits.
 pub enum Wants {
     Texts(usize),
     Numbers(usize),
+    Pairs,
     NameAndHex,
 }
 
@@ -37,7 +39,7 @@ pub struct Row {
 }
 
 // How many commands there are.
-const ROWS: usize = 12;
+const ROWS: usize = 13;
 
 // The words of the commands as numbers, in the table's order: the first byte is the lowest.
 const PACKED: [u64; ROWS] = [
@@ -48,6 +50,7 @@ const PACKED: [u64; ROWS] = [
     0x64726f636572,
     0x6563616c70,
     0x65766f6d,
+    0x7365766f6d,
     0x7466696c,
     0x7761726468746977,
     0x70756b6f6f6c,
@@ -119,22 +122,26 @@ fn row_at(i: usize) -> Row
             wants: Wants::Numbers(3),
         },
         7 => Row {
+            verb: Verb::Moves,
+            wants: Wants::Pairs,
+        },
+        8 => Row {
             verb: Verb::Lift,
             wants: Wants::Numbers(2),
         },
-        8 => Row {
+        9 => Row {
             verb: Verb::Withdraw,
             wants: Wants::Numbers(2),
         },
-        9 => Row {
+        10 => Row {
             verb: Verb::Lookup,
             wants: Wants::Texts(2),
         },
-        10 => Row {
+        11 => Row {
             verb: Verb::Node,
             wants: Wants::Numbers(2),
         },
-        11 => Row {
+        12 => Row {
             verb: Verb::Sheet,
             wants: Wants::Texts(1),
         },

@@ -1,5 +1,5 @@
 -- A line parted in words: its parts, and what is left of it after spaces and after a word.
-use mathlib.Core.Path.{_≡_, sym, ap, _∙_}
+use mathlib.Core.Path.{_≡_, refl, sym, ap, _∙_}
 use mathlib.Core.List.{List, [], _∷_}
 use Prim.Native.Nat.{ℕ, _+_, _-_, _<_, _≤_}
 use native.Mathlib.Numerals.{add-one}
@@ -10,7 +10,7 @@ use lib.Seq.{drop-cons}
 use Rattle.spelling.specs.Bytes.{space}
 use Rattle.words.specs.declared.Words.{Words}
 use Rattle.words.specs.Words.{span, spansFrom, noWords, withWord, withWords, wordsOf, partOf, wordAt}
-use Rattle.words.specs.inner.Passing.{outside, inside, PassesSpaces, PassesWord}
+use Rattle.words.specs.inner.Passing.{outside, inside, PassesSpaces, PassesWord, NextWord}
 
 module _ (line : List ℕ) (a e : ℕ) where
   pub part-there : a ≤ e → e ≤ length line → take (e - a) (drop a line) ≡ partOf line a e
@@ -88,6 +88,40 @@ module _ {line : List ℕ} {at i : ℕ} (v : Letters line at i) where
 
   pub letters-end : length line ≤ i → PassesWord line at i
   letters-end h = record { least = v .least; most = v .most; parted = v .same ∙ inside-end line i h at }
+
+-- ---- the next word
+
+pub next-beyond : (line : List ℕ) (at : ℕ) → length line < at → NextWord line at (length line) (length line)
+next-beyond line at h =
+    record {
+      order = omega arith;
+      most = omega arith;
+      later = λ l. absurd (omega arith);
+      some = λ l. absurd (omega arith);
+      none = λ l. (outside-end line at (omega arith), refl);
+    }
+
+module _ {line : List ℕ} {at start : ℕ} (p : PassesSpaces line at start) where
+  pub next-none : length line ≤ start → NextWord line at (length line) (length line)
+  next-none h =
+      record {
+        order = omega arith;
+        most = omega arith;
+        later = λ l. absurd (omega arith);
+        some = λ l. absurd (omega arith);
+        none = λ l. (p .same ∙ outside-end line start h, refl);
+      }
+
+  pub next-some : {end : ℕ} → start < length line → PassesWord line start end → NextWord line at start end
+  next-some h w =
+      let e = w .least in
+      record {
+        order = omega arith;
+        most = w .most;
+        later = λ l. p .least;
+        some = λ l. p .same ∙ outside-letter line start h (p .stops h) ∙ w .parted;
+        none = λ l. absurd (omega arith);
+      }
 
 -- ---- all words
 

@@ -1,2 +1,3 @@
 -- What follows from the definition of words.
 pub mod Split
+pub mod Next

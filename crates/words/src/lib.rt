@@ -4,6 +4,7 @@ ghost use Rattle.words.specs.Words.{wordAt};
 
 mod parting; // parting.rt: a line parted in words
 
+pub use parting::next_word;
 pub use parting::no_words;
 pub use parting::words_of;
 
@@ -16,6 +17,12 @@ pub struct Words {
     pub starts: [usize; MOST_WORDS],
     pub ends: [usize; MOST_WORDS],
     pub count: usize,
+}
+
+// Where a word begins, and the place after its last byte.
+pub struct Span {
+    pub start: usize,
+    pub end: usize,
 }
 
 // Word k of a line, from 0; no bytes where there is no such word.

@@ -3,8 +3,9 @@ ghost use mathlib.Core.Path.{_≡_};
 ghost use Prim.Native.Nat.{_<_, _≤_};
 ghost use lib.ListN.{length};
 ghost use Rattle.words.specs.Words.{noWords, withWord, wordsOf, partOf};
-ghost use Rattle.words.specs.inner.Passing.{PassesSpaces, PassesWord};
+ghost use Rattle.words.specs.inner.Passing.{PassesSpaces, PassesWord, NextWord};
 use crate::MOST_WORDS;
+use crate::Span;
 use crate::Words;
 
 // The bytes from a place to another; none where there are not so many.
@@ -81,6 +82,28 @@ fn past_word(line: &[u8], at: usize) -> usize
         i += 1;
     }
     i
+}
+
+// The first word from a place on; an empty one at the line's end where there is none.
+pub fn next_word(line: &[u8], at: usize) -> Span
+    ensures { λ r. ⌜ NextWord (now (line .entry)) at (r .start) (r .end) ⌝ }
+{
+    let most = line.len();
+    if most < at {
+        return Span {
+            start: most,
+            end: most,
+        };
+    }
+    let start = past_spaces(line, at);
+    if most <= start {
+        return Span {
+            start: most,
+            end: most,
+        };
+    }
+    let end = past_word(line, start);
+    Span { start, end }
 }
 
 pub fn words_of(line: &[u8]) -> Words

@@ -9,12 +9,13 @@ use lib.ListN.{length}
 use Rattle.spelling.specs.Number.{parsedOf, parsedWith, allDigits, decimalFrom}
 use Rattle.hex.specs.Hex.{spells, allPairs, pairsOf}
 use Rattle.verbs.specs.declared.Verb.{Verb}
-use Rattle.verbs.specs.declared.Verb.the-variants.{Record, Lift, Withdraw, Sheet, Nothing, TooLong, Error}
+use Rattle.verbs.specs.declared.Verb.the-variants.{Record, Moves, Lift, Withdraw, Sheet, Nothing, TooLong, Error}
 use Rattle.spelling.specs.Bytes.{bytes}
 use Rattle.words.specs.Words.{spansFrom, withWord, withWords, wordsOf, partOf}
 use Rattle.verbs.specs.Table.{placeIn, rowNamed}
 use Rattle.numbered.specs.Numbers.{areNumbers, numbersTo}
-use Rattle.script.specs.Command.{longestLine, said, hexOf, saidTo, commandOf}
+use Rattle.series.specs.Series.{allNumbers, writtenFrom, seriesOf}
+use Rattle.script.specs.Command.{longestLine, said, saidPairs, hexOf, saidTo, commandOf}
 
 -- too long before anything else
 pub too-long : (line : List ℕ) → longestLine < length line → commandOf line .verb ≡ TooLong
@@ -25,7 +26,8 @@ abbrev verbOf : String → Verb
 verbOf line = commandOf (bytes line) .verb
 
 -- blank, a comment, two verbs and what is none of them: a tab parts no words, a minus alone is no number, a word too
--- many, half a byte; then bytes, no bytes, a line of one word, and a word that only begins like a command's
+-- many, half a byte; then bytes, no bytes, a line of one word, and a word that only begins like a command's; lists of no
+-- pair and of two, an odd one, and one with a word that is no number
 pub said-verbs : map verbOf
     ("   "
     ∷ "  # lift 1"
@@ -39,9 +41,14 @@ pub said-verbs : map verbOf
     ∷ "record A -"
     ∷ "sheet"
     ∷ "lifts 1"
+    ∷ "moves"
+    ∷ "moves  3 -5   3 5"
+    ∷ "moves 3 5 3"
+    ∷ "moves 3 x"
     ∷ [])
-    ≡ Nothing ∷ Nothing ∷ Lift ∷ Withdraw ∷ Error ∷ Error ∷ Error ∷ Error ∷ Record ∷ Record ∷ Sheet ∷ Error ∷ []
-unfolding spansFrom withWord withWords wordsOf partOf parsedOf parsedWith allDigits decimalFrom spells allPairs pairsOf placeIn rowNamed areNumbers numbersTo said hexOf saidTo commandOf
+    ≡ Nothing ∷ Nothing ∷ Lift ∷ Withdraw ∷ Error ∷ Error ∷ Error ∷ Error ∷ Record ∷ Record ∷ Sheet ∷ Error
+    ∷ Moves ∷ Moves ∷ Error ∷ Error ∷ []
+unfolding spansFrom withWord withWords wordsOf partOf parsedOf parsedWith allDigits decimalFrom spells allPairs pairsOf placeIn rowNamed areNumbers numbersTo allNumbers writtenFrom seriesOf said saidPairs hexOf saidTo commandOf
 said-verbs = refl
 
 -- numbers, with spaces wherever they may be

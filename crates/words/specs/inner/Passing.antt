@@ -1,7 +1,7 @@
 -- What passing spaces, and passing a word, leaves of a line's words. Inner contracts of parting a line.
 use mathlib.Core.Path.{_≡_}
 use mathlib.Core.Bool.{true, false}
-use mathlib.Core.List.{List, _∷_}
+use mathlib.Core.List.{List, [], _∷_}
 use Prim.Native.Nat.{ℕ, _+_, _≤_, _<_}
 use lib.ListN.{length, drop, getD}
 use Rattle.spelling.specs.Bytes.{space}
@@ -27,3 +27,11 @@ pub record PassesWord (line : List ℕ) (at r : ℕ) : Type 0 where
   pub least : at < r
   pub most : r ≤ length line
   pub parted : inside line at (at + 1) ≡ span at r ∷ outside line r
+
+-- the first word from `at` on begins at `start` and ends before `end`; the two are the line's end where there is none
+pub record NextWord (line : List ℕ) (at start end : ℕ) : Type 0 where
+  pub order : start ≤ end
+  pub most : end ≤ length line
+  pub later : start < end → at ≤ start
+  pub some : start < end → outside line at ≡ span start end ∷ outside line end
+  pub none : end ≤ start → (outside line at ≡ []) × (end ≡ length line)

@@ -1,6 +1,6 @@
 -- Each kind of row as its definition has it.
 use borrow.Author.Needs.{needs}
-use Rattle.script.proofs.Sayings.{said-texts, said-numbers}
+use Rattle.script.proofs.Sayings.{said-texts, said-numbers, said-list}
 use Rattle.script.proofs.saying.said_to.Tie as tie
 use Rattle.script.proofs.saying.said_to.Statement.{statement}
 
@@ -22,11 +22,14 @@ returns-2 c =
     (c .before .verb-if2 .ensures) (c .said2 .ensures)
 
 returns-3 : tie.Need-returns-3
-returns-3 c = rw (hex c .before .before .enum-told .given .1) (hex c .said-hex .ensures)
+returns-3 c = said-list _ _ (c .before .enum-told .given .1) (c .said-pairs .ensures)
+
+returns-4 : tie.Need-returns-4
+returns-4 c = rw (hex c .before .before .enum-told2 .given .1) (hex c .said-hex .ensures)
 
 pub said-to-spec : {M : Type 1} → statement M
 said-to-spec =
     tie.close
     (tie.spec (λ c. search needs) (λ c κs. search needs) (λ c κs. search needs) (λ c. search needs)
     (λ c κs. search needs) (λ c κs. search needs) (λ c κs. search needs) (λ c. search needs) (λ c κs. search needs)
-    returns returns-2 (λ c. search needs) returns-3)
+    (λ c. search needs) (λ c κs. search needs) returns returns-2 returns-3 (λ c. search needs) returns-4)

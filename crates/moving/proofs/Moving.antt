@@ -1,27 +1,23 @@
 -- Where the tests of a move lead, with what settling the places of its set gives.
 use mathlib.Core.Path.{_≡_, refl, sym, ap, _∙_, subst}
-use mathlib.Core.Bool.{Bool, true, false, cond, _||_}
-use mathlib.Core.List.{List, [], _∷_, map}
+use mathlib.Core.Bool.{Bool, true, false}
+use mathlib.Core.List.{List, map}
 use Prim.Native.Nat.{ℕ, _*_, _≤_, _<_}
 use native.Mathlib.Omega.{arith}
-use lib.ListN.{length, getD, set, length-set}
+use lib.ListN.{length, getD}
 use lib.IntN.{ℤ, pos, natAbs, _+ℤ_}
 use Rattle.refusal.specs.declared.Refusal.{Refusal}
-use Rattle.refusal.specs.declared.Refusal.the-variants.{OutOfRange, Overload}
-use Rattle.volts.specs.Volts.{givenBack, keptAs, offVolts}
-use Rattle.volts.specs.laws.Keeping.{KeptIs, near-set}
+use Rattle.refusal.specs.declared.Refusal.the-variants.{Malformed, OutOfRange, Overload}
+use Rattle.volts.specs.Volts.{givenBack}
 use Rattle.rows.specs.Outcome.{isOver}
 use Rattle.totals.specs.Flow.{overAt}
 use Rattle.totals.specs.inner.Sums.{More}
 use Rattle.totals.specs.inner.Sizes.{flowMost}
 use Rattle.given.specs.Lists.{anyOf}
-use Rattle.given.specs.Arguments.{offNode}
-use Rattle.given.specs.inner.Nodes.{nodeOf}
+use Rattle.given.specs.Pairs.{arePairs, somePairOff, Shift, shiftsOf}
 use Rattle.places.specs.Gathered.{Transistor}
 use Rattle.places.specs.Finding.{standsAt}
 use Rattle.places.specs.Sets.{member}
-use Rattle.places.specs.inner.Flat.{standsAtIn, namingIn}
-use Rattle.places.specs.laws.Members.{member-set}
 use Rattle.settle.specs.declared.First.{First}
 use Rattle.settle.specs.Change.{changes}
 use Rattle.settle.specs.First.{firstBelow}
@@ -29,18 +25,19 @@ use Rattle.flows.specs.inner.Workable.{deckOf}
 use Rattle.settle.specs.inner.Working.{Settling, gained, overOf, cardAt, nodesAt}
 use Rattle.settle.specs.laws.Firsts.{first-same}
 use Rattle.settle.specs.laws.Changes.{changes-same}
 use Rattle.model.specs.Board.{Board}
 use Rattle.model.specs.declared.Answer.the-variants.{Done, Refused}
 use Rattle.model.specs.Board.{Answered}
 use Rattle.model.specs.Counts.{nodesMost, transistorsMost}
 use Rattle.model.specs.Verdict.{moveVerdict}
-use Rattle.model.specs.Model.{cardsOf, transistorsOf, transistorAt, workedOn, Shift, shifted, touched, oneShift}
+use Rattle.model.specs.Model.{cardsOf, transistorsOf, transistorAt, workedOn, shifted, touched}
 use Rattle.model.specs.Model.{firstOver, gains, voltsOf, refuse, movedOf, Reached}
 use Rattle.model.specs.inner.Lent.{Lends, LeavesLevels}
-use Rattle.model.proofs.Verdicts.{off-board, on-board}
+use Rattle.moving.specs.inner.Pairs.{NamesAny}
+use Rattle.model.proofs.Shifts.{shifted-long, shifted-near}
 use Rattle.model.proofs.Gains.{more-is, touched-stands, gains-small}
 use Rattle.model.proofs.Invariant.{Invariant, invariant, totals-long}
 use Rattle.model.proofs.Lent.{deckIn, stands-there, nodes-there, worked-there, able-at, volts-kept}
 
 -- ---- refusals before anything is worked
 
@@ -48,52 +45,32 @@ levels-stay : {b : Board} {f : Refusal} (a : Answered) → refuse b f ≡ a →
     LeavesLevels a (Refused f) (b .volts) (b .totals)
 levels-stay a e = rw (← e) (record { answer-is = refl; volts-are = refl; totals-are = refl })
 
-pub move-off-node : (b : Board) (z v : ℤ) → nodesMost ≤ nodeOf z →
-    LeavesLevels (movedOf b z v) (Refused OutOfRange) (b .volts) (b .totals)
+move-malformed : (b : Board) (pairs : List ℤ) → arePairs pairs ≡ false →
+    LeavesLevels (movedOf b pairs) (Refused Malformed) (b .volts) (b .totals)
 unfolding movedOf moveVerdict
-move-off-node b z v h = levels-stay {b = b} (movedOf b z v) (rw (off-board z h))
+move-malformed b pairs e = levels-stay {b = b} (movedOf b pairs) (rw e)
 
-pub move-too-far : (b : Board) (z v : ℤ) → nodeOf z < nodesMost → offVolts v ≡ true →
-    LeavesLevels (movedOf b z v) (Refused OutOfRange) (b .volts) (b .totals)
+move-off : (b : Board) (pairs : List ℤ) → arePairs pairs ≡ true → somePairOff pairs ≡ true →
+    LeavesLevels (movedOf b pairs) (Refused OutOfRange) (b .volts) (b .totals)
 unfolding movedOf moveVerdict
-move-too-far b z v h k = levels-stay {b = b} (movedOf b z v) (rw (on-board z h .0, k))
+move-off b pairs e f = levels-stay {b = b} (movedOf b pairs) (rw (e, f))
 
--- ---- a node and a voltage in range
+-- ---- pairs in range
 
-either-false : (t : Bool) → t || false ≡ t
-either-false true = refl
-either-false false = refl
-
-module _ (b : Board) (k : Reached b) (z v : ℤ) (n x : ℕ) (ne : n ≡ nodeOf z) (below : n < nodesMost)
-    (level : KeptIs v x) (places : ℕ) (pe : places ≡ namingIn n (b .issues) (b .nodes)) where
+module _ (b : Board) (k : Reached b) (pairs : List ℤ) (good : arePairs pairs ≡ true) (on : somePairOff pairs ≡ false)
+    (will : List ℕ) (will-is : will ≡ shifted (b .volts) (shiftsOf pairs)) (places : ℕ)
+    (pe : NamesAny pairs (b .issues) (b .nodes) places) where
   g : Invariant b
   g = invariant k
 
-  on : (offNode z ≡ false) × (nodeOf z ≡ natAbs z)
-  on = on-board z (subst (λ (m : ℕ). m < nodesMost) ne below)
-
-  at : n ≡ natAbs z
-  at = ne ∙ on .1
-
   abbrev shifts : List Shift
-  shifts = oneShift (natAbs z) v
-
-  abbrev will : List ℕ
-  will = set (b .volts) n x
-
-  will-is : will ≡ shifted (b .volts) shifts
-  unfolding shifted
-  will-is = ap (λ (m : ℕ). set (b .volts) m x) at ∙ ap (λ (y : ℕ). set (b .volts) (natAbs z) y) (level .from)
+  shifts = shiftsOf pairs
 
   -- the places of the set are those that must be worked
   worked-is : (i : ℕ) → i < transistorsMost → member places i ≡ touched shifts (transistorAt b i)
-  unfolding anyOf
   worked-is i h =
-      ap (λ (s : ℕ). member s i) pe
-      ∙ member-set (standsAtIn n (b .issues) (b .nodes)) transistorsMost i h
-      ∙ ap (standsAt n) (sym (stands-there b i h))
-      ∙ ap (λ (m : ℕ). standsAt m (transistorAt b i)) at
-      ∙ sym (either-false (standsAt (natAbs z) (transistorAt b i)))
+      pe .is i h
+      ∙ ap (λ (t : Transistor). anyOf (λ (s : Shift). standsAt (s .node) t) shifts) (sym (stands-there b i h))
 
   stands : (i : ℕ) → touched shifts (transistorAt b i) ≡ true → transistorAt b i .issue ≡ 0 → ⊥
   stands i t = touched-stands shifts (transistorAt b i) t
@@ -117,8 +94,8 @@ module _ (b : Board) (k : Reached b) (z v : ℤ) (n x : ℕ) (ne : n ≡ nodeOf 
         was-are = volts-kept b g;
         will-are =
             record {
-              long = length-set (b .volts) n x ∙ g .sized .volts;
-              near = near-set n (level .near) (g .holds .near);
+              long = ap length will-is ∙ shifted-long shifts (b .volts) ∙ g .sized .volts;
+              near = rw will-is (shifted-near pairs on (g .holds .near));
             };
         able =
             λ i h m. let t = sym (worked-is i h) ∙ m in
@@ -152,14 +129,15 @@ module _ (b : Board) (k : Reached b) (z v : ℤ) (n x : ℕ) (ne : n ≡ nodeOf 
         transistorsMost worked-is (λ i h t. sym (ap (λ (u : Transistor). u .issue) (stands-there b i h)))
         (λ i h t. rw (worked-there b g i h (stands i t), nodes-there b i h)))
 
-    pub move-over : isOver (first .over) ≡ true → LeavesLevels (movedOf b z v) (Refused Overload) (b .volts) (b .totals)
+    pub move-over : isOver (first .over) ≡ true →
+        LeavesLevels (movedOf b pairs) (Refused Overload) (b .volts) (b .totals)
     unfolding movedOf moveVerdict
-    move-over o = levels-stay {b = b} (movedOf b z v) (rw (on .0, level .on, ← first-is, o))
+    move-over o = levels-stay {b = b} (movedOf b pairs) (rw (good, on, ← first-is, o))
 
-    pub moves-it : isOver (first .over) ≡ false → LeavesLevels (movedOf b z v) Done will l
+    pub moves-it : isOver (first .over) ≡ false → LeavesLevels (movedOf b pairs) Done will l
     unfolding movedOf moveVerdict
     moves-it o =
-        rw (on .0, level .on, ← first-is, o)
+        rw (good, on, ← first-is, o)
         (record {
           answer-is = refl;
           volts-are = will-is;
@@ -169,20 +147,23 @@ module _ (b : Board) (k : Reached b) (z v : ℤ) (n x : ℕ) (ne : n ≡ nodeOf 
 -- ---- the same of arrays that are the board's
 
 module _ {b : Board} {numbers powers ticks : List ℕ} {switches : List Bool} {issues seats nodes volts : List ℕ}
-    {totals : List ℤ} (l : Lends b numbers powers ticks switches issues seats nodes volts totals) (z v : ℤ) where
-  pub lent-off-node : nodesMost ≤ nodeOf z → LeavesLevels (movedOf b z v) (Refused OutOfRange) volts totals
-  lent-off-node h = rw (l .volts-are, l .totals-are) (move-off-node b z v h)
+    {totals : List ℤ} (l : Lends b numbers powers ticks switches issues seats nodes volts totals) (pairs : List ℤ) where
+  pub lent-malformed : arePairs pairs ≡ false → LeavesLevels (movedOf b pairs) (Refused Malformed) volts totals
+  lent-malformed e = rw (l .volts-are, l .totals-are) (move-malformed b pairs e)
 
-  pub lent-too-far : nodeOf z < nodesMost → offVolts v ≡ true →
-      LeavesLevels (movedOf b z v) (Refused OutOfRange) volts totals
-  lent-too-far h k = rw (l .volts-are, l .totals-are) (move-too-far b z v h k)
+  pub lent-off : arePairs pairs ≡ true → somePairOff pairs ≡ true →
+      LeavesLevels (movedOf b pairs) (Refused OutOfRange) volts totals
+  lent-off e f = rw (l .volts-are, l .totals-are) (move-off b pairs e f)
 
-  module _ (r : Reached b) (n x : ℕ) (ne : n ≡ nodeOf z) (below : n < nodesMost) (level : KeptIs v x) (places : ℕ)
-      (pe : places ≡ namingIn n issues nodes) where
-    naming-is : places ≡ namingIn n (b .issues) (b .nodes)
-    naming-is = rw (← (l .issues-are), ← (l .nodes-are)) pe
+  module _ (r : Reached b) (good : arePairs pairs ≡ true) (on : somePairOff pairs ≡ false) (will : List ℕ)
+      (will-is : will ≡ shifted volts (shiftsOf pairs)) (places : ℕ) (pe : NamesAny pairs issues nodes places) where
+    own-will : will ≡ shifted (b .volts) (shiftsOf pairs)
+    own-will = rw (← (l .volts-are)) will-is
 
-    pub lent-settling : Settling (deckOf numbers powers ticks switches) seats nodes places volts (set volts n x) totals
+    own-places : NamesAny pairs (b .issues) (b .nodes) places
+    own-places = rw (← (l .issues-are), ← (l .nodes-are)) pe
+
+    pub lent-settling : Settling (deckOf numbers powers ticks switches) seats nodes places volts will totals
     lent-settling =
         rw (
           l .numbers-are,
@@ -194,15 +175,15 @@ module _ {b : Board} {numbers powers ticks : List ℕ} {switches : List Bool} {i
           l .volts-are,
           l .totals-are,
         )
-        (settling-move b r z v n x ne below level places naming-is)
+        (settling-move b r pairs good on will own-will places own-places)
 
     module _ {first : First} {t : List ℤ}
         (fe : first ≡ firstBelow (member places) (λ (i : ℕ). getD issues i 0)
-        (overOf (deckOf numbers powers ticks switches) seats nodes (set volts n x)) transistorsMost)
+        (overOf (deckOf numbers powers ticks switches) seats nodes will) transistorsMost)
         (more : More nodesMost totals t
-        (gained (deckOf numbers powers ticks switches) seats nodes places volts (set volts n x) transistorsMost)) where
+        (gained (deckOf numbers powers ticks switches) seats nodes places volts will transistorsMost)) where
       own-first : first ≡ firstBelow (member places) (λ (i : ℕ). getD (b .issues) i 0)
-          (overOf (deckIn b) (b .seats) (b .nodes) (set (b .volts) n x)) transistorsMost
+          (overOf (deckIn b) (b .seats) (b .nodes) will) transistorsMost
       own-first =
           rw (
             ← (l .numbers-are),
@@ -212,11 +193,10 @@ module _ {b : Board} {numbers powers ticks : List ℕ} {switches : List Bool} {i
             ← (l .issues-are),
             ← (l .seats-are),
             ← (l .nodes-are),
-            ← (l .volts-are),
           ) fe
 
       own-more : More nodesMost (b .totals) t
-          (gained (deckIn b) (b .seats) (b .nodes) places (b .volts) (set (b .volts) n x) transistorsMost)
+          (gained (deckIn b) (b .seats) (b .nodes) places (b .volts) will transistorsMost)
       own-more =
           rw (
             ← (l .numbers-are),
@@ -229,11 +209,10 @@ module _ {b : Board} {numbers powers ticks : List ℕ} {switches : List Bool} {i
             ← (l .totals-are),
           ) more
 
-      pub lent-over : isOver (first .over) ≡ true → LeavesLevels (movedOf b z v) (Refused Overload) volts totals
+      pub lent-over : isOver (first .over) ≡ true → LeavesLevels (movedOf b pairs) (Refused Overload) volts totals
       lent-over o =
           rw (l .volts-are, l .totals-are)
-          (move-over b r z v n x ne below level places naming-is own-first own-more o)
+          (move-over b r pairs good on will own-will places own-places own-first own-more o)
 
-      pub lent-moves : isOver (first .over) ≡ false → LeavesLevels (movedOf b z v) Done (set volts n x) t
-      lent-moves o =
-          rw (l .volts-are) (moves-it b r z v n x ne below level places naming-is own-first own-more o)
+      pub lent-moves : isOver (first .over) ≡ false → LeavesLevels (movedOf b pairs) Done will t
+      lent-moves o = moves-it b r pairs good on will own-will places own-places own-first own-more o

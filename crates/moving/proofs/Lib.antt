@@ -1,0 +1,2 @@
+mod Moving
+mod Pairs

@@ -1,0 +1,171 @@
+-- Going through a list of pairs: what is kept so far and what is named so far, with the pairs that are left.
+use mathlib.Core.Path.{_≡_, refl, sym, ap, _∙_}
+use mathlib.Core.Bool.{Bool, true, false, _||_}
+use mathlib.Core.List.{List}
+use Prim.Native.Nat.{ℕ, zero, suc, _+_, _/_, _%_, _^_, _≤_, _<_}
+use native.Mathlib.Nat.{mod-lt, zero-div}
+use native.Mathlib.Omega.{arith}
+use lib.Bits.{bitOr, or-shr, or-mod}
+use lib.Dec.{eqb}
+use lib.ListN.{length, getD, drop, set}
+use lib.IntN.{ℤ, pos, natAbs}
+use Rattle.refusal.specs.Clash.{clash}
+use Rattle.volts.specs.Volts.{offVolts}
+use Rattle.volts.specs.laws.Keeping.{KeptIs}
+use Rattle.given.specs.Lists.{anyOf}
+use Rattle.given.specs.Arguments.{offNode}
+use Rattle.given.specs.Pairs.{somePairOff, Shift, shiftsOf, shiftedIn}
+use Rattle.given.specs.laws.Pairs.{shifts-from, off-from, shifts-end, off-end}
+use Rattle.given.specs.inner.Nodes.{nodeOf}
+use Rattle.places.specs.Counts.{transistorsMost}
+use Rattle.places.specs.Sets.{member}
+use Rattle.places.specs.inner.Flat.{standsAtIn, namingIn}
+use Rattle.places.specs.laws.Members.{member-set}
+use Rattle.model.specs.Model.{shifted}
+use Rattle.moving.specs.inner.Pairs.{KeepsPairs, NamesAny}
+
+-- a place is in either set
+pub member-or : (a b i : ℕ) → member (bitOr a b) i ≡ member a i || member b i
+member-or a b i =
+    ap (λ (x : ℕ). eqb x 1)
+    (ap (λ (x : ℕ). x % 2) (or-shr a b i) ∙ or-mod (a / 2 ^ i) (b / 2 ^ i) 1)
+    ∙ digit (a / 2 ^ i % 2) (b / 2 ^ i % 2) (mod-lt (a / 2 ^ i) (omega arith)) (mod-lt (b / 2 ^ i) (omega arith))
+  where
+    digit : (x y : ℕ) → x < 2 → y < 2 → eqb (bitOr x y) 1 ≡ eqb x 1 || eqb y 1
+    digit zero zero h k = refl
+    digit zero (suc zero) h k = refl
+    digit (suc zero) zero h k = refl
+    digit (suc zero) (suc zero) h k = refl
+    digit (suc (suc x)) y h k = absurd (omega arith)
+    digit zero (suc (suc y)) h k = absurd (omega arith)
+    digit (suc zero) (suc (suc y)) h k = absurd (omega arith)
+
+either-assoc : (a b c : Bool) → (a || b) || c ≡ a || (b || c)
+either-assoc true b c = refl
+either-assoc false b c = refl
+
+either-none : (a : Bool) → a || false ≡ a
+either-none true = refl
+either-none false = refl
+
+either-all : (a : Bool) → a || true ≡ true
+either-all true = refl
+either-all false = refl
+
+first-off : (a b : Bool) → a || b ≡ false → a ≡ false
+first-off true b e = clash cc
+first-off false b e = refl
+
+second-off : (a b : Bool) → a || b ≡ false → b ≡ false
+second-off true b e = clash cc
+second-off false b e = e
+
+-- a node in range is held by its number
+node-held : (z : ℤ) {n : ℕ} → offNode z ≡ false → n ≡ nodeOf z → n ≡ natAbs z
+node-held z e h = rw e at h
+
+-- ---- naming
+
+module _ (pairs : List ℤ) (issues nodes : List ℕ) where
+  abbrev anyAt : List Shift → ℕ → Bool
+  anyAt shifts k = anyOf (λ (s : Shift). standsAtIn (s .node) issues nodes k) shifts
+
+  pub record NamedTo (places i : ℕ) : Type 0 where
+    pub within : i ≤ length pairs
+    pub on : somePairOff (drop i pairs) ≡ false
+    pub left : (k : ℕ) → k < transistorsMost →
+        member places k || anyAt (shiftsOf (drop i pairs)) k ≡ anyAt (shiftsOf pairs) k
+
+  pub named-none : somePairOff pairs ≡ false → NamedTo 0 0
+  named-none e = record { within = omega arith; on = e; left = λ k h. rw (empty k) }
+    where
+      empty : (k : ℕ) → member 0 k ≡ false
+      empty k = ap (λ (x : ℕ). eqb (x % 2) 1) (zero-div (2 ^ k))
+
+  pub named-more : {places i n more : ℕ} → NamedTo places i → i + 1 < length pairs → n ≡ nodeOf (getD pairs i (pos 0)) →
+      more ≡ namingIn n issues nodes → NamedTo (bitOr places more) (i + 2)
+  unfolding anyOf
+  named-more {places} {i} {n} {more} t h ne me =
+      let p = offNode (getD pairs i (pos 0)) in
+      let q = offVolts (getD pairs (i + 1) (pos 0)) in
+      let r = somePairOff (drop (i + 2) pairs) in
+      let o : (p || q) || r ≡ false = sym (off-from pairs i h) ∙ t .on in
+      let at = node-held (getD pairs i (pos 0)) (first-off p q (first-off (p || q) r o)) ne in
+      record {
+        within = omega arith;
+        on = second-off (p || q) r o;
+        left =
+            λ k s.
+            let m : member more k ≡ standsAtIn n issues nodes k =
+            ap (λ (s : ℕ). member s k) me ∙ member-set (standsAtIn n issues nodes) transistorsMost k s
+            in
+            ap (λ (b : Bool). b || anyAt (shiftsOf (drop (i + 2) pairs)) k) (member-or places more k)
+            ∙ either-assoc (member places k) (member more k) (anyAt (shiftsOf (drop (i + 2) pairs)) k)
+            ∙ ap (λ (b : Bool). member places k || (b || anyAt (shiftsOf (drop (i + 2) pairs)) k))
+            (m ∙ ap (λ (x : ℕ). standsAtIn x issues nodes k) at)
+            ∙ ap (λ (l : List Shift). member places k || anyAt l k) (sym (shifts-from pairs i h))
+            ∙ t .left k s;
+      }
+
+  pub named-all : {places i : ℕ} → NamedTo places i → length pairs ≤ i + 1 → NamesAny pairs issues nodes places
+  unfolding anyOf
+  named-all {places} {i} t h =
+      record {
+        is =
+            λ k q. sym (either-none (member places k))
+            ∙ ap (λ (l : List Shift). member places k || anyAt l k) (sym (shifts-end pairs i h))
+            ∙ t .left k q;
+      }
+
+-- ---- keeping
+
+module _ (pairs : List ℤ) (was : List ℕ) where
+  pub record KeptTo (will : List ℕ) (i : ℕ) : Type 0 where
+    pub within : i ≤ length pairs
+    pub on : somePairOff (drop i pairs) ≡ somePairOff pairs
+    pub left : shifted will (shiftsOf (drop i pairs)) ≡ shifted was (shiftsOf pairs)
+
+  pub kept-none : KeptTo was 0
+  kept-none = record { within = omega arith; on = refl; left = refl }
+
+  pub kept-more : {will : List ℕ} {i n x : ℕ} → KeptTo will i → i + 1 < length pairs →
+      offNode (getD pairs i (pos 0)) ≡ false → n ≡ nodeOf (getD pairs i (pos 0)) →
+      KeptIs (getD pairs (i + 1) (pos 0)) x → KeptTo (set will n x) (i + 2)
+  unfolding shiftedIn
+  kept-more {will} {i} {n} {x} t h on ne level =
+      let at = node-held (getD pairs i (pos 0)) on ne in
+      record {
+        within = omega arith;
+        on = sym (off-from pairs i h ∙ rw (on, level .on)) ∙ t .on;
+        left =
+            ap (λ (l : List ℕ). shifted l (shiftsOf (drop (i + 2) pairs)))
+            (ap (λ (m : ℕ). set will m x) at ∙ ap (λ (y : ℕ). set will (natAbs (getD pairs i (pos 0))) y) (level .from))
+            ∙ ap (shifted will) (sym (shifts-from pairs i h))
+            ∙ t .left;
+      }
+
+  -- a pair out of range
+  kept-off : {will : List ℕ} {i : ℕ} (l : List ℕ) → KeptTo will i → i + 1 < length pairs →
+      offNode (getD pairs i (pos 0)) || offVolts (getD pairs (i + 1) (pos 0)) ≡ true → KeepsPairs pairs was false l
+  kept-off {will} {i} l t h off =
+      let some : somePairOff pairs ≡ true = sym (t .on) ∙ off-from pairs i h ∙ rw off in
+      record { told = rw some; volts = λ e. clash cc }
+
+  pub off-by-node : {will : List ℕ} {i : ℕ} (l : List ℕ) → KeptTo will i → i + 1 < length pairs →
+      offNode (getD pairs i (pos 0)) ≡ true → KeepsPairs pairs was false l
+  off-by-node {will} {i} l t h e =
+      kept-off l t h (ap (λ (b : Bool). b || offVolts (getD pairs (i + 1) (pos 0))) e)
+
+  pub off-by-volts : {will : List ℕ} {i : ℕ} (l : List ℕ) → KeptTo will i → i + 1 < length pairs →
+      offVolts (getD pairs (i + 1) (pos 0)) ≡ true → KeepsPairs pairs was false l
+  off-by-volts {will} {i} l t h e =
+      let n = offNode (getD pairs i (pos 0)) in kept-off l t h (ap (λ (b : Bool). n || b) e ∙ either-all n)
+
+  pub kept-all : {will : List ℕ} {i : ℕ} → KeptTo will i → length pairs ≤ i + 1 → KeepsPairs pairs was true will
+  unfolding shiftedIn
+  kept-all {will} {i} t h =
+      let none : somePairOff pairs ≡ false = sym (t .on) ∙ off-end pairs i h in
+      record {
+        told = rw none;
+        volts = λ e. ap (shifted will) (sym (shifts-end pairs i h)) ∙ t .left;
+      }

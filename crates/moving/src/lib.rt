@@ -1,0 +1,112 @@
+// Moving nodes together on a board's arrays, lent one by one: it tests, works each transistor that names one of the nodes once, and writes last, so that a refusal leaves them as they were.
+ghost use mathlib.Core.Path.{_≡_};
+ghost use mathlib.Core.Bool.{false};
+ghost use Rattle.given.specs.Pairs.{arePairs, somePairOff};
+ghost use Rattle.model.specs.Board.{Board};
+ghost use Rattle.model.specs.Model.{movedOf, Reached};
+ghost use Rattle.model.specs.inner.Lent.{Lends, LeavesLevels};
+ghost use Rattle.moving.specs.inner.Pairs.{KeepsPairs, NamesAny};
+use model::Answer;
+use places::TRANSISTORS;
+use refusal::Refusal;
+use totals::NODES;
+use volts::Voltage;
+
+// The most numbers of a list: a node and its voltage for every node.
+const NUMBERS: usize = 2 * NODES;
+
+fn are_pairs(pairs: &[i64]) -> bool
+    ensures { λ r. ⌜ r ≡ arePairs (now (pairs .entry)) ⌝ }
+{
+    let n = pairs.len();
+    if n < 2 {
+        return false;
+    }
+    if NUMBERS < n {
+        return false;
+    }
+    n % 2 == 0
+}
+
+// Keeps the voltage of each pair at its node, the last one of a node last; or tells that a pair is out of range.
+fn keep_pairs(will: &mut [u32; NODES], pairs: &[i64]) -> bool
+    ensures { λ r. ⌜ KeepsPairs (now (pairs .entry)) (now (will .entry)) r (now (will .exit)) ⌝ }
+{
+    let mut i: usize = 0;
+    while i + 1 < pairs.len() {
+        let n = given::node_of(pairs[i]) as usize;
+        if NODES <= n {
+            return false;
+        }
+        let Voltage::Kept(v) = volts::keep(pairs[i + 1]) else {
+            return false;
+        };
+        will[n] = v;
+        i += 2;
+    }
+    true
+}
+
+// The places whose transistors name one of the nodes.
+fn naming_any(issues: &[u32; TRANSISTORS], nodes: &[u8; places::ALL_NODES], pairs: &[i64]) -> u64
+    requires { ⌜ somePairOff (now pairs) ≡ false ⌝ }
+    ensures { λ r. ⌜ NamesAny (now (pairs .entry)) (now (issues .entry)) (now (nodes .entry)) r ⌝ }
+{
+    let mut set: u64 = 0;
+    let mut i: usize = 0;
+    while i + 1 < pairs.len() {
+        let n = given::node_of(pairs[i]);
+        let more = sets::naming(issues, nodes, n);
+        set = set | more;
+        i += 2;
+    }
+    set
+}
+
+// 1, 13 for any pair, then 15 where some transistor would overload at the end.
+pub fn move_all(
+    volts: &mut [u32; NODES],
+    totals: &mut [i64; NODES],
+    numbers: &[u32; deck::ALL_NUMBERS],
+    powers: &[u16; deck::ALL_POWERS],
+    ticks: &[u64; deck::ALL_TICKS],
+    switches: &[bool; deck::ALL_SWITCHES],
+    issues: &[u32; TRANSISTORS],
+    seats: &[u8; TRANSISTORS],
+    nodes: &[u8; places::ALL_NODES],
+    pairs: &[i64],
+) -> Answer
+    requires { ⌜ ((b : Board) × Reached b × Lends b (now numbers) (now powers) (now ticks) (now switches) (now issues) (now seats) (now nodes) (now volts) (now totals)) ⌝ }
+    ensures { λ r. ⌜ ((b : Board) → Reached b → Lends b (now (numbers .entry)) (now (powers .entry)) (now (ticks .entry)) (now (switches .entry)) (now (issues .entry)) (now (seats .entry)) (now (nodes .entry)) (now (volts .entry)) (now (totals .entry)) → LeavesLevels (movedOf b (now (pairs .entry))) r (now (volts .exit)) (now (totals .exit))) ⌝ }
+{
+    if !are_pairs(pairs) {
+        return Answer::Refused(Refusal::Malformed);
+    }
+    let was = *volts;
+    let mut will = was;
+    if !keep_pairs(&mut will, pairs) {
+        return Answer::Refused(Refusal::OutOfRange);
+    }
+    let set = naming_any(issues, nodes, pairs);
+    let mut l = *totals;
+    let first = settle::settle(
+        &mut l,
+        numbers,
+        powers,
+        ticks,
+        switches,
+        issues,
+        seats,
+        nodes,
+        &was,
+        &will,
+        set,
+    );
+    let over = first.over;
+    if settle::is_over(over) {
+        return Answer::Refused(Refusal::Overload);
+    }
+    *volts = will;
+    *totals = l;
+    Answer::Done
+}

@@ -1,0 +1,2 @@
+-- The numbers of a line after its first word.
+pub mod Series
