@@ -13,7 +13,7 @@ use Rattle.refusal.specs.Order.{Verdict, no, yes}
 use Rattle.volts.specs.Volts.{offVolts}
 use Rattle.given.specs.Arguments.{offNode}
 use Rattle.given.specs.Pairs.{arePairs, somePairOff, Shift, shiftsOf, shiftedIn}
-use Rattle.model.specs.Desk.{Desk, done, refused, move, moveOne, step, moved, mayMove, movedTo, someOverloads}
+use Rattle.model.specs.Desk.{Desk, done, move, moveOne, step, moved, mayMove, movedTo, someOverloads}
 use Rattle.model.proofs.Verdicts.{moves}
 use Rattle.days.specs.Singly.{singly, AllDone}
 use Rattle.days.proofs.Orders.{order-move}

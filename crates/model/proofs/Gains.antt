@@ -70,7 +70,7 @@ roles-one volts n v (m ∷ nodes) e = go (eqb m n) refl e (λ q. roles-one volts
     go true p q next = clash cc
     go false p q next = rw (map-other givenBack volts n m v (eqb-false m n p), next q)
 
-either-false : (a b : Bool) → a || b ≡ false → (a ≡ false) × (b ≡ false)
+pub either-false : (a b : Bool) → a || b ≡ false → (a ≡ false) × (b ≡ false)
 either-false true b e = clash cc
 either-false false b e = (refl, e)
 

@@ -1,17 +1,17 @@
 -- Voltages after a list of shifts: as many as before, in range, and what they are where they are given back.
 use mathlib.Core.Path.{_≡_, refl, ap, _∙_}
-use mathlib.Core.Bool.{Bool, true, false, _||_}
+use mathlib.Core.Bool.{false, _||_}
 use mathlib.Core.List.{List, [], _∷_, map}
 use Prim.Native.Nat.{ℕ, zero, suc}
 use lib.ListN.{length, set, length-set}
 use lib.IntN.{ℤ, natAbs}
-use Rattle.refusal.specs.Clash.{clash}
 use Rattle.volts.specs.Volts.{givenBack, keptAs, offVolts, AllNear}
 use Rattle.volts.specs.laws.Keeping.{kept, near-set}
 use Rattle.given.specs.Arguments.{offNode}
 use Rattle.given.specs.Pairs.{Shift, somePairOff, shiftsOf, shiftedIn}
 use Rattle.model.specs.Desk.{movedTo}
 use Rattle.model.specs.Model.{shifted}
+use Rattle.model.proofs.Gains.{either-false}
 
 pub shifted-long : (shifts : List Shift) (volts : List ℕ) → length (shifted volts shifts) ≡ length volts
 unfolding shiftedIn
@@ -19,21 +19,16 @@ shifted-long [] volts = refl
 shifted-long (s ∷ rest) volts =
     shifted-long rest (set volts (s .node) (keptAs (s .volts))) ∙ length-set volts (s .node) (keptAs (s .volts))
 
--- a pair that is not off, and no pair after it
-pub record PairOn (n v : ℤ) (rest : List ℤ) : Type 0 where
-  pub node-on : offNode n ≡ false
-  pub volts-on : offVolts v ≡ false
-  pub rest-on : somePairOff rest ≡ false
+-- the voltage of a pair in range, and the pairs after it
+record PairOn (v : ℤ) (rest : List ℤ) : Type 0 where
+  volts-on : offVolts v ≡ false
+  rest-on : somePairOff rest ≡ false
 
-pub pair-on : (n v : ℤ) (rest : List ℤ) → somePairOff (n ∷ v ∷ rest) ≡ false → PairOn n v rest
+pair-on : (n v : ℤ) (rest : List ℤ) → somePairOff (n ∷ v ∷ rest) ≡ false → PairOn v rest
 unfolding somePairOff
-pair-on n v rest e = go (offNode n) (offVolts v) (somePairOff rest) refl refl refl e
-  where
-    go : (p q r : Bool) → offNode n ≡ p → offVolts v ≡ q → somePairOff rest ≡ r → (p || q) || r ≡ false →
-        PairOn n v rest
-    go true q r a b c f = clash cc
-    go false true r a b c f = clash cc
-    go false false r a b c f = record { node-on = a; volts-on = b; rest-on = c ∙ f }
+pair-on n v rest e =
+    let both = either-false (offNode n || offVolts v) (somePairOff rest) e in
+    record { volts-on = either-false (offNode n) (offVolts v) (both .0) .1; rest-on = both .1 }
 
 pub shifted-near : (pairs : List ℤ) {volts : List ℕ} → somePairOff pairs ≡ false → AllNear volts →
     AllNear (shifted volts (shiftsOf pairs))

@@ -1,6 +1,6 @@
 -- Going through a list of pairs: what is kept so far and what is named so far, with the pairs that are left.
 use mathlib.Core.Path.{_≡_, refl, sym, ap, _∙_}
-use mathlib.Core.Bool.{Bool, true, false, _||_}
+use mathlib.Core.Bool.{Bool, true, false, _||_, or-true, or-false, or-assoc}
 use mathlib.Core.List.{List}
 use Prim.Native.Nat.{ℕ, zero, suc, _+_, _/_, _%_, _^_, _≤_, _<_}
 use native.Mathlib.Nat.{mod-lt, zero-div}
@@ -22,6 +22,7 @@ use Rattle.places.specs.Sets.{member}
 use Rattle.places.specs.inner.Flat.{standsAtIn, namingIn}
 use Rattle.places.specs.laws.Members.{member-set}
 use Rattle.model.specs.Model.{shifted}
+use Rattle.model.proofs.Gains.{either-false}
 use Rattle.moving.specs.inner.Pairs.{KeepsPairs, NamesAny}
 
 -- a place is in either set
@@ -39,26 +40,6 @@ member-or a b i =
     digit (suc (suc x)) y h k = absurd (omega arith)
     digit zero (suc (suc y)) h k = absurd (omega arith)
     digit (suc zero) (suc (suc y)) h k = absurd (omega arith)
-
-either-assoc : (a b c : Bool) → (a || b) || c ≡ a || (b || c)
-either-assoc true b c = refl
-either-assoc false b c = refl
-
-either-none : (a : Bool) → a || false ≡ a
-either-none true = refl
-either-none false = refl
-
-either-all : (a : Bool) → a || true ≡ true
-either-all true = refl
-either-all false = refl
-
-first-off : (a b : Bool) → a || b ≡ false → a ≡ false
-first-off true b e = clash cc
-first-off false b e = refl
-
-second-off : (a b : Bool) → a || b ≡ false → b ≡ false
-second-off true b e = clash cc
-second-off false b e = e
 
 -- a node in range is held by its number
 node-held : (z : ℤ) {n : ℕ} → offNode z ≡ false → n ≡ nodeOf z → n ≡ natAbs z
@@ -90,17 +71,18 @@ module _ (pairs : List ℤ) (issues nodes : List ℕ) where
       let q = offVolts (getD pairs (i + 1) (pos 0)) in
       let r = somePairOff (drop (i + 2) pairs) in
       let o : (p || q) || r ≡ false = sym (off-from pairs i h) ∙ t .on in
-      let at = node-held (getD pairs i (pos 0)) (first-off p q (first-off (p || q) r o)) ne in
+      let both = either-false (p || q) r o in
+      let at = node-held (getD pairs i (pos 0)) (either-false p q (both .0) .0) ne in
       record {
         within = omega arith;
-        on = second-off (p || q) r o;
+        on = both .1;
         left =
             λ k s.
             let m : member more k ≡ standsAtIn n issues nodes k =
             ap (λ (s : ℕ). member s k) me ∙ member-set (standsAtIn n issues nodes) transistorsMost k s
             in
             ap (λ (b : Bool). b || anyAt (shiftsOf (drop (i + 2) pairs)) k) (member-or places more k)
-            ∙ either-assoc (member places k) (member more k) (anyAt (shiftsOf (drop (i + 2) pairs)) k)
+            ∙ or-assoc (member places k) (member more k) (anyAt (shiftsOf (drop (i + 2) pairs)) k)
             ∙ ap (λ (b : Bool). member places k || (b || anyAt (shiftsOf (drop (i + 2) pairs)) k))
             (m ∙ ap (λ (x : ℕ). standsAtIn x issues nodes k) at)
             ∙ ap (λ (l : List Shift). member places k || anyAt l k) (sym (shifts-from pairs i h))
@@ -112,7 +94,7 @@ module _ (pairs : List ℤ) (issues nodes : List ℕ) where
   named-all {places} {i} t h =
       record {
         is =
-            λ k q. sym (either-none (member places k))
+            λ k q. sym (or-false (member places k))
             ∙ ap (λ (l : List Shift). member places k || anyAt l k) (sym (shifts-end pairs i h))
             ∙ t .left k q;
       }
@@ -159,7 +141,7 @@ module _ (pairs : List ℤ) (was : List ℕ) where
   pub off-by-volts : {will : List ℕ} {i : ℕ} (l : List ℕ) → KeptTo will i → i + 1 < length pairs →
       offVolts (getD pairs (i + 1) (pos 0)) ≡ true → KeepsPairs pairs was false l
   off-by-volts {will} {i} l t h e =
-      let n = offNode (getD pairs i (pos 0)) in kept-off l t h (ap (λ (b : Bool). n || b) e ∙ either-all n)
+      let n = offNode (getD pairs i (pos 0)) in kept-off l t h (ap (λ (b : Bool). n || b) e ∙ or-true n)
 
   pub kept-all : {will : List ℕ} {i : ℕ} → KeptTo will i → length pairs ≤ i + 1 → KeepsPairs pairs was true will
   unfolding shiftedIn

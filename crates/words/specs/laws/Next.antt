@@ -6,12 +6,9 @@ use Prim.Native.Nat.{ℕ}
 use native.Mathlib.Omega.{arith}
 use borrow.Author.Tests.{ltb-true, ltb-false}
 use lib.Dec.{ltb}
+use Rattle.refusal.specs.Clash.{clash}
 use Rattle.words.specs.Words.{Span, span}
 use Rattle.words.specs.inner.Passing.{outside, NextWord}
-
--- two different constructors are not equal
-clash : {A : Type 0} → _≡_ {A = ℕ} 0 1 → A
-clash z = absurd (omega arith)
 
 pub unique-next-word : {line : List ℕ} {at s e t f : ℕ} → NextWord line at s e → NextWord line at t f →
     (s ≡ t) × (e ≡ f)
