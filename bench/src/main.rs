@@ -80,18 +80,23 @@ fn vectors(folder: &Path) {
         for line in std::fs::read_to_string(folder.join(file)).unwrap().lines() {
             let cells: Vec<&str> = line.split('\t').collect();
             let v: Vec<i64> = cells[1].split(' ').map(|x| x.parse().unwrap()).collect();
+            let v: currents::Volts = v.try_into().unwrap();
             let got = match card::judge(&unhex(cells[0])) {
                 Err(k) => format!("refused {k}"),
-                Ok(c) => match currents::currents(&curve, &c, &v.try_into().unwrap()) {
-                    None => "refused".into(),
+                Ok(c) => match currents::currents(&curve, &c, &v) {
+                    None => format!("overload {:?}", currents::overload(&curve, &c, &v)),
                     Some(i) => format!("ok {}", i.map(|x| x.to_string()).join(" ")),
                 },
             };
             tell(
-                if got == "refused" {
-                    cells[2].starts_with("refused ")
-                } else {
-                    got == cells[2]
+                match cells[2].strip_prefix("refused ") {
+                    Some(all) => match all.split([' ', ':']).collect::<Vec<_>>()[..] {
+                        [branch, number, ..] => {
+                            got == format!("overload Some(({branch}, {number}))")
+                        }
+                        _ => got == cells[2],
+                    },
+                    None => got == cells[2],
                 },
                 line,
             );
