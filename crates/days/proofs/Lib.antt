@@ -1,6 +1,9 @@
 pub mod Perms
 pub mod Places
 pub mod Orderly
+pub mod FaultOrder
+pub mod Amongst
+pub mod Faults
 pub mod Orders
 pub mod Follows
 pub mod Totals

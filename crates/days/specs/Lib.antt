@@ -4,3 +4,4 @@ pub mod Fitted
 pub mod Numbers
 pub mod Promised
 pub mod Singly
+pub mod Told
