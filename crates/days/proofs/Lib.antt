@@ -11,3 +11,4 @@ pub mod Numbers
 pub mod Keeps
 pub mod Methods
 pub mod Together
+pub mod Split

@@ -5,3 +5,4 @@ pub mod Numbers
 pub mod Promised
 pub mod Singly
 pub mod Told
+pub mod Bare
