@@ -82,12 +82,13 @@ label-whole label n h =
     let k = numbers-long (n ∷ []) in
     text-whole (labelLine label n) (rw length-append (omega arith))
 
--- a number and two values
-pub told-whole : (l : List ℕ) → length l ≤ 3 → shown (textOf (toldLine l)) ≡ toldLine l
+-- a refusal's number and two values
+pub told-long : (l : List ℕ) → length l ≤ 3 → length (toldLine l) ≤ 71
 unfolding toldLine
-told-whole l h =
-    let k = numbers-long l in
-    text-whole (toldLine l) (rw length-append (omega arith))
+told-long l h = let k = numbers-long l in rw length-append (omega arith)
+
+pub told-whole : (l : List ℕ) → length l ≤ 3 → shown (textOf (toldLine l)) ≡ toldLine l
+told-whole l h = let k = told-long l h in text-whole (toldLine l) (omega arith)
 
 pub listing-whole : (name bytes : List ℕ) → length name ≤ nameLength
     → shown (textOf (listingLine name bytes)) ≡ listingLine name bytes
