@@ -22,7 +22,8 @@ returns-3 : tie.Need-returns-3
 unfolding labelLine toldLine
 returns-3 c =
     let other = c .before .before .before in
-    as-told (other .before .number .ensures) (no-values (other .before .before .args .f) (other .match .keys3)) (c .label .ensures)
+    let none = no-values (other .before .before .args .f) (other .match .keys3) in
+    as-told (other .before .number .ensures) none (c .label .ensures)
 
 pub refused-spec : {M : Type 1} → statement M
 refused-spec =
