@@ -3,12 +3,12 @@ use mathlib.Core.Path.{_≡_, refl, sym, ap, _∙_}
 use mathlib.Core.Bool.{Bool, true, false, cond, _&&_, _||_}
 use mathlib.Core.List.{List, [], _∷_}
 use mathlib.Core.Logic.{_⊎_, inl, inr}
-use Prim.Native.Nat.{ℕ, _<_}
+use Prim.Native.Nat.{_<_}
 use native.Mathlib.Omega.{arith}
 use lib.Dec.{eqb, ltb}
 use borrow.Author.Tests.{eqb-true, eqb-false, eq-eqb, ltb-true, ltb-false, lt-ltb}
 use Rattle.refusal.specs.Clash.{clash}
-use Rattle.refusal.specs.Order.{Verdict, no, yes}
+use Rattle.refusal.specs.Order.{Verdict, no}
 use Rattle.model.specs.Faults.{Kind, ticks, ratio, kindBefore, Fault, before, first, refusalFor, refuseFirst}
 use Rattle.days.specs.Told.{Among, FirstTold}
 

@@ -1,15 +1,15 @@
 -- What overloads in one transistor and in many: the first row that does is the first told of all its faults.
 use mathlib.Core.Path.{_≡_, refl, sym, ap, _∙_, subst}
 use mathlib.Core.Bool.{Bool, true, false}
-use mathlib.Core.List.{List, [], _∷_, _++_}
+use mathlib.Core.List.{List, [], _∷_}
 use mathlib.Core.Logic.{_⊎_, inl, inr}
-use Prim.Native.Nat.{ℕ, suc, _≤_, _<_}
+use Prim.Native.Nat.{ℕ, suc, _≤_}
 use native.Mathlib.Omega.{arith}
 use lib.Dec.{ltb}
 use lib.IntN.{ℤ}
 use borrow.Author.Tests.{ltb-true, ltb-false}
 use Rattle.refusal.specs.Clash.{clash}
-use Rattle.refusal.specs.Order.{Verdict, no, yes}
+use Rattle.refusal.specs.Order.{Verdict, no}
 use Rattle.card.specs.declared.WorkedCard.{WorkedCard}
 use Rattle.terms.specs.Rows.{Role, Row, rowsFor}
 use Rattle.terms.specs.Values.{biasOf}
@@ -19,8 +19,8 @@ use Rattle.rows.specs.Outcome.{tickLimit, ratioLimit, someAbove, ticksIn, ratio
 use Rattle.rows.specs.Outcome.{outcomeAt, outcomeOf}
 use Rattle.totals.specs.Flow as flow
 use Rattle.totals.specs.Flow.{rolesAt}
-use Rattle.model.specs.Faults.{Kind, ticks, ratio, kindBefore, Fault, before, refusalFor, refuseFirst, faultIf, faultsIn}
-use Rattle.model.specs.Faults.{faultsOf, faultsAmong}
+use Rattle.model.specs.Faults.{Kind, ticks, ratio, Fault, before, refusalFor, refuseFirst, faultIf, faultsIn}
+use Rattle.model.specs.Faults.{faultsOf}
 use Rattle.model.specs.Verdict.{refuseOver}
 use Rattle.days.specs.Told.{Among, FirstTold}
 use Rattle.days.proofs.FaultOrder.{Sooner, by-branch, by-kind, before-of, refuse-told}
@@ -61,7 +61,8 @@ ticks-first issue k g h = before-of (fault issue k ticks) g (go (ltb k (g .branc
         let b = h .on in by-kind (sym (h .own)) (omega arith) refl
 
 module _ (issue : ℕ) (c : WorkedCard) (v : Role → Role → ℤ) where
-  from-if : (t : Bool) (k : ℕ) (f : Fault) (l : List Fault) → From issue k f → ((g : Fault) → Among g l → From issue k g) →
+  from-if : (t : Bool) (k : ℕ) (f : Fault) (l : List Fault) → From issue k f →
+      ((g : Fault) → Among g l → From issue k g) →
       (g : Fault) → Among g (faultIf t f l) → From issue k g
   from-if true k f l a b g (inl e) = rw e a
   from-if true k f l a b g (inr m) = b g m

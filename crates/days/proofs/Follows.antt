@@ -1,9 +1,9 @@
 -- The board follows the desk: after any calls it stands for the desk that the same calls leave, and answers each call
 -- as the desk does.
 use mathlib.Core.Path.{_≡_, refl, sym, ap, _∙_, subst}
-use mathlib.Core.Bool.{Bool, true, false, cond, not, _||_}
+use mathlib.Core.Bool.{Bool, true, false, cond, not}
 use mathlib.Core.List.{List, [], _∷_, map}
-use Prim.Native.Nat.{ℕ, zero, suc, _+_, _-_, _≤_, _<_}
+use Prim.Native.Nat.{ℕ, zero, suc, _+_, _≤_, _<_}
 use native.Mathlib.Numerals.{add-one}
 use native.Mathlib.Omega.{arith}
 use lib.Dec.{eqb, leb, ltb}
@@ -68,7 +68,6 @@ use Rattle.days.proofs.FaultOrder.{by-issue, before-of, refuse-told}
 use Rattle.days.proofs.Faults.{faultBy, fault-issue, drawn-is, faults-told, faults-own, faults-over}
 use Rattle.settle.specs.laws.Firsts.{first-one, first-least}
 use Rattle.totals.specs.Flow.{overAt}
-use Rattle.places.specs.Gathered.{workedAt}
 use Rattle.name.specs.Name.{nameLength}
 use Rattle.given.specs.Pairs.{somePairOff, Shift, shiftsOf}
 use Rattle.model.specs.Desk.{movedTo}
@@ -229,18 +228,21 @@ module _ (b : Board) (d : Desk) (g : Invariant b) (o : Orderly d) (s : Stands b 
           Place (λ (u : Transistor). u .issue) (standingOf (cardsOf b)) noTransistor t (transistorsOf b) →
           before (faultBy (transistorAt b i .issue) (overOn i)) f ≡ true
       unfolding overloads
-      after-own f t m gives p = go (named (p .at)) refl (ltb (transistorAt b i .issue) (transistorAt b (p .at) .issue)) refl
+      after-own f t m gives p =
+          go (named (p .at)) refl (ltb (transistorAt b i .issue) (transistorAt b (p .at) .issue)) refl
         where
           here : Among f (faults (standingAt b (p .at)))
           here = subst (λ (u : Standing). Among f (faults u)) (p .is) gives
 
           over-here : isOver (overOn (p .at)) ≡ true
           over-here =
-              faults-over (transistorAt b (p .at) .issue) (workedOn b (p .at)) (transistorAt b (p .at) .nodes) will f here
+              faults-over (transistorAt b (p .at) .issue) (workedOn b (p .at)) (transistorAt b (p .at) .nodes) will f
+              here
 
           number : f .issue ≡ transistorAt b (p .at) .issue
           number =
-              faults-own (transistorAt b (p .at) .issue) (workedOn b (p .at)) (transistorAt b (p .at) .nodes) will f here
+              faults-own (transistorAt b (p .at) .issue) (workedOn b (p .at)) (transistorAt b (p .at) .nodes) will f
+              here
 
           no-higher : named (p .at) ≡ true → transistorAt b i .issue ≤ transistorAt b (p .at) .issue
           no-higher e = least (p .at) (rw (g .holds .transistors-long) at (p .below)) e over-here

@@ -1,7 +1,7 @@
 -- 15 and 18 are given exactly where a bare 15 was, at the same place in each order; and what they tell does overload,
 -- and nothing that is told before it does.
 use mathlib.Core.Path.{_≡_, refl, sym, ap, _∙_, subst}
-use mathlib.Core.Bool.{Bool, true, false, cond, not, _&&_, _||_}
+use mathlib.Core.Bool.{Bool, true, false, not, _&&_, _||_}
 use mathlib.Core.List.{List, [], _∷_, _++_, map}
 use Prim.Native.Nat.{ℕ}
 use lib.Dec.{eqb, leb}
@@ -20,13 +20,14 @@ use Rattle.given.specs.Lists.{anyOf}
 use Rattle.given.specs.Arguments.{Found, none, some, issueOf, someNodeOff, apart, known, usedUp}
 use Rattle.given.specs.Pairs.{arePairs, somePairOff, Shift, shiftsOf}
 use Rattle.model.specs.Counts.{transistorsMost}
-use Rattle.model.specs.Faults.{Kind, ticks, ratio, Fault, first, refusalBy, refusalFor, refuseFirst, faultsOf, faultsAmong}
+use Rattle.model.specs.Faults.{Kind, ticks, ratio, Fault, first, refusalBy, refusalFor, refuseFirst, faultsOf}
+use Rattle.model.specs.Faults.{faultsAmong}
 use Rattle.model.specs.Desk.{Held, Standing, Desk, Call, place, move, refused, movedTo, faultsAt, heldAs, mayPlace}
 use Rattle.model.specs.Desk.{mayMove, placed, moved, step, after}
 use Rattle.model.specs.declared.Answer.the-variants.{Refused}
 use Rattle.model.specs.Model.{answered, boardAfter}
 use Rattle.days.specs.Told.{Among, FirstTold}
-use Rattle.days.specs.Bare.{bare15, bareOf, bare, someOverloads, placeBefore, moveBefore}
+use Rattle.days.specs.Bare.{bare15, bareOf, bare, placeBefore, moveBefore}
 use Rattle.days.specs.Stands.{replyOf}
 use Rattle.days.proofs.FaultOrder.{first-told}
 use Rattle.days.proofs.Follows.{follows}
@@ -185,7 +186,8 @@ no-of : (d : Desk) (f : Refusal) (v : Verdict (List Shift)) → moved d v .reply
 no-of d f (no g) e = cc
 no-of d f (yes shifts) e = clash cc
 
-no-placing : (d : Desk) (nodes : List ℤ) (f : Refusal) (v : Verdict Held) → placed d nodes v .reply ≡ refused f → v ≡ no f
+no-placing : (d : Desk) (nodes : List ℤ) (f : Refusal) (v : Verdict Held) → placed d nodes v .reply ≡ refused f →
+    v ≡ no f
 no-placing d nodes f (no g) e = cc
 no-placing d nodes f (yes h) e = clash cc
 
@@ -199,7 +201,8 @@ board-tells-of-a-move calls pairs f e =
     (no-of (after calls) (refusalFor f) (mayMove (after calls) pairs)
     (sym (follows calls (move pairs) .reply) ∙ ap replyOf e))
 
-pub board-tells-of-a-placing : (calls : List Call) (card : ℤ) (nodes : List ℤ) (sized : length nodes ≡ roles) (f : Fault) →
+pub board-tells-of-a-placing : (calls : List Call) (card : ℤ) (nodes : List ℤ) (sized : length nodes ≡ roles)
+    (f : Fault) →
     answered (boardAfter calls) (place card nodes sized) .answer ≡ Refused (refusalFor f) →
     (h : Held) × (heldAs (issueOf card) (after calls .cards) ≡ some h)
     × FirstTold f (faultsOf (after calls .next) (h .worked) (map natAbs nodes) (after calls .volts))

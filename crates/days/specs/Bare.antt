@@ -2,7 +2,6 @@
 -- one purpose: to state that the refusals which tell it are given exactly where that 15 was.
 use mathlib.Core.Bool.{Bool, not, _&&_}
 use mathlib.Core.List.{List, map}
-use Prim.Native.Nat.{ℕ}
 use lib.Dec.{leb}
 use lib.ListN.{length}
 use lib.IntN.{ℤ, natAbs}

@@ -89,7 +89,8 @@ module _ (worked : ℕ → Bool) (issue : ℕ → ℕ) (over : ℕ → Over) whe
 
   -- it is that of one of the places
   pub first-one : (k : ℕ) → isOver (firstBelow worked issue over k .over) ≡ true →
-      (i : ℕ) × (i < k) × (worked i ≡ true) × (firstBelow worked issue over k ≡ record { issue = issue i; over = over i })
+      (i : ℕ) × (i < k) × (worked i ≡ true)
+      × (firstBelow worked issue over k ≡ record { issue = issue i; over = over i })
   unfolding firstBelow
   first-one zero e = clash cc
   first-one (suc k) e = go (worked k) refl e (λ q. first-one k q)

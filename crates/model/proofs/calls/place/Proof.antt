@@ -122,7 +122,8 @@ place-spec =
     tie.close
     (tie.spec (λ c κs. search needs) (λ c κs. search needs) (λ c κs. search needs) (λ c. search needs) (λ c. search
     needs)
-    (λ c κs. search needs) put-in-requires (λ c κs. search needs) (λ c κs. search needs) returns (λ c. let h = free-there c in omega arith)
+    (λ c κs. search needs) put-in-requires (λ c κs. search needs) (λ c κs. search needs) returns
+    (λ c. let h = free-there c in omega arith)
     (λ c. let h = free-there c in omega arith) (λ c. let h = card-there c in omega arith)
     (λ c. let h = card-there c in omega arith) (λ c. let h = free-there (c .before) in omega arith)
     (λ c. let h = free-there (c .before) in omega arith) (λ c. let h = card-there (c .before) in omega arith)
