@@ -1,19 +1,20 @@
 -- The search for a name that stands twice: from the last name on, with a mark made for every name passed.
 use mathlib.Core.Path.{_≡_, refl, sym, _∙_, ap, ap₂}
-use mathlib.Core.Bool.{Bool, true, false, _&&_, _||_}
+use mathlib.Core.Bool.{Bool, true, false, _&&_, _||_, and-false}
 use mathlib.Core.List.{List, [], _∷_, _++_}
-use Prim.Native.Nat.{ℕ, zero, suc, _+_, _*_, _-_, _<_, _≤_}
+use Prim.Native.Nat.{ℕ, zero, suc, _+_, _*_, _-_, _/_, _<_, _≤_}
 use native.Mathlib.Omega.{arith}
-use lib.Dec.{lit<, ltb}
-use lib.ListN.{length, take, drop, getD, set, replicate, length-drop, length-set}
-use lib.Seq.{drop-drop, getD-set-same}
+use lib.Dec.{lit<}
+use lib.ListN.{length, take, drop, replicate, length-drop, length-set}
+use lib.Seq.{drop-drop}
 use Rattle.bytes_le.specs.Le.{le, bytesOf, Word, wordBytes}
 use Rattle.bytes_le.proofs.Laws.{rest}
 use Rattle.name.specs.Name.{same, same-equal}
 use Rattle.name.proofs.Laws.{Words, words-of}
 use Rattle.roll.specs.Directory.{among, twice, nameBytes, namesHeld, namesIn}
 use Rattle.roll.proofs.Names.{never, or-true, or-false, cut-none, cut-more}
-use Rattle.roll.specs.inner.Marks.{slotOf, slots}
+use Rattle.roll.specs.inner.Marks.{slotOf, slots, digits, markWords, made, withMark}
+use Rattle.roll.proofs.Marks.{is-set, stays}
 
 -- the number of a name's mark
 abbrev markOf : List ℕ → ℕ
@@ -32,11 +33,11 @@ true-false e = never (cc)
 -- of the names from place i on none stands twice, and each has its mark
 pub record Marked (d marks : List ℕ) (i : ℕ) : Type 0 where
   pub within : nameBytes * i ≤ length d
-  pub kept : length marks ≡ slots
+  pub kept : length marks ≡ markWords
   pub single : twice (namesIn (drop (nameBytes * i) d)) ≡ false
-  pub marked : (x : List ℕ) → among x (namesIn (drop (nameBytes * i) d)) ≡ true → getD marks (markOf x) 0 ≡ 1
+  pub marked : (x : List ℕ) → among x (namesIn (drop (nameBytes * i) d)) ≡ true → made marks (markOf x) ≡ true
 
-pub marks-none : (d : List ℕ) → Marked d (replicate slots 0) (namesHeld d)
+pub marks-none : (d : List ℕ) → Marked d (replicate markWords 0) (namesHeld d)
 marks-none d =
     let n : ℕ = namesHeld d in
     let short : length (drop (nameBytes * n) d) < nameBytes = rw length-drop (omega arith) in
@@ -47,14 +48,6 @@ marks-none d =
       single = ap twice none;
       marked = λ x e. true-false (sym e ∙ ap (among x) none);
     }
-
--- a mark stays when another is made
-stays : (l : List ℕ) (i k : ℕ) → getD l i 0 ≡ 1 → getD (set l k 1) i 0 ≡ 1
-stays [] i k e = e
-stays (x ∷ l) zero zero e = refl
-stays (x ∷ l) zero (suc k) e = e
-stays (x ∷ l) (suc i) zero e = e
-stays (x ∷ l) (suc i) (suc k) e = stays l i k e
 
 -- one that stands twice further on stands twice
 later : (d : List ℕ) (i : ℕ) → nameBytes * i ≤ length d → twice (namesIn (drop (nameBytes * i) d)) ≡ true
@@ -76,20 +69,16 @@ later d (suc i) h e =
     or-right true = refl
     or-right false = refl
 
-by-mark : (m : ℕ) (a b : Bool) → (a ≡ true → m ≡ 1) → b ≡ (ltb 0 m && a) → b ≡ false → a ≡ false
-by-mark m true b f e g = true-false (sym (e ∙ ap (λ (n : ℕ). ltb 0 n && true) (f refl)) ∙ g)
+by-mark : (m a b : Bool) → (a ≡ true → m ≡ true) → b ≡ (m && a) → b ≡ false → a ≡ false
+by-mark m true b f e g = true-false (sym (e ∙ ap (λ (t : Bool). t && true) (f refl)) ∙ g)
 by-mark m false b f e g = refl
 
-by-true : (m : ℕ) (a b : Bool) → b ≡ (ltb 0 m && a) → b ≡ true → a ≡ true
+by-true : (m a b : Bool) → b ≡ (m && a) → b ≡ true → a ≡ true
 by-true m true b e g = refl
-by-true m false b e g = true-false (sym g ∙ e ∙ and-right (ltb 0 m))
-  where
-    and-right : (t : Bool) → t && false ≡ false
-    and-right true = refl
-    and-right false = refl
+by-true m false b e g = true-false (sym g ∙ e ∙ and-false m)
 
 mark-cons : (x y : List ℕ) (l : List (List ℕ)) (marks : List ℕ) (t : Bool) → same x y ≡ t → (t || among x l) ≡ true
-    → (x ≡ y → getD marks (markOf x) 0 ≡ 1) → (among x l ≡ true → getD marks (markOf x) 0 ≡ 1) → getD marks (markOf x) 0 ≡ 1
+    → (x ≡ y → made marks (markOf x) ≡ true) → (among x l ≡ true → made marks (markOf x) ≡ true) → made marks (markOf x) ≡ true
 mark-cons x y l marks true e h here there = here (same-equal x y e)
 mark-cons x y l marks false e h here there = there h
 
@@ -106,7 +95,7 @@ holds-name v h = let w = v .within in rw (rest, length-drop) (omega arith)
 module _ {d marks : List ℕ} {i : ℕ} (v : Marked d marks i) (pos : 0 < i) {low high k : ℕ} {found : Bool}
     (p : Word (fromName (i - 1) d) low) (q : Word (drop wordBytes (fromName (i - 1) d)) high)
     (ek : k ≡ slotOf low high) (hk : k < slots)
-    (ef : found ≡ (ltb 0 (getD marks k 0) && among (bytesOf wordBytes low ++ bytesOf wordBytes high) (namesIn (afterName (fromName (i - 1) d))))) where
+    (ef : found ≡ (made marks k && among (bytesOf wordBytes low ++ bytesOf wordBytes high) (namesIn (afterName (fromName (i - 1) d))))) where
   t : List ℕ
   t = drop (nameBytes * (i - 1)) d
 
@@ -134,10 +123,10 @@ module _ {d marks : List ℕ} {i : ℕ} (v : Marked d marks i) (pos : 0 < i) {lo
   is-mark : markOf x ≡ k
   is-mark = ap₂ slotOf (sym (words .low)) (sym (words .high)) ∙ sym ek
 
-  looked : found ≡ (ltb 0 (getD marks k 0) && among x (namesIn (drop (nameBytes * i) d)))
+  looked : found ≡ (made marks k && among x (namesIn (drop (nameBytes * i) d)))
   unfolding t
   looked =
-      ef ∙ ap₂ (λ (n l : List ℕ). ltb 0 (getD marks k 0) && among n (namesIn l)) (sym (words .bytes))
+      ef ∙ ap₂ (λ (n l : List ℕ). made marks k && among n (namesIn l)) (sym (words .bytes))
       (ap afterName part ∙ rest t nameBytes ∙ next)
 
   from-here : namesIn t ≡ x ∷ namesIn (drop (nameBytes * i) d)
@@ -147,23 +136,22 @@ module _ {d marks : List ℕ} {i : ℕ} (v : Marked d marks i) (pos : 0 < i) {lo
   pub marks-twice : found ≡ true → true ≡ twice (namesIn d)
   unfolding t
   marks-twice e =
-      let a : among x (namesIn (drop (nameBytes * i) d)) ≡ true = by-true (getD marks k 0) _ found looked e in
+      let a : among x (namesIn (drop (nameBytes * i) d)) ≡ true = by-true (made marks k) _ found looked e in
       let h : nameBytes * (i - 1) ≤ length d = let w = v .within in omega arith in
       sym (later d (i - 1) h (ap twice from-here ∙ or-true a _))
 
-  pub marks-more : found ≡ false → Marked d (set marks k 1) (i - 1)
+  pub marks-more : found ≡ false → Marked d (withMark marks k) (i - 1)
   unfolding t
   marks-more e =
       let a : among x (namesIn (drop (nameBytes * i) d)) ≡ false =
-      by-mark (getD marks k 0) _ found (λ h. ap (λ (n : ℕ). getD marks n 0) (sym is-mark) ∙ v .marked x h) looked e in
-      let hs : k < length marks = let l = v .kept in omega arith in
+      by-mark (made marks k) _ found (λ h. ap (made marks) (sym is-mark) ∙ v .marked x h) looked e in
       record {
         within = let w = v .within in omega arith;
-        kept = length-set marks k 1 ∙ v .kept;
+        kept = length-set marks (k / digits) _ ∙ v .kept;
         single = ap twice from-here ∙ or-false a ∙ v .single;
         marked = λ y h.
-            mark-cons y x (namesIn (drop (nameBytes * i) d)) (set marks k 1) (same y x) refl
+            mark-cons y x (namesIn (drop (nameBytes * i) d)) (withMark marks k) (same y x) refl
             (sym (ap (among y) from-here) ∙ h)
-            (λ f. ap (λ (n : ℕ). getD (set marks k 1) n 0) (ap markOf f ∙ is-mark) ∙ getD-set-same marks k 1 0 hs)
-            (λ f. stays marks (markOf y) k (v .marked y f));
+            (λ f. ap (made (withMark marks k)) (ap markOf f ∙ is-mark) ∙ is-set marks k (v .kept) hk)
+            (λ f. stays marks k (v .kept) hk (markOf y) (v .marked y f));
       }

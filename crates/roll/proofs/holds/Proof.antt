@@ -22,7 +22,7 @@ returns : tie.Need-returns Inv-loop μ-loop
 returns c =
     sym
     (walk-here (c .before .before .before .loop .inv) (c .before .before .loop-test .taken) ∙ or-true
-    (sym (c .before .starts .ensures) ∙ c .if1 .taken) _)
+    (sym (c .before .stands-at .ensures) ∙ c .if1 .taken) _)
 
 abbrev loop-before-t : tie.After-t Inv-loop μ-loop → tie.At-loop Inv-loop μ-loop
 loop-before-t c = c .before .before .before .before
@@ -33,7 +33,7 @@ loop-less c = shorter ((loop-before-t c) .loop .t .now) (c .before .before .befo
 loop-again : tie.Need-loop-again Inv-loop μ-loop
 loop-again c =
     walk-on ((loop-before-t c) .loop .inv) (c .before .before .before .loop-test .taken)
-    (or-false (sym (c .before .before .starts .ensures) ∙ c .before .if1 .left))
+    (or-false (sym (c .before .before .stands-at .ensures) ∙ c .before .if1 .left))
 
 returns-2 : tie.Need-returns-2 Inv-loop μ-loop
 returns-2 c = sym (walk-end (c .before .loop .inv) (c .loop-test .left))
