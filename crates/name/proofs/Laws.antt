@@ -193,6 +193,13 @@ same-swap a b = go (same a b) refl
     go true e = sym (same-eq (sym (same-equal a b e)))
     go false e = sym (same-not b a (λ f. true≢false (sym (same-eq (sym f)) ∙ e)))
 
+-- sixteen bytes are none where there is no room for a name
+pub short-apart : (x y : ℕ) (s : List ℕ) (at : ℕ) → length s < at + nameLength
+    → same (bytesOf 8 x ++ bytesOf 8 y) (take nameLength (drop at s)) ≡ false
+short-apart x y s at h =
+    let few : length (take nameLength (drop at s)) < nameLength = rw (length-take, length-drop) (omega arith) in
+    same-not (bytesOf 8 x ++ bytesOf 8 y) (take nameLength (drop at s)) (λ e. let l = ap length e in omega arith)
+
 -- x and y are the two words of the name a
 pub record Words (a : List ℕ) (x y : ℕ) : Type 0 where
   pub low : x ≡ le (take 8 a)
@@ -213,11 +220,9 @@ words-of t {x} {y} h p q =
       bytes = f ∙ ap₂ _++_ (sym (p .bytes l)) (sym (q .bytes m));
     }
 
--- sixteen bytes are what their two words spell
-pub words-spell : (a : List ℕ) {x y : ℕ} → length a ≡ nameLength → Word a x → Word (drop 8 a) y
-    → a ≡ bytesOf 8 x ++ bytesOf 8 y
-words-spell a h p q =
-    sym (take-all nameLength a (le-of-eq h)) ∙ words-of a (le-of-eq (sym h)) p q .bytes
+-- so are those of sixteen bytes
+pub words-in : (a : List ℕ) {x y : ℕ} → length a ≡ nameLength → Word a x → Word (drop 8 a) y → Words a x y
+words-in a h p q = rw (take-all nameLength a (le-of-eq h)) at (words-of a (le-of-eq (sym h)) p q)
 
 -- two numbers of 64 bits are the words of the name that they spell
 pub words-made : {x y : ℕ} → x < 2 ^ 64 → y < 2 ^ 64 → Words (bytesOf 8 x ++ bytesOf 8 y) x y

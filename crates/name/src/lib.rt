@@ -1,7 +1,6 @@
 // Names of cards: sixteen bytes with their padding, or as they are asked for, without it. Every function takes any slice.
 ghost use mathlib.Core.Path.{_≡_};
 ghost use mathlib.Core.List.{_++_};
-ghost use Prim.Native.Nat.{_+_, _≤_};
 ghost use lib.ListN.{length, take, drop};
 ghost use Rattle.bytes_le.specs.Le.{wordBytes, bytesOf};
 ghost use Rattle.name.specs.Name.{nameLength, mark, run, zeros, wellFormed, asked, padded, same};
@@ -99,9 +98,14 @@ pub fn pad(x: &[u8]) -> [u8; LENGTH]
 
 // Whether the name with these two words stands at a place: its bytes are compared there, a word at a time.
 pub fn stands_at(s: &[u8], at: usize, low: u64, high: u64) -> bool
-    requires { ⌜ at + nameLength ≤ length (now s) ⌝ }
     ensures { λ r. ⌜ r ≡ same (bytesOf wordBytes low ++ bytesOf wordBytes high) (take nameLength (drop at (now (s .entry)))) ⌝ }
 {
+    if s.len() < LENGTH {
+        return false;
+    }
+    if s.len() - LENGTH < at {
+        return false;
+    }
     let x = bytes_le::u64_at(s, at);
     let y = bytes_le::u64_at(s, at + WORD_BYTES);
     if low != x {

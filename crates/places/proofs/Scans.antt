@@ -151,7 +151,8 @@ part-stretch d l at n h =
     let room : n ≤ length (drop at l) = rw length-drop (omega arith) in
     let long = length-take-le n (drop at l) room in
     ext-getD d (take n (drop at l)) (stretch d l at n) (long ∙ sym (length-stretch d l at n))
-    (λ j q. getD-take n (drop at l) j d (omega arith) ∙ getD-drop at l j d ∙ sym (getD-stretch d l at n j (omega arith)))
+    (λ j q. getD-take n (drop at l) j d (omega arith) ∙ getD-drop at l j d
+    ∙ sym (getD-stretch d l at n j (omega arith)))
 
 -- a list filled from its start with a stretch of another
 pub filled-stretch : {A : Type 0} {d : A} (l : List A) (at : ℕ) {n k : ℕ} {r : List A} → n ≤ k →

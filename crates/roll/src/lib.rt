@@ -76,11 +76,12 @@ pub fn doubled(d: &[u8]) -> bool
     let mut i = d.len() / NAME_BYTES;
     while 0 < i {
         i -= 1;
-        let t = &d[NAME_BYTES * i..];
-        let low = bytes_le::u64_at(t, 0);
-        let high = bytes_le::u64_at(t, WORD_BYTES);
+        let at = NAME_BYTES * i;
+        let own = &d[at..at + NAME_BYTES];
+        let low = bytes_le::u64_at(own, 0);
+        let high = bytes_le::u64_at(own, WORD_BYTES);
         let k = slot(low, high);
-        if again(is_made(&marks, k), &t[NAME_BYTES..], low, high) {
+        if again(is_made(&marks, k), &d[at + NAME_BYTES..], low, high) {
             return true;
         }
         make(&mut marks, k);

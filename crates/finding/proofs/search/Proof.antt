@@ -5,7 +5,7 @@ use Prim.Native.Nat.{ℕ}
 use native.Mathlib.Omega.{arith}
 use lib.ListN.{length, take}
 use Rattle.name.specs.Name.{same}
-use Rattle.name.proofs.Laws.{words-spell}
+use Rattle.name.proofs.Laws.{words-in}
 use Rattle.roll.specs.Directory.{nameBytes}
 use Rattle.roll.proofs.Names.{shorter}
 use Rattle.finding.proofs.Places.{Placed, place-end, place-here, place-on}
@@ -32,7 +32,7 @@ compared c =
     let two = l .before in
     let one = two .before .before in
     let x = one .before .before .before .args .x .now in
-    let e = words-spell x (search needs) (one .u64-at .ensures) (two .u64-at2 .ensures) in
+    let e = words-in x (search needs) (one .u64-at .ensures) (two .u64-at2 .ensures) .bytes in
     ap (λ (y : List ℕ). same y (take nameBytes (l .loop .t .now))) e ∙ sym (c .stands-at .ensures)
 
 returns : tie.Need-returns Inv-loop μ-loop

@@ -1,7 +1,6 @@
 -- `roll::doubled` meets its contract: of the names passed none stands twice, and each has its mark.
-use native.Mathlib.Omega.{arith}
 use borrow.Author.Needs.{needs}
-use Rattle.roll.proofs.Doubles.{holds-name, Marked, marks-all, marks-more, marks-none, marks-twice}
+use Rattle.roll.proofs.Doubles.{Marked, marks-all, marks-more, marks-none, marks-twice}
 use Rattle.roll.proofs.doubled.Statement.{statement}
 use Rattle.roll.proofs.doubled.Tie as tie
 
@@ -27,12 +26,6 @@ module _ (c : tie.After-is-made Inv-loop μ-loop) where
 
   abbrev turn : tie.In-loop Inv-loop μ-loop
   turn = first .before .before
-
-sub-again : tie.Need-sub-again Inv-loop μ-loop
-sub-again c = omega (arith, holds-name ((turn c) .before .loop .inv) ((turn c) .loop-test .taken))
-
-part-again-start : tie.Need-part-again-start Inv-loop μ-loop
-part-again-start c = omega (arith, holds-name ((turn c) .before .loop .inv) ((turn c) .loop-test .taken))
 
 returns : tie.Need-returns Inv-loop μ-loop
 returns c =
@@ -65,12 +58,14 @@ doubled-spec =
     (λ c. search needs)
     (λ c. search needs)
     (λ c. search needs)
+    (λ c. search needs)
     (λ c κs. search needs)
     (λ c κs. search needs)
     (λ c κs. search needs)
     (λ c κs. search needs)
-    sub-again
-    part-again-start
+    (λ c. search needs)
+    (λ c. search needs)
+    (λ c. search needs)
     (λ c. search needs)
     (λ c κs. search needs)
     returns

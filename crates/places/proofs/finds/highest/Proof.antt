@@ -8,7 +8,7 @@ use native.Mathlib.Omega.{arith}
 use lib.ListN.{length, getD, drop}
 use borrow.Author.Needs.{needs}
 use Rattle.name.specs.Name.{nameLength, same}
-use Rattle.name.proofs.Laws.{words-spell, same-swap}
+use Rattle.name.proofs.Laws.{words-in, same-swap}
 use Rattle.rows.specs.inner.FromTerms.{listUp}
 use Rattle.given.specs.Lists.{larger}
 use Rattle.deck.specs.Stretch.{stretch}
@@ -60,7 +60,7 @@ compared c =
     let one = two .before .before in
     let a = one .before .before .args in
     let long : length (a .names .now) ≡ nameLength * cardsMost = search needs in
-    let e = words-spell (a .asked .now) (search needs) (one .u64-at .ensures) (two .u64-at2 .ensures) in
+    let e = words-in (a .asked .now) (search needs) (one .u64-at .ensures) (two .u64-at2 .ensures) .bytes in
     let at = nameLength * (l .loop .i - 1) in
     c .stands-at .ensures
     ∙ ap₂ same (sym e) (part-stretch 0 (a .names .now) at nameLength (omega arith))
