@@ -1,4 +1,5 @@
 -- `roll::doubled` meets its contract: of the names passed none stands twice, and each has its mark.
+use native.Mathlib.Omega.{arith}
 use borrow.Author.Needs.{needs}
 use Rattle.roll.proofs.Doubles.{Marked, marks-all, marks-more, marks-none, marks-twice}
 use Rattle.roll.proofs.doubled.Statement.{statement}
@@ -30,7 +31,7 @@ module _ (c : tie.After-is-made Inv-loop μ-loop) where
 returns : tie.Need-returns Inv-loop μ-loop
 returns c =
     let m = c .before .before .before in
-    marks-twice ((turn m) .before .loop .inv) ((turn m) .loop-test .taken) ((first m) .u64-at .ensures)
+    marks-twice ((turn m) .before .loop .inv) (omega arith) ((first m) .u64-at .ensures)
     ((second m) .u64-at2 .ensures) ((marked m) .slot .ensures .0) ((marked m) .slot .ensures .1)
     (rw (m .is-made .ensures) at (c .before .again .ensures)) (c .if1 .taken)
 
@@ -39,7 +40,7 @@ loop-again c =
     let a = c .before .before .before in
     let m = a .before .before in
     rw (c .make .ensures)
-    (marks-more ((turn m) .before .loop .inv) ((turn m) .loop-test .taken) ((first m) .u64-at .ensures)
+    (marks-more ((turn m) .before .loop .inv) (omega arith) ((first m) .u64-at .ensures)
     ((second m) .u64-at2 .ensures) ((marked m) .slot .ensures .0) ((marked m) .slot .ensures .1)
     (rw (m .is-made .ensures) at (a .again .ensures)) (c .before .before .if1 .left))
 
