@@ -193,7 +193,7 @@ same-swap a b = go (same a b) refl
     go true e = sym (same-eq (sym (same-equal a b e)))
     go false e = sym (same-not b a (λ f. true≢false (sym (same-eq (sym f)) ∙ e)))
 
--- sixteen bytes are none where there is no room for a name
+-- no name stands where there is no room for sixteen bytes
 pub short-apart : (x y : ℕ) (s : List ℕ) (at : ℕ) → length s < at + nameLength
     → same (bytesOf 8 x ++ bytesOf 8 y) (take nameLength (drop at s)) ≡ false
 short-apart x y s at h =
@@ -220,7 +220,7 @@ words-of t {x} {y} h p q =
       bytes = f ∙ ap₂ _++_ (sym (p .bytes l)) (sym (q .bytes m));
     }
 
--- so are those of sixteen bytes
+-- the words of sixteen bytes, all of which are the name
 pub words-in : (a : List ℕ) {x y : ℕ} → length a ≡ nameLength → Word a x → Word (drop 8 a) y → Words a x y
 words-in a h p q = rw (take-all nameLength a (le-of-eq h)) at (words-of a (le-of-eq (sym h)) p q)
 

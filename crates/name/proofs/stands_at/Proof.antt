@@ -1,7 +1,7 @@
 -- `name::stands_at` meets its contract: where there is room for a name, two are equal where both their words are.
 use mathlib.Core.Path.{sym}
 use mathlib.Core.List.{List, _++_}
-use Prim.Native.Nat.{ℕ, _+_, _≤_, _<_}
+use Prim.Native.Nat.{ℕ, _+_, _≤_}
 use native.Mathlib.Omega.{arith}
 use lib.ListN.{length, take, drop, length-drop}
 use lib.Seq.{drop-drop}
