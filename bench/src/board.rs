@@ -2,7 +2,7 @@
 //! works only what it changes.
 
 use crate::card::{judge, Card};
-use crate::currents::{by_role, currents, Currents};
+use crate::currents::{by_role, currents, overload, Currents};
 use crate::library::well_formed;
 use crate::numbers::{Curve, CURVE};
 
@@ -10,6 +10,26 @@ pub const NODES: usize = 32;
 const CARDS: usize = 16;
 const PLACES: usize = 64;
 const LAST_ISSUE: i64 = 65_535;
+
+/// A transistor that overloads, and by what; the least is told.
+#[derive(Clone, Copy, Debug, PartialEq, Eq, PartialOrd, Ord)]
+pub struct Fault {
+    pub issue: i64,
+    pub branch: u32,
+    pub number: u32,
+}
+
+#[derive(Debug)]
+pub enum Refused {
+    Number(u32),
+    Fault(Fault),
+}
+
+impl From<u32> for Refused {
+    fn from(number: u32) -> Self {
+        Refused::Number(number)
+    }
+}
 
 struct Held {
     issue: i64,
@@ -141,7 +161,29 @@ impl Board {
         currents(&self.curve, card, &volts)
     }
 
-    pub fn place(&mut self, card: i64, nodes: &[i64; 7]) -> Result<i64, u32> {
+    /// By what a transistor overloads at the present voltages, if it does.
+    #[cold]
+    fn fault(&self, t: &Standing, issue: i64) -> Option<Fault> {
+        let card = &self.cards[t.card as usize % CARDS].as_ref()?.card;
+        let volts = t.nodes.map(|n| self.volts[n as usize % NODES]);
+        let (branch, number) = overload(&self.curve, card, &volts)?;
+        Some(Fault {
+            issue,
+            branch,
+            number,
+        })
+    }
+
+    /// The least fault among the transistors at these places.
+    #[cold]
+    fn least_fault(&self, places: u64) -> Refused {
+        Members(places)
+            .filter_map(|p| self.fault(&self.standing[p], self.issues[p]))
+            .min()
+            .map_or(Refused::Number(0), Refused::Fault)
+    }
+
+    pub fn place(&mut self, card: i64, nodes: &[i64; 7]) -> Result<i64, Refused> {
         let at = self.held(card).ok_or(12u32)?;
         let mut t = NOWHERE;
         t.card = at as u8;
@@ -150,15 +192,19 @@ impl Board {
         }
         let direct = self.cards[at].as_ref().is_some_and(|c| c.card.direct);
         if direct && t.nodes[5] != t.nodes[3] {
-            return Err(14);
+            return Err(14.into());
         }
         if self.taken == u64::MAX {
-            return Err(11);
+            return Err(11.into());
         }
         if self.next > LAST_ISSUE {
-            return Err(17);
+            return Err(17.into());
         }
-        let i = self.worked(&t).ok_or(15u32)?;
+        let Some(i) = self.worked(&t) else {
+            return Err(self
+                .fault(&t, self.next)
+                .map_or(Refused::Number(0), Refused::Fault));
+        };
         let place = (!self.taken).trailing_zeros() as usize;
         self.taken |= 1 << place;
         for n in t.nodes {
@@ -175,18 +221,19 @@ impl Board {
         Ok(self.issues[place])
     }
 
-    pub fn shift(&mut self, n: i64, microvolts: i64) -> Result<(), u32> {
+    pub fn shift(&mut self, n: i64, microvolts: i64) -> Result<(), Refused> {
         let n = node(n)?;
         if !(-2_500_000..=2_500_000).contains(&microvolts) {
-            return Err(13);
+            return Err(13.into());
         }
         let before = self.volts[n];
         self.volts[n] = microvolts;
         for place in Members(self.naming[n]) {
             let Some(i) = self.worked(&self.standing[place]) else {
+                let told = self.least_fault(self.naming[n]);
                 self.volts[n] = before;
                 self.put_back(self.naming[n] & ((1 << place) - 1));
-                return Err(15);
+                return Err(told);
             };
             self.taken_out[place] = self.exchange(place, i);
         }
@@ -194,14 +241,14 @@ impl Board {
     }
 
     /// Nodes moved together, by a list of a node, its microvolts, a node and so on; each transistor is worked once.
-    pub fn shift_all(&mut self, pairs: &[i64]) -> Result<(), u32> {
+    pub fn shift_all(&mut self, pairs: &[i64]) -> Result<(), Refused> {
         if pairs.len() % 2 != 0 || pairs.is_empty() || pairs.len() > 2 * NODES {
-            return Err(1);
+            return Err(1.into());
         }
         for p in pairs.chunks_exact(2) {
             node(p[0])?;
             if !(-2_500_000..=2_500_000).contains(&p[1]) {
-                return Err(13);
+                return Err(13.into());
             }
         }
         let before = self.volts;
@@ -213,9 +260,10 @@ impl Board {
         }
         for place in Members(places) {
             let Some(i) = self.worked(&self.standing[place]) else {
+                let told = self.least_fault(places);
                 self.volts = before;
                 self.put_back(places & ((1 << place) - 1));
-                return Err(15);
+                return Err(told);
             };
             self.taken_out[place] = self.exchange(place, i);
         }

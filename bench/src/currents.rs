@@ -1,7 +1,7 @@
 //! The seven branch currents of a transistor.
 
 use crate::card::Card;
-use crate::numbers::{gain, quotient, root, Curve};
+use crate::numbers::{gain, quotient, root, Curve, Scaled};
 
 /// Voltages of E1, B1, B2, C1, C2, C4 and S, in microvolts.
 pub type Volts = [i64; 7];
@@ -82,4 +82,41 @@ pub fn currents(curve: &Curve, c: &Card, v: &Volts) -> Option<Currents> {
         shared(c.sub.floor(b1c4) - minus, 0, c.rsub.floor(b1c4)),
         c.sf.floor(sc1) - c.alone.sf,
     ])
+}
+
+/// Of a transistor that overloads, the first branch that does, and by what: 15 for a T, 18 for a ratio.
+#[cold]
+pub fn overload(curve: &Curve, c: &Card, v: &Volts) -> Option<(u32, u32)> {
+    let [e1, b1, b2, c1, c2, c4, s] = *v;
+    let at = |x: Scaled, volts: i64| x.within(gain(curve, volts, c.octave));
+    let alone = |x: Scaled| x.alone().is_some();
+    let x = if c.exsub {
+        at(c.sub, s - c4)
+    } else {
+        alone(c.sub)
+    };
+    let rows = [
+        (
+            at(c.sn, b2 - e1) && at(c.sn, b2 - c2),
+            at(c.rex, b2 - e1) && at(c.rex, b2 - c2),
+        ),
+        (at(c.bulk, b2 - e1) && alone(c.bulk), true),
+        (at(c.side, b1 - e1) && alone(c.side), true),
+        (
+            c.nonideal.within(gain(curve, b2 - e1, c.second)) && alone(c.nonideal),
+            true,
+        ),
+        (at(c.ex, b1 - c4) && alone(c.ex), at(c.rex, b1 - c4)),
+        (at(c.sub, b1 - c4) && x, at(c.rsub, b1 - c4)),
+        (at(c.sf, s - c1) && alone(c.sf), true),
+    ];
+    rows.iter().zip(1..).find_map(|(&(ticks, ratio), branch)| {
+        if !ticks {
+            Some((branch, 15))
+        } else if !ratio {
+            Some((branch, 18))
+        } else {
+            None
+        }
+    })
 }

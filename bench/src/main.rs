@@ -80,18 +80,23 @@ fn vectors(folder: &Path) {
         for line in std::fs::read_to_string(folder.join(file)).unwrap().lines() {
             let cells: Vec<&str> = line.split('\t').collect();
             let v: Vec<i64> = cells[1].split(' ').map(|x| x.parse().unwrap()).collect();
+            let v: currents::Volts = v.try_into().unwrap();
             let got = match card::judge(&unhex(cells[0])) {
                 Err(k) => format!("refused {k}"),
-                Ok(c) => match currents::currents(&curve, &c, &v.try_into().unwrap()) {
-                    None => "refused".into(),
+                Ok(c) => match currents::currents(&curve, &c, &v) {
+                    None => format!("overload {:?}", currents::overload(&curve, &c, &v)),
                     Some(i) => format!("ok {}", i.map(|x| x.to_string()).join(" ")),
                 },
             };
             tell(
-                if got == "refused" {
-                    cells[2].starts_with("refused ")
-                } else {
-                    got == cells[2]
+                match cells[2].strip_prefix("refused ") {
+                    Some(all) => match all.split([' ', ':']).collect::<Vec<_>>()[..] {
+                        [branch, number, ..] => {
+                            got == format!("overload Some(({branch}, {number}))")
+                        }
+                        _ => got == cells[2],
+                    },
+                    None => got == cells[2],
                 },
                 line,
             );
@@ -178,7 +183,8 @@ fn told(b: &board::Board) -> i64 {
     })
 }
 
-/// A voltage moved so often, on a board with so many transistors; the first move brings the collectors to 2 V.
+/// A voltage moved so often, on a board with so many transistors, carried out or turned away; the first move brings the
+/// collectors to 2 V.
 fn time_moves(times: u64, places: i64, node: impl Fn(u64) -> u64, microvolts: i64) {
     let mut b = board::Board::fresh();
     b.load(b"a", &timed_record()).unwrap();
@@ -189,7 +195,7 @@ fn time_moves(times: u64, places: i64, node: impl Fn(u64) -> u64, microvolts: i6
     let mut x = 1u32;
     let mut next = (20, 2_000_000);
     for n in 0..times {
-        b.shift(next.0, next.1).unwrap();
+        let _ = std::hint::black_box(b.shift(next.0, next.1));
         x = (x * 1103 + 12345) % 65536;
         next = (node(n) as i64, microvolts + x as i64);
     }
@@ -285,6 +291,7 @@ fn time(name: &str, times: u64) {
         "empty" => time_moves(times, 0, |n| 1 + n % 8, 600_000),
         "still" => time_moves(times, 64, |_| 31, 600_000),
         "move" => time_moves(times, 64, |n| 1 + n % 8, 600_000),
+        "refused" => time_moves(times, 64, |n| 1 + n % 8, 2_300_000),
         "all" => time_moves(times, 64, |_| 20, 2_000_000),
         "singly" => time_stages(times, false),
         "together" => time_stages(times, true),

@@ -134,7 +134,7 @@ impl Scaled {
         ((self.a * g.m) >> ((self.shift - g.n) as u64).min(63)) as i64
     }
 
-    fn within(self, g: Gain) -> bool {
+    pub fn within(self, g: Gain) -> bool {
         self.a == 0 || (self.shift >= g.n && self.floor(g) <= self.limit)
     }
 

@@ -1,6 +1,6 @@
 //! The two programs' text, worked from the rules: what `listing` and `desk` write.
 
-use crate::board::Board;
+use crate::board::{Board, Refused};
 use crate::card::{clip, judge};
 use crate::library;
 use std::fmt::Write;
@@ -77,10 +77,11 @@ pub struct Desk {
     read: fn(&[u8]) -> Option<Vec<u8>>,
 }
 
-fn told<T>(r: Result<T, u32>, f: impl FnOnce(T) -> String) -> String {
-    match r {
+fn told<T>(r: Result<T, impl Into<Refused>>, f: impl FnOnce(T) -> String) -> String {
+    match r.map_err(Into::into) {
         Ok(x) => f(x),
-        Err(k) => format!("refused {k}"),
+        Err(Refused::Number(k)) => format!("refused {k}"),
+        Err(Refused::Fault(f)) => format!("refused {} {} {}", f.number, f.issue, f.branch),
     }
 }
 

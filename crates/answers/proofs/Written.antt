@@ -12,7 +12,7 @@ use lib.Seq.{drop-cons}
 use Rattle.sheet.specs.declared.Text.{Text}
 use Rattle.sheet.specs.Text.{room, textOf, shown}
 use Rattle.sheet.specs.Digits.{wordDigits, hexDigits}
-use Rattle.sheet.specs.Lines.{labelLine, nodeLine}
+use Rattle.sheet.specs.Lines.{toldLine, nodeLine}
 use Rattle.spelling.specs.Bytes.{space, newline}
 use Rattle.sheet.specs.laws.LinesFit.{hex-whole}
 use Rattle.answers.specs.Page.{Page, page, withBytes, Writes}
@@ -24,9 +24,9 @@ use Rattle.answers.proofs.Pages.{write-two, write-long, then}
 pub as-bytes : {x y old new : List ℕ} {at end : ℕ} → x ≡ y → Writes x old at new end → Writes y old at new end
 as-bytes e w = rw e at w
 
-pub as-label : {x y : ℕ} {old new : List ℕ} {at end : ℕ} (l : List ℕ) → x ≡ y → Writes (labelLine l x) old at new end
-    → Writes (labelLine l y) old at new end
-as-label l e w = rw e at w
+pub as-told : {x y : ℕ} {l m old new : List ℕ} {at end : ℕ} → x ≡ y → l ≡ m → Writes (toldLine (x ∷ l)) old at new end
+    → Writes (toldLine (y ∷ m)) old at new end
+as-told e f w = rw (e, f) at w
 
 pub as-node : {v v′ t t′ : ℤ} {old new : List ℕ} {at end : ℕ} (n : ℕ) → v ≡ v′ → t ≡ t′
     → Writes (nodeLine n v t) old at new end → Writes (nodeLine n v′ t′) old at new end

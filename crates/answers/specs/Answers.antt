@@ -4,9 +4,9 @@ use mathlib.Core.List.{List, [], _∷_, _++_}
 use Prim.Native.Nat.{ℕ}
 use lib.Ieee.{Float, binary64, toBits, eq}
 use lib.ListN.{take}
-use Rattle.refusal.specs.Told.{numberOf}
+use Rattle.refusal.specs.Told.{told}
 use Rattle.sheet.specs.Digits.{maskDigits, wordDigits, hexDigits}
-use Rattle.sheet.specs.Lines.{labelLine, nodeLine}
+use Rattle.sheet.specs.Lines.{labelLine, toldLine, nodeLine}
 use Rattle.spelling.specs.Bytes.{space, newline}
 use Rattle.answers.specs.declared.Answer.{Answer}
 use Rattle.answers.specs.declared.Answer.the-variants.{Library, Offset, Card, Transistor, Moved, Lifted}
@@ -31,7 +31,7 @@ answerLine Lifted = bytes "lifted\n"
 answerLine Withdrawn = bytes "withdrawn\n"
 answerLine (Reading node v t) = nodeLine node v t
 answerLine Sheet = labelLine (bytes "sheet") sheetNodes
-answerLine (Refused f) = labelLine (bytes "refused") (numberOf f)
+answerLine (Refused f) = toldLine (told f)
 answerLine TooLong = bytes "error line too long\n"
 
 -- a line that is no command, by its first word

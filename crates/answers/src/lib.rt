@@ -40,7 +40,7 @@ pub fn answer_line(a: Answer, out: &mut [u8; ANSWER_ROOM]) -> usize
         Answer::Withdrawn => page::put(b"withdrawn\n", out, 0),
         Answer::Reading(node, v, t) => parts::reading(node, v, t, out),
         Answer::Sheet => parts::label(b"sheet", parts::SHEET_NODES, out),
-        Answer::Refused(f) => parts::label(b"refused", refusal::number(f) as u64, out),
+        Answer::Refused(f) => parts::refused(f, out),
         Answer::TooLong => page::put(b"error line too long\n", out, 0),
     }
 }

@@ -1,12 +1,15 @@
 // What the answers are made of.
 ghost use mathlib.Core.Path.{_≡_};
+ghost use mathlib.Core.List.{[], _∷_};
 ghost use Prim.Native.Nat.{_≤_};
 ghost use lib.ListN.{length, take};
-ghost use Rattle.sheet.specs.Lines.{labelLine, nodeLine};
+ghost use Rattle.refusal.specs.Told.{told};
+ghost use Rattle.sheet.specs.Lines.{labelLine, toldLine, nodeLine};
 ghost use Rattle.answers.specs.Page.{Writes};
 ghost use Rattle.answers.specs.Answers.{shownBytes, bitsOf, wordsLine};
 use crate::ANSWER_ROOM;
 use crate::page;
+use refusal::Refusal;
 
 // How many nodes a sheet has.
 pub(crate) const SHEET_NODES: u64 = 32;
@@ -20,6 +23,25 @@ pub(crate) fn label(word: &[u8], n: u64, out: &mut [u8; ANSWER_ROOM]) -> usize
     ensures { λ r. ⌜ Writes (labelLine (now (word .entry)) n) (now (out .entry)) 0 (now (out .exit)) r ⌝ }
 {
     page::put_text(sheet::label_line(word, n), out, 0)
+}
+
+// A refusal's number with a transistor and a branch.
+fn overload(number: u32, issue: u32, branch: u32, out: &mut [u8; ANSWER_ROOM]) -> usize
+    ensures { λ r. ⌜ Writes (toldLine (number ∷ issue ∷ branch ∷ [])) (now (out .entry)) 0 (now (out .exit)) r ⌝ }
+{
+    page::put_text(sheet::told_line(number, issue, branch), out, 0)
+}
+
+// A refusal: its number, and who overloads in which branch where it tells that.
+pub(crate) fn refused(f: Refusal, out: &mut [u8; ANSWER_ROOM]) -> usize
+    ensures { λ r. ⌜ Writes (toldLine (told f)) (now (out .entry)) 0 (now (out .exit)) r ⌝ }
+{
+    let n = refusal::number(f);
+    match f {
+        Refusal::Overload(issue, branch) => overload(n, issue, branch, out),
+        Refusal::Injection(issue, branch) => overload(n, issue, branch, out),
+        _ => label(b"refused", n as u64, out),
+    }
 }
 
 pub(crate) fn reading(node: u32, v: i64, t: i64, out: &mut [u8; ANSWER_ROOM]) -> usize

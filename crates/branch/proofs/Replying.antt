@@ -5,17 +5,18 @@ use mathlib.Core.List.{List, map}
 use Prim.Native.Nat.{ℕ}
 use lib.IntN.{ℤ}
 use Rattle.refusal.specs.declared.Refusal.{Refusal}
-use Rattle.refusal.specs.declared.Refusal.the-variants.{OutOfRange, Overload}
+use Rattle.refusal.specs.declared.Refusal.the-variants.{OutOfRange}
 use Rattle.refusal.specs.Order.{Verdict, no, yes, tells}
 use Rattle.volts.specs.Volts.{givenBack}
 use Rattle.card.specs.declared.WorkedCard.{WorkedCard}
 use Rattle.card.specs.Judge.{judgeOf}
+use Rattle.rows.specs.declared.Over.{Over}
 use Rattle.rows.specs.declared.Over.the-variants.{Within}
 use Rattle.rows.specs.declared.Outcome.{Outcome}
 use Rattle.branch.specs.declared.Admission.the-variants.{Given}
 use Rattle.branch.specs.declared.Reply.{Reply}
 use Rattle.branch.specs.declared.answering.Keeping.{Keeping}
-use Rattle.rows.specs.Outcome.{isOver, outcomeOf}
+use Rattle.rows.specs.Outcome.{isOver, drawnBy, outcomeOf}
 use Rattle.branch.specs.Currents.{atOutcome, atVolts, currentsOf, toldReply, ticksOr, Replies}
 use Rattle.branch.specs.inner.Replied.{refusedReply, replyOf, Keeps}
 use Rattle.branch.proofs.Kept.{within-on, outside-off, within-back}
@@ -27,9 +28,9 @@ module _ {x y : Outcome} (e : x ≡ y) where
       _≡_ {A = Reply} (record { admission = Given; ticks = x .ticks }) (replyOf (atOutcome y))
   reply-given w = rw (← e, w)
 
-  pub reply-over : {r : Reply} → isOver (x .over) ≡ true → r ≡ refusedReply Overload →
+  pub reply-over : {r : Reply} {o : Over} → x .over ≡ o → isOver o ≡ true → r ≡ refusedReply (drawnBy 0 o) →
       r ≡ replyOf (atOutcome y)
-  reply-over w q = rw (← e, w) q
+  reply-over v w q = rw (← e, v, w) q
 
 -- ---- from voltages
 

@@ -1,10 +1,10 @@
--- The currents of a record at the voltages of its roles, or the first refusal: 1, 6 to 10, 13, 15.
+-- The currents of a record at the voltages of its roles, or the first refusal: 1, 6 to 10, 13, 15 or 18.
 use mathlib.Core.Path.{_≡_}
 use mathlib.Core.List.{List}
 use Prim.Native.Nat.{ℕ}
 use lib.ListN.{replicate}
 use lib.IntN.{ℤ, pos}
-use Rattle.refusal.specs.declared.Refusal.the-variants.{OutOfRange, Overload}
+use Rattle.refusal.specs.declared.Refusal.the-variants.{OutOfRange}
 use Rattle.refusal.specs.Told.{told}
 use Rattle.refusal.specs.Order.{Verdict, no, yes, refuseIf, andThen, Answer, refused, given, tells}
 use Rattle.volts.specs.Volts.{someOff}
@@ -15,13 +15,14 @@ use Rattle.branch.specs.declared.Admission.{Admission}
 use Rattle.branch.specs.declared.Admission.the-variants.{Given, Refused}
 use Rattle.branch.specs.declared.Reply.{Reply}
 use Rattle.terms.specs.Rows.{branches}
-use Rattle.rows.specs.Outcome.{isOver, outcomeOf}
+use Rattle.rows.specs.Outcome.{isOver, drawnBy, outcomeOf}
 
--- 15 wherever a row overloads, whichever and however; else the ticks
+-- what the first row that overloads draws, 15 or 18 with its branch, under the number 0, since there is no transistor
+-- here and no transistor has it; else the ticks
 abbrev pub atOutcome : Outcome → Verdict (List ℤ)
-atOutcome x = refuseIf (isOver (x .over)) Overload (yes (x .ticks))
+atOutcome x = refuseIf (isOver (x .over)) (drawnBy 0 (x .over)) (yes (x .ticks))
 
--- of a worked card: 13 for a voltage outside its range, then 15
+-- of a worked card: 13 for a voltage outside its range, then 15 or 18
 abbrev pub atVolts : WorkedCard → List ℤ → Verdict (List ℤ)
 atVolts c volts = refuseIf (someOff volts) OutOfRange (atOutcome (outcomeOf c volts))
 

@@ -1,4 +1,4 @@
-// From a worked card and voltages in microvolts to a reply: 13, then 15.
+// From a worked card and voltages in microvolts to a reply: 13, then 15 or 18.
 ghost use mathlib.Core.Path.{_≡_};
 ghost use mathlib.Core.List.{map};
 ghost use Rattle.volts.specs.Volts.{givenBack, AllNear};
@@ -52,7 +52,7 @@ fn keep_all(volts: [i64; ROLES]) -> Keeping
     }
 }
 
-// The reply for a card at kept voltages.
+// The reply for a card at kept voltages. What overloads is told of the number 0, which no transistor has.
 fn answer(c: WorkedCard, v: [u32; ROLES]) -> Reply
     requires { ⌜ (IsWorked c) × AllNear v ⌝ }
     ensures { λ r. ⌜ r ≡ replyOf (atOutcome (outcomeOf c (map givenBack v))) ⌝ }
@@ -68,8 +68,8 @@ fn answer(c: WorkedCard, v: [u32; ROLES]) -> Reply
                 ticks: ticks,
             }
         }
-        Over::Ticks(_) => turned_away(Refusal::Overload),
-        Over::Injection(_) => turned_away(Refusal::Overload),
+        Over::Ticks(k) => turned_away(Refusal::Overload(0, k)),
+        Over::Injection(k) => turned_away(Refusal::Injection(0, k)),
     }
 }
 

@@ -11,7 +11,6 @@ pub use rows::work_out;
 pub use terms::BRANCHES;
 pub use terms::ROLES;
 pub use terms::Ready;
-pub use terms::no_ready;
 pub use terms::prepare;
 
 pub enum Admission {
@@ -25,7 +24,7 @@ pub struct Reply {
     pub ticks: [i64; BRANCHES],
 }
 
-// The currents of a record of a card at the voltages of its roles, in microvolts: 1, 6 to 10, 13, 15.
+// The currents of a record of a card at the voltages of its roles, in microvolts: 1, 6 to 10, 13, 15 or 18.
 pub fn currents(bytes: &[u8], volts: &[i64; ROLES]) -> Reply
     ensures { λ r. ⌜ Replies (now (bytes .entry)) (now (volts .entry)) r ⌝ }
 {

@@ -1,15 +1,15 @@
 -- The board follows the desk: after any calls it stands for the desk that the same calls leave, and answers each call
 -- as the desk does.
 use mathlib.Core.Path.{_≡_, refl, sym, ap, _∙_, subst}
-use mathlib.Core.Bool.{Bool, true, false, cond, not, _||_}
+use mathlib.Core.Bool.{Bool, true, false, cond, not}
 use mathlib.Core.List.{List, [], _∷_, map}
-use Prim.Native.Nat.{ℕ, zero, suc, _+_, _-_, _≤_, _<_}
+use Prim.Native.Nat.{ℕ, zero, suc, _+_, _≤_, _<_}
 use native.Mathlib.Numerals.{add-one}
 use native.Mathlib.Omega.{arith}
 use lib.Dec.{eqb, leb, ltb}
 use lib.ListN.{length, getD, set, length-map, length-replicate}
 use lib.IntN.{ℤ, pos, natAbs}
-use borrow.Author.Tests.{eqb-true, eqb-false, ne-eqb, leb-false, ltb-false}
+use borrow.Author.Tests.{eqb-true, eqb-false, leb-false, ltb-true, ltb-false}
 use Rattle.refusal.specs.declared.Refusal.{Refusal}
 use Rattle.refusal.specs.declared.Refusal.the-variants.{CardInUse}
 use Rattle.refusal.specs.Order.{Verdict, no, yes, refuseIf}
@@ -31,7 +31,7 @@ use Rattle.totals.specs.Flow.{overloads, sumOver}
 use Rattle.given.specs.Lists.{anyOf, larger}
 use Rattle.model.specs.Desk.{firstWith, heldAs, standsAs, without, highest}
 use Rattle.totals.specs.Flow.{flow}
-use Rattle.model.specs.Desk.{total, someOverloads, step, freshDesk, after}
+use Rattle.model.specs.Desk.{total, faultsAt, step, freshDesk, after}
 use Rattle.model.specs.Model as board
 use Rattle.places.specs.Finding.{first, foundAt, isCard, isTransistor, cardPlace, transistorPlace}
 use Rattle.places.specs.Gathered.{emptyCard}
@@ -51,15 +51,23 @@ use Rattle.totals.proofs.Lists.{getD-map}
 use Rattle.model.proofs.NodeSums.{totals-at}
 use Rattle.model.proofs.Verdicts.{loads, places, moves, lifts, withdraws, shown}
 use Rattle.model.proofs.Invariant.{Invariant, invariant-after, at-card, AtCard, at-transistor, AtTransistor}
-use Rattle.model.proofs.Invariant.{Away, unused-away, worked-same, free-below, free-away, still, cards-holding}
+use Rattle.model.proofs.Invariant.{Away, unused-away, worked-same, free-below, free-away, aside, still, cards-holding}
 use Rattle.model.proofs.Invariant.{transistors-holding, cards-standing, transistors-standing, cards-leveled}
 use Rattle.model.proofs.Invariant.{transistors-leveled, fresh-cards, fresh-transistors}
 use Rattle.model.proofs.Gains.{touched-stands}
 use Rattle.model.proofs.Lists.{padded-long}
+use Rattle.rows.specs.declared.Over.{Over}
 use Rattle.rows.specs.Outcome.{isOver}
-use Rattle.settle.specs.laws.Firsts.{first-over}
+use Rattle.refusal.specs.Clash.{clash}
+use Rattle.model.specs.Faults.{Fault, before, refuseFirst, faultsOf}
+use Rattle.model.specs.Verdict.{refuseOver}
+use Rattle.days.specs.Told.{Among, FirstTold}
+use Rattle.days.proofs.Amongst.{among-none, perm-in, perm-back, single-same, in-occupied, Place, of-occupied}
+use Rattle.days.proofs.Amongst.{in-among, of-among}
+use Rattle.days.proofs.FaultOrder.{by-issue, before-of, refuse-told}
+use Rattle.days.proofs.Faults.{faultBy, fault-issue, drawn-is, faults-told, faults-own, faults-over}
+use Rattle.settle.specs.laws.Firsts.{first-one, first-least}
 use Rattle.totals.specs.Flow.{overAt}
-use Rattle.places.specs.Gathered.{workedAt}
 use Rattle.name.specs.Name.{nameLength}
 use Rattle.given.specs.Pairs.{somePairOff, Shift, shiftsOf}
 use Rattle.model.specs.Desk.{movedTo}
@@ -81,12 +89,13 @@ map-refuse g true f v = refl
 map-refuse g false f v = refl
 
 module _ {A B : Type 0} (g : A → B) where
-  map-place : (found : Found A) (joins over : B → Bool) (nodes : List ℤ) (noRoom used : Bool) →
-      placeVerdict (mapFound g found) joins over nodes noRoom used ≡ mapVerdict g
-      (placeVerdict found (λ (a : A). joins (g a)) (λ (a : A). over (g a)) nodes noRoom used)
+  map-place : (found : Found A) (joins : B → Bool) (over : B → Over) (next : ℕ) (nodes : List ℤ)
+      (noRoom used : Bool) →
+      placeVerdict (mapFound g found) joins over next nodes noRoom used ≡ mapVerdict g
+      (placeVerdict found (λ (a : A). joins (g a)) (λ (a : A). over (g a)) next nodes noRoom used)
   unfolding placeVerdict
-  map-place none joins over nodes noRoom used = refl
-  map-place (some a) joins over nodes noRoom used = sym (simp map-refuse)
+  map-place none joins over next nodes noRoom used = refl
+  map-place (some a) joins over next nodes noRoom used = sym (simp map-refuse)
 
   map-lift : (found : Found A) → liftVerdict (mapFound g found) ≡ mapVerdict g (liftVerdict found)
   unfolding liftVerdict
@@ -116,24 +125,6 @@ highest-held name (c ∷ cards) = go (eqb (c .issue) 0) refl (highest-held name 
         (cond (same (c .name) name) (c .issue) 0) (highestAt name cards)
     go true e h = rw (eqb-true (c .issue) 0 e) (h ∙ sym (nothing (same (c .name) name) (highestAt name cards)))
     go false e h = ap (larger (cond (same (c .name) name) (c .issue) 0)) h
-
--- a test that some element passes, and one that none does
-any-one : {A : Type 0} (p : A → Bool) (a : A) (l : List A) (i : ℕ) → i < length l → p (getD l i a) ≡ true →
-    true ≡ anyOf p l
-unfolding anyOf
-any-one p a [] i h e = absurd (omega arith)
-any-one p a (x ∷ l) zero h e = rw e
-any-one p a (x ∷ l) (suc i) h e = go (p x) (any-one p a l i (omega arith) e)
-  where
-    go : (t : Bool) → true ≡ anyOf p l → true ≡ t || anyOf p l
-    go true k = refl
-    go false k = k
-
-any-none : {A : Type 0} (p : A → Bool) (a : A) (l : List A) → ((i : ℕ) → i < length l → p (getD l i a) ≡ false) →
-    anyOf p l ≡ false
-unfolding anyOf
-any-none p a [] h = refl
-any-none p a (x ∷ l) h = rw (h 0 (omega arith)) (any-none p a l (λ i k. h (suc i) (omega arith)))
 
 module _ (b : Board) (d : Desk) (g : Invariant b) (o : Orderly d) (s : Stands b d) where
   cards-full : leb cardsMost (freeCard (cardsOf b)) ≡ leb cardsMost (length (d .cards))
@@ -186,45 +177,125 @@ module _ (b : Board) (d : Desk) (g : Invariant b) (o : Orderly d) (s : Stands b 
           (find (λ (t : Transistor). t .issue) (standingOf (cardsOf b)) (λ (u : Standing). u .issue) (λ t. refl) n
           (eqb-false n 0 e) noTransistor (transistorsOf b))
 
-  -- whether the transistor at a place would overload
-  abbrev placeOver : List ℤ → Transistor → Bool
-  placeOver volts t = cond (eqb (t .issue) 0) false (overloads (workedAt (cardsOf b) (t .seat)) (t .nodes) volts)
+  -- the transistor at a place, as the desk knows it
+  at-place : (i : ℕ) → i < transistorsMost → (transistorAt b i .issue ≡ 0 → ⊥) → Among (standingAt b i) (d .standing)
+  at-place i h n =
+      perm-in (standingAt b i) (s .standing)
+      (in-occupied (λ (t : Transistor). t .issue) (standingOf (cardsOf b)) noTransistor (transistorsOf b) i
+      (rw (g .holds .transistors-long) h) n)
 
-  any-standing : (volts : List ℤ) → someOverloads d volts ≡ anyOf (placeOver volts) (transistorsOf b)
-  any-standing volts =
-      sym (perm-any (λ (t : Standing). overloads (t .worked) (t .nodes) volts) (s .standing))
-      ∙ any-occupied (λ (t : Transistor). t .issue) (standingOf (cardsOf b))
-      (λ (t : Standing). overloads (t .worked) (t .nodes) volts) (transistorsOf b)
+  place-of : (t : Standing) → Among t (d .standing) →
+      Place (λ (t : Transistor). t .issue) (standingOf (cardsOf b)) noTransistor t (transistorsOf b)
+  place-of t m =
+      of-occupied (λ (t : Transistor). t .issue) (standingOf (cardsOf b)) noTransistor t (transistorsOf b)
+      (perm-back t (s .standing) m)
 
-  -- those worked tell whether anybody overloads: the others do as they did
-  first-standing : (shifts : List Shift) →
-      isOver (firstOver b shifts .over) ≡ someOverloads d (map givenBack (shifted (b .volts) shifts))
-  unfolding overloads
-  first-standing shifts = go (isOver (firstOver b shifts .over)) refl ∙ sym (any-standing will)
-    where
-      will : List ℤ
-      will = map givenBack (shifted (b .volts) shifts)
+  module _ (shifts : List Shift) where
+    abbrev will : List ℤ
+    will = map givenBack (shifted (b .volts) shifts)
 
-      quiet : isOver (firstOver b shifts .over) ≡ false → (i : ℕ) → i < length (transistorsOf b) →
-          placeOver will (transistorAt b i) ≡ false
-      quiet e i h = within (eqb (transistorAt b i .issue) 0) refl
+    abbrev faults : Standing → List Fault
+    faults t = faultsOf (t .issue) (t .worked) (t .nodes) will
+
+    abbrev named : ℕ → Bool
+    named i = touched shifts (transistorAt b i)
+
+    abbrev overOn : ℕ → Over
+    overOn i = overAt (workedOn b i) (transistorAt b i .nodes) will
+
+    -- nothing is told: nobody overloads
+    none-told : isOver (firstOver b shifts .over) ≡ false → faultsAt d will ≡ []
+    unfolding overloads
+    none-told e = among-none (faultsAt d will) none
+      where
+        none : (f : Fault) → Among f (faultsAt d will) → ⊥
+        none f m =
+            let w = of-among faults f (d .standing) m in
+            let p = place-of (w .who) (w .in-list) in
+            let q = still g shifts e (p .at) (p .stands) in
+            let h = faults-over _ _ _ will f (rw (p .is) at (w .gives)) in clash cc
+
+    -- a transistor that overloads, of a number no higher than that of any moved one that does: its first fault is told
+    module _ (i : ℕ) (below : i < transistorsMost) (there : transistorAt b i .issue ≡ 0 → ⊥)
+        (over : isOver (overOn i) ≡ true)
+        (least : (j : ℕ) → j < transistorsMost → named j ≡ true → isOver (overOn j) ≡ true →
+        transistorAt b i .issue ≤ transistorAt b j .issue) where
+      own : FirstTold (faultBy (transistorAt b i .issue) (overOn i)) (faults (standingAt b i))
+      own = faults-told (transistorAt b i .issue) (workedOn b i) (transistorAt b i .nodes) will over
+
+      -- no fault of another goes before it
+      after-own : (f : Fault) (t : Standing) → Among t (d .standing) → Among f (faults t) →
+          Place (λ (u : Transistor). u .issue) (standingOf (cardsOf b)) noTransistor t (transistorsOf b) →
+          before (faultBy (transistorAt b i .issue) (overOn i)) f ≡ true
+      unfolding overloads
+      after-own f t m gives p =
+          go (named (p .at)) refl (ltb (transistorAt b i .issue) (transistorAt b (p .at) .issue)) refl
         where
-          within : (t : Bool) → eqb (transistorAt b i .issue) 0 ≡ t →
-              cond t false (overloads (workedOn b i) (transistorAt b i .nodes) will) ≡ false
-          within true p = refl
-          within false p = still g shifts e i (eqb-false _ _ p)
+          here : Among f (faults (standingAt b (p .at)))
+          here = subst (λ (u : Standing). Among f (faults u)) (p .is) gives
 
-      over : isOver (firstOver b shifts .over) ≡ true → true ≡ anyOf (placeOver will) (transistorsOf b)
-      over e =
-          let f = first-over (λ (i : ℕ). touched shifts (transistorAt b i)) (λ (i : ℕ). transistorAt b i .issue)
-          (λ (i : ℕ). overAt (workedOn b i) (transistorAt b i .nodes) will) transistorsMost e in
-          let h = touched-stands shifts (transistorAt b (f .0)) (f .2) in
-          let o : placeOver will (transistorAt b (f .0)) ≡ true = rw (ne-eqb _ _ h) (f .3) in
-          any-one (placeOver will) noTransistor (transistorsOf b) (f .0) (rw (g .holds .transistors-long) (f .1)) o
+          over-here : isOver (overOn (p .at)) ≡ true
+          over-here =
+              faults-over (transistorAt b (p .at) .issue) (workedOn b (p .at)) (transistorAt b (p .at) .nodes) will f
+              here
 
-      go : (t : Bool) → isOver (firstOver b shifts .over) ≡ t → t ≡ anyOf (placeOver will) (transistorsOf b)
-      go true e = over e
-      go false e = sym (any-none (placeOver will) noTransistor (transistorsOf b) (quiet e))
+          number : f .issue ≡ transistorAt b (p .at) .issue
+          number =
+              faults-own (transistorAt b (p .at) .issue) (workedOn b (p .at)) (transistorAt b (p .at) .nodes) will f
+              here
+
+          no-higher : named (p .at) ≡ true → transistorAt b i .issue ≤ transistorAt b (p .at) .issue
+          no-higher e = least (p .at) (rw (g .holds .transistors-long) at (p .below)) e over-here
+
+          same : transistorAt b (p .at) .issue ≡ transistorAt b i .issue → t ≡ standingAt b i
+          same e =
+              single-same (λ (u : Standing). u .issue) (transistorAt b i .issue) (d .standing) t (standingAt b i)
+              (o .standing .single (transistorAt b i .issue)) m (at-place i below there)
+              (ap (λ (u : Standing). u .issue) (p .is) ∙ e) refl
+
+          go : (k : Bool) → named (p .at) ≡ k → (l : Bool) →
+              ltb (transistorAt b i .issue) (transistorAt b (p .at) .issue) ≡ l →
+              before (faultBy (transistorAt b i .issue) (overOn i)) f ≡ true
+          go true e true q =
+              let a = ltb-true (transistorAt b i .issue) (transistorAt b (p .at) .issue) q in
+              let c = fault-issue (transistorAt b i .issue) (overOn i) in
+              let k = number in before-of (faultBy (transistorAt b i .issue) (overOn i)) f (by-issue (omega arith))
+          go true e false q =
+              let a = ltb-false (transistorAt b i .issue) (transistorAt b (p .at) .issue) q in
+              let c = no-higher e in
+              own .none-before f (subst (λ (u : Standing). Among f (faults u)) (same (omega arith)) gives)
+          go false e l q = let z = aside g shifts (p .at) (p .stands) e in let y = over-here in clash cc
+
+      told-here : FirstTold (faultBy (transistorAt b i .issue) (overOn i)) (faultsAt d will)
+      told-here =
+          record {
+            one = in-among faults _ (standingAt b i) (d .standing) (at-place i below there) (own .one);
+            none-before =
+                λ f m. let w = of-among faults f (d .standing) m in
+                after-own f (w .who) (w .in-list) (w .gives) (place-of (w .who) (w .in-list));
+          }
+
+    -- somebody is told: the fault is one of all, and none goes before it
+    one-told : isOver (firstOver b shifts .over) ≡ true →
+        FirstTold (faultBy (firstOver b shifts .issue) (firstOver b shifts .over)) (faultsAt d will)
+    one-told e =
+        let r = first-one named (λ (i : ℕ). transistorAt b i .issue) overOn transistorsMost e in
+        rw (r .3)
+        (told-here (r .0) (r .1) (touched-stands shifts (transistorAt b (r .0)) (r .2)) (rw (r .3) at e)
+        (λ j h t p. rw (r .3) at
+        (first-least named (λ (i : ℕ). transistorAt b i .issue) overOn transistorsMost j h t p)))
+
+    first-standing : {A : Type 0} (v : Verdict A) →
+        refuseOver (firstOver b shifts .issue) (firstOver b shifts .over) v ≡ refuseFirst (faultsAt d will) v
+    first-standing v = go (isOver (firstOver b shifts .over)) refl
+      where
+        go : (t : Bool) → isOver (firstOver b shifts .over) ≡ t →
+            refuseOver (firstOver b shifts .issue) (firstOver b shifts .over) v ≡ refuseFirst (faultsAt d will) v
+        go true e =
+            rw e
+            (ap no (sym (drawn-is (firstOver b shifts .issue) (firstOver b shifts .over)))
+            ∙ sym (refuse-told _ (faultsAt d will) v (one-told e)))
+        go false e = rw (e, none-told e)
 
   any-on : (n : ℕ) → anyOf (λ (t : Standing). eqb (t .card) n) (d .standing) ≡ anyOf (standsOn n) (transistorsOf b)
   any-on n =
@@ -327,7 +398,7 @@ module _ (b : Board) (d : Desk) (g : Invariant b) (o : Orderly d) (s : Stands b 
           Follow (board.placed b nodes v) (desk.placed d nodes (mapVerdict (heldAt b) v))
       go (no f) e = record { reply = refl; board = s }
       go (yes i) e =
-          let p = places (cardPlace (issueOf card) (cardsOf b)) e in
+          let p = places (cardPlace (issueOf card) (cardsOf b)) (b .next) e in
           let free = freeTransistor (transistorsOf b) in
           let below = leb-false transistorsMost free (p .room) in
           let t = board.newcomer b i nodes in
@@ -357,9 +428,10 @@ module _ (b : Board) (d : Desk) (g : Invariant b) (o : Orderly d) (s : Stands b 
   -- out of range both refuse before they look at what stands
   agree-move : (pairs : List ℤ) (t : Bool) → somePairOff pairs ≡ t → board.mayMove b pairs ≡ desk.mayMove d pairs
   unfolding moveVerdict
-  agree-move pairs true e = rw (← (order-move d pairs), e)
+  agree-move pairs true e = rw e
   agree-move pairs false e =
-      rw (← (order-move d pairs), first-standing b d g o s (shiftsOf pairs), moved-volts pairs e)
+      order-move d pairs (firstOver b (shiftsOf pairs))
+      (rw (← (moved-volts pairs e)) (first-standing b d g o s (shiftsOf pairs) (yes (shiftsOf pairs))))
 
   follow-move : (pairs : List ℤ) → Follow (movedOf b pairs) (step d (move pairs))
   unfolding movedOf step

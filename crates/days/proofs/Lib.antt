@@ -1,6 +1,9 @@
 pub mod Perms
 pub mod Places
 pub mod Orderly
+pub mod FaultOrder
+pub mod Amongst
+pub mod Faults
 pub mod Orders
 pub mod Follows
 pub mod Totals
@@ -8,3 +11,4 @@ pub mod Numbers
 pub mod Keeps
 pub mod Methods
 pub mod Together
+pub mod Split

@@ -17,7 +17,8 @@ use Rattle.board.specs.Unique.{Allows}
 use Rattle.model.proofs.Invariant.{invariant}
 use Rattle.days.specs.Perm.{Perm}
 use Rattle.days.specs.Stands.{Stands, Follow}
-use Rattle.days.specs.Promised.{Promised, by-load, by-place, by-move-all, by-move-to, by-lift, by-withdraw, by-look-up}
+use Rattle.days.specs.Promised.{Promised, by-load, by-place, by-move-all, by-move-to, by-lift, by-withdraw}
+use Rattle.days.specs.Promised.{by-look-up}
 use Rattle.days.specs.Promised.{by-read-node, PromisedFresh, by-fresh, Day, begun, then}
 use Rattle.days.proofs.Perms.{count, perm-count}
 use Rattle.days.proofs.Orderly.{Numbered, Orderly, orderly-after}

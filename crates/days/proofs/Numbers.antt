@@ -63,7 +63,7 @@ module _ (b : Board) (l : List ℕ) (begun : 1 ≤ b .next) (f : Falls (b .next)
       go : (v : Verdict ℕ) → board.mayPlace b card nodes ≡ v →
           Falls (board.placed b nodes v .board .next) (withNumber (board.placed b nodes v .answer) l)
       go (no g) e = f
-      go (yes i) e = one-more begun (places (cardPlace (issueOf card) (cardsOf b)) e .number) f
+      go (yes i) e = one-more begun (places (cardPlace (issueOf card) (cardsOf b)) (b .next) e .number) f
 
   falls-call : (c : Call) → Falls (answered b c .board .next) (gives c (answered b c .answer) l)
   unfolding answered movedOf liftedOf withdrawnOf lookedOf showedOf
@@ -152,7 +152,7 @@ undo d o card nodes sized n e = go (desk.mayPlace d card nodes) refl e
     go (no f) p r = clash cc
     go (yes h) p r =
         let same : d .next ≡ n = cc in
-        let m = places (desk.heldAs (issueOf card) (d .cards)) (order-place d card nodes ∙ p) .number in
+        let m = places (desk.heldAs (issueOf card) (d .cards)) (d .next) (order-place d card nodes ∙ p) .number in
         rw (← same)
         (take-back d o _ _ refl
         (ltb-false issuesMost (d .next) m))

@@ -1,21 +1,26 @@
 -- The orders of refusals: what the board's verdicts say of the desk's own facts is what the desk says.
 use mathlib.Core.Path.{_≡_, refl}
+use mathlib.Core.Bool.{_&&_}
 use mathlib.Core.List.{List, map}
 use Prim.Native.Nat.{ℕ}
 use lib.Dec.{eqb, leb}
 use lib.ListN.{length}
 use lib.IntN.{ℤ, natAbs}
+use Rattle.refusal.specs.declared.Refusal.the-variants.{NoRoom, OutOfRange, SplitCollector, NumbersUsedUp}
+use Rattle.refusal.specs.Order.{yes, refuseIf, andThen}
 use Rattle.name.specs.Name.{padded}
 use Rattle.model.specs.Counts.{cardsMost, transistorsMost}
-use Rattle.given.specs.Arguments.{issueOf}
+use Rattle.given.specs.Arguments.{Found, none, some, issueOf, someNodeOff, apart, known, usedUp}
 use Rattle.given.specs.Pairs.{shiftsOf}
 use Rattle.model.specs.Verdict.{loadVerdict, placeVerdict, moveVerdict, liftVerdict, withdrawVerdict, lookVerdict}
-use Rattle.model.specs.Verdict.{nodeVerdict}
-use Rattle.model.specs.Desk.{Held, Standing, Desk, highest, movedTo, someOverloads, heldAs, standsAs}
-use Rattle.totals.specs.Flow.{overloads}
+use Rattle.model.specs.Verdict.{nodeVerdict, refuseOver}
+use Rattle.model.specs.Faults.{refuseFirst, faultsOf}
+use Rattle.settle.specs.declared.First.{First}
+use Rattle.model.specs.Desk.{Held, Standing, Desk, highest, movedTo, faultsAt, heldAs, standsAs}
+use Rattle.totals.specs.Flow.{overAt}
 use Rattle.given.specs.Lists.{anyOf}
-use Rattle.given.specs.Arguments.{usedUp}
 use Rattle.model.specs.Desk.{mayLoad, mayPlace, mayMove, mayLift, mayWithdraw, mayLookUp, mayRead}
+use Rattle.days.proofs.Faults.{refuse-over}
 
 module _ (d : Desk) where
   pub order-load : (name bytes : List ℕ) →
@@ -25,16 +30,32 @@ module _ (d : Desk) where
 
   pub order-place : (card : ℤ) (nodes : List ℤ) →
       placeVerdict (heldAs (issueOf card) (d .cards)) (λ (h : Held). h .worked .«rcbli_zero»)
-      (λ (h : Held). overloads (h .worked) (map natAbs nodes) (d .volts)) nodes
+      (λ (h : Held). overAt (h .worked) (map natAbs nodes) (d .volts)) (d .next) nodes
       (leb transistorsMost (length (d .standing))) (usedUp (d .next))
       ≡ mayPlace d card nodes
   unfolding placeVerdict
-  order-place card nodes = refl
+  order-place card nodes = go (heldAs (issueOf card) (d .cards))
+    where
+      go : (found : Found Held) →
+          placeVerdict found (λ (h : Held). h .worked .«rcbli_zero»)
+          (λ (h : Held). overAt (h .worked) (map natAbs nodes) (d .volts)) (d .next) nodes
+          (leb transistorsMost (length (d .standing))) (usedUp (d .next))
+          ≡ andThen (known found)
+          (λ (h : Held). refuseIf (someNodeOff nodes) OutOfRange
+          (refuseIf (h .worked .«rcbli_zero» && apart nodes) SplitCollector
+          (refuseIf (leb transistorsMost (length (d .standing))) NoRoom
+          (refuseIf (usedUp (d .next)) NumbersUsedUp
+          (refuseFirst (faultsOf (d .next) (h .worked) (map natAbs nodes) (d .volts)) (yes h))))))
+      go none = refl
+      go (some h) = rw (refuse-over (d .next) (h .worked) (map natAbs nodes) (d .volts) (yes h))
 
-  pub order-move : (pairs : List ℤ) →
-      moveVerdict pairs (someOverloads d (movedTo (d .volts) (shiftsOf pairs))) ≡ mayMove d pairs
+  -- of the first by which the desk would refuse, if by any
+  pub order-move : (pairs : List ℤ) (f : First) →
+      refuseOver (f .issue) (f .over) (yes (shiftsOf pairs))
+      ≡ refuseFirst (faultsAt d (movedTo (d .volts) (shiftsOf pairs))) (yes (shiftsOf pairs)) →
+      moveVerdict pairs f ≡ mayMove d pairs
   unfolding moveVerdict
-  order-move pairs = refl
+  order-move pairs f e = rw e
 
   pub order-lift : (n : ℤ) → liftVerdict (standsAs (issueOf n) (d .standing)) ≡ mayLift d n
   unfolding liftVerdict

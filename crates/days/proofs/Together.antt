@@ -1,6 +1,6 @@
 -- Moving together leaves what moving one after the other leaves, where no single move is refused on the way.
 use mathlib.Core.Path.{_≡_, refl, sym, ap, subst, _∙_}
-use mathlib.Core.Bool.{Bool, true, false, _&&_, _||_}
+use mathlib.Core.Bool.{Bool, true, false, not, _&&_, _||_}
 use mathlib.Core.List.{List, [], _∷_}
 use Prim.Native.Nat.{_%_, _≤_}
 use native.Mathlib.Omega.{arith}
@@ -9,14 +9,18 @@ use lib.ListN.{length, set}
 use lib.IntN.{ℤ, natAbs}
 use borrow.Author.Tests.{eqb-true, leb-true}
 use Rattle.refusal.specs.Clash.{clash}
-use Rattle.refusal.specs.Order.{Verdict, no, yes}
+use Rattle.refusal.specs.Order.{Verdict, no, yes, passes-if}
 use Rattle.volts.specs.Volts.{offVolts}
 use Rattle.given.specs.Arguments.{offNode}
 use Rattle.given.specs.Pairs.{arePairs, somePairOff, Shift, shiftsOf, shiftedIn}
-use Rattle.model.specs.Desk.{Desk, done, move, moveOne, step, moved, mayMove, movedTo, someOverloads}
-use Rattle.model.proofs.Verdicts.{moves}
+use Rattle.model.specs.Desk.{Desk, done, move, moveOne, step, moved, mayMove, movedTo, faultsAt}
+use Rattle.model.specs.Faults.{Fault, refuseFirst}
 use Rattle.days.specs.Singly.{singly, AllDone}
-use Rattle.days.proofs.Orders.{order-move}
+
+-- where nothing is told there is no fault
+passes-first : {A : Type 0} (l : List Fault) (v : Verdict A) {a : A} → refuseFirst l v ≡ yes a → (l ≡ []) × (v ≡ yes a)
+passes-first [] v e = (refl, e)
+passes-first (f ∷ l) v e = clash cc
 
 -- the desk with these voltages
 abbrev atVolts : Desk → List ℤ → Desk
@@ -25,7 +29,7 @@ atVolts d volts = record { cards = d .cards; standing = d .standing; volts = vol
 -- a list of pairs in range after which nothing overloads
 record Quiet (d : Desk) (pairs : List ℤ) : Type 0 where
   on : somePairOff pairs ≡ false
-  quiet : someOverloads d (movedTo (d .volts) (shiftsOf pairs)) ≡ false
+  quiet : faultsAt d (movedTo (d .volts) (shiftsOf pairs)) ≡ []
 
 -- a move that is done: it sets its nodes' voltages alone
 record Done (d : Desk) (pairs : List ℤ) : Type 0 where
@@ -39,12 +43,15 @@ move-done d pairs e = go (mayMove d pairs) refl e
     go : (w : Verdict (List Shift)) → mayMove d pairs ≡ w → moved d w .reply ≡ done → Done d pairs
     go (no f) p q = clash cc
     go (yes shifts) p q =
-        let m = moves (order-move d pairs ∙ p) in
+        let a = passes-if (not (arePairs pairs)) _ _ _ p in
+        let b = passes-if (somePairOff pairs) _ _ _ (a .1) in
+        let c = passes-first (faultsAt d (movedTo (d .volts) (shiftsOf pairs))) _ (b .1) in
+        let by : shiftsOf pairs ≡ shifts = cc in
         record {
-          holds = record { on = m .on; quiet = m .quiet };
+          holds = record { on = b .0; quiet = c .0 };
           leaves =
               ap (λ (w : Verdict (List Shift)). moved d w .desk) p
-              ∙ ap (λ (l : List Shift). atVolts d (movedTo (d .volts) l)) (m .by);
+              ∙ ap (λ (l : List Shift). atVolts d (movedTo (d .volts) l)) (sym by);
         }
 
 -- and the other way round

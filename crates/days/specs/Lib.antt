@@ -4,3 +4,5 @@ pub mod Fitted
 pub mod Numbers
 pub mod Promised
 pub mod Singly
+pub mod Told
+pub mod Bare

@@ -5,7 +5,7 @@ ghost use Prim.Native.Nat.{_<_};
 ghost use lib.ListN.{length, getD};
 ghost use Rattle.volts.specs.Volts.{givenBack};
 ghost use Rattle.terms.specs.Rows.{roles};
-ghost use Rattle.rows.specs.Outcome.{outcomeOf, isOver};
+ghost use Rattle.rows.specs.Outcome.{outcomeOf, isOver, drawnBy};
 ghost use Rattle.totals.specs.Gives.{nodesMost};
 ghost use Rattle.totals.specs.Flow.{rolesAt, overAt, flow};
 ghost use Rattle.totals.specs.inner.Sums.{More, Room, Wired};
@@ -13,6 +13,7 @@ ghost use Rattle.totals.specs.inner.Sizes.{roomMost};
 ghost use Rattle.flows.specs.Back.{backFlow};
 ghost use Rattle.flows.specs.inner.Workable.{rolesOf, deckOf, cardOf, Workable};
 use octave::Table;
+use refusal::Refusal;
 use rows::Outcome;
 use rows::Over;
 use terms::ROLES;
@@ -108,5 +109,16 @@ pub fn is_over(o: Over) -> bool
         Over::Within => false,
         Over::Ticks(_) => true,
         Over::Injection(_) => true,
+    }
+}
+
+// The refusal that an overload draws for the transistor of this number.
+pub fn refusal_of(issue: u32, o: Over) -> Refusal
+    ensures { λ r. ⌜ r ≡ drawnBy issue o ⌝ }
+{
+    match o {
+        Over::Within => Refusal::Overload(issue, 0),
+        Over::Ticks(k) => Refusal::Overload(issue, k),
+        Over::Injection(k) => Refusal::Injection(issue, k),
     }
 }

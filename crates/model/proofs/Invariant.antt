@@ -419,13 +419,13 @@ free-empty {b} g h =
 
 invariant-placed : {b : Board} (card : ℤ) (nodes : List ℤ) → length nodes ≡ roles → Invariant b →
     Invariant (placedOf b card nodes .board)
-unfolding placedOf
+unfolding placedOf overloads
 invariant-placed {b} card nodes sized g = go _ refl
   where
     go : (v : Verdict ℕ) → mayPlace b card nodes ≡ v → Invariant (placed b nodes v .board)
     go (no f) e = g
     go (yes i) e =
-        let p = places (cardPlace (issueOf card) (cardsOf b)) e in
+        let p = places (cardPlace (issueOf card) (cardsOf b)) (b .next) e in
         let a = at-card (issueOf card) (cardsOf b) i (g .holds .cards-long) (p .there) in
         let free = freeTransistor (transistorsOf b) in
         let below = leb-false transistorsMost free (p .room) in
@@ -500,23 +500,33 @@ module _ {b : Board} (g : Invariant b) (shifts : List Shift) where
         nodes = z .nodes;
       }
 
-  -- every transistor is within its limits at the new voltages: those worked by the test, the others as they were
-  pub still : isOver (firstOver b shifts .over) ≡ false → (j : ℕ) → (transistorAt b j .issue ≡ 0 → ⊥) →
+  -- who names no node that moves is within its limits as before
+  pub aside : (j : ℕ) → (transistorAt b j .issue ≡ 0 → ⊥) → touched shifts (transistorAt b j) ≡ false →
       overloads (workedOn b j) (transistorAt b j .nodes) (map givenBack (shifted (b .volts) shifts)) ≡ false
   unfolding overloads overAt
-  still quiet j h = go (touched shifts (transistorAt b j)) refl
+  aside j h e = there
     where
-      go : (w : Bool) → touched shifts (transistorAt b j) ≡ w →
+      there :
           isOver
           (outcomeOf (workedOn b j)
           (rolesAt (map givenBack (shifted (b .volts) shifts)) (transistorAt b j .nodes)) .over) ≡ false
+      there = rw (roles-same shifts (b .volts) (transistorAt b j) h e) (g .holds .transistor j h .quiet)
+
+  -- every transistor is within its limits at the new voltages: those worked by the test, the others as they were
+  pub still : isOver (firstOver b shifts .over) ≡ false → (j : ℕ) → (transistorAt b j .issue ≡ 0 → ⊥) →
+      overloads (workedOn b j) (transistorAt b j .nodes) (map givenBack (shifted (b .volts) shifts)) ≡ false
+  unfolding overloads
+  still quiet j h = go (touched shifts (transistorAt b j)) refl
+    where
+      go : (w : Bool) → touched shifts (transistorAt b j) ≡ w →
+          overloads (workedOn b j) (transistorAt b j .nodes) (map givenBack (shifted (b .volts) shifts)) ≡ false
       go true e =
           first-quiet (λ (i : ℕ). touched shifts (transistorAt b i)) (λ (i : ℕ). transistorAt b i .issue)
           (λ (i : ℕ). overAt (workedOn b i) (transistorAt b i .nodes) (map givenBack (shifted (b .volts) shifts)))
           transistorsMost quiet j
           (subst (λ (k : ℕ). j < k) (g .holds .transistors-long)
           (stands (λ (u : Transistor). u .issue) noTransistor (transistorsOf b) j refl h)) e
-      go false e = rw (roles-same shifts (b .volts) (transistorAt b j) h e) (g .holds .transistor j h .quiet)
+      go false e = aside j h e
 
   pub invariant-settled : isOver (firstOver b shifts .over) ≡ false → length (shifted (b .volts) shifts) ≡ nodesMost →
       AllNear (shifted (b .volts) shifts) → Invariant (leveled b (settled b shifts))

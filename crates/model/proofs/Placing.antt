@@ -9,16 +9,17 @@ use lib.ListN.{length, getD, set, replicate, length-map}
 use lib.IntN.{ℤ, natAbs}
 use borrow.Author.Tests.{leb-false, ltb-false}
 use Rattle.refusal.specs.declared.Refusal.{Refusal}
-use Rattle.refusal.specs.declared.Refusal.the-variants.{Unknown, Overload}
+use Rattle.refusal.specs.declared.Refusal.the-variants.{Unknown}
 use Rattle.refusal.specs.Order.{Verdict, yes}
 use Rattle.card.specs.declared.WorkedCard.{WorkedCard}
 use Rattle.volts.specs.Volts.{givenBack}
 use Rattle.octave.specs.Table.{entries}
 use Rattle.rows.specs.declared.Over.{Over}
+use Rattle.rows.specs.declared.Over.the-variants.{Within}
 use Rattle.terms.specs.declared.Ready.{Ready}
-use Rattle.rows.specs.Outcome.{isOver}
+use Rattle.rows.specs.Outcome.{isOver, drawnBy}
 use Rattle.terms.specs.Rows.{roles}
-use Rattle.totals.specs.Flow.{overAt, overloads, flow}
+use Rattle.totals.specs.Flow.{overAt, flow}
 use Rattle.totals.specs.inner.Sums.{More, Room}
 use Rattle.totals.specs.inner.Sizes.{roomMost}
 use Rattle.given.specs.Arguments.{Found, none, some, issueOf, issuesMost, usedUp}
@@ -110,8 +111,8 @@ module _ (b : Board) (k : Reached b) (card : ℤ) (nodes : List ℤ) (long : len
   verdict-is = way-is ∙ rw (same-place, same-joins, same-free, on-are)
 
   may-is : mayPlace b card nodes ≡
-      lastly verdict (λ (i : ℕ). overloads (workedAt (cardsOf b) i) (map natAbs nodes) (voltsOf b))
-  may-is = then-lastly place joins _ nodes _ _
+      lastly verdict (λ (i : ℕ). overAt (workedAt (cardsOf b) i) (map natAbs nodes) (voltsOf b)) (b .next)
+  may-is = then-lastly place joins _ (b .next) nodes _ _
 
   pub place-stops : (f : Refusal) → w ≡ Stop f →
       LeavesPlaces (placedOf b card nodes) (Refused f) (b .issues) (b .cards) (b .seats) (b .nodes) (b .totals)
@@ -125,11 +126,11 @@ module _ (b : Board) (k : Reached b) (card : ℤ) (nodes : List ℤ) (long : len
     found : (verdict ≡ yes i) × (free ≡ freeTransistor (transistorsOf b))
     found = went (freeTransistor (transistorsOf b)) verdict (sym verdict-is ∙ e)
 
-    passed : Places place joins (λ (j : ℕ). false) nodes noRoom (usedUp (b .next)) i
+    passed : Places place joins (λ (j : ℕ). Within) nodes noRoom (usedUp (b .next)) i
     passed =
-        places place
-        (then-lastly place joins (λ (j : ℕ). false) nodes _ _
-        ∙ ap (λ (v : Verdict ℕ). lastly v (λ (j : ℕ). false)) (found .0))
+        places place (b .next)
+        (then-lastly place joins (λ (j : ℕ). Within) (b .next) nodes _ _
+        ∙ ap (λ (v : Verdict ℕ). lastly v (λ (j : ℕ). Within) (b .next)) (found .0))
 
     pub free-there : free < transistorsMost
     free-there = rw (found .1) (leb-false transistorsMost (freeTransistor (transistorsOf b)) (passed .room))
@@ -163,14 +164,12 @@ module _ (b : Board) (k : Reached b) (card : ℤ) (nodes : List ℤ) (long : len
     same-card = sym (ap (λ (r : Ready). r .card) (ready-there b i place-there))
 
     module _ {over : Over} (oe : over ≡ overAt (cardOf (deckIn b) i) on (voltsOf b)) where
-      over-is : isOver over ≡ overloads (workedAt (cardsOf b) i) (map natAbs nodes) (voltsOf b)
-      unfolding overloads
+      over-is : over ≡ overAt (workedAt (cardsOf b) i) (map natAbs nodes) (voltsOf b)
       over-is = rw (oe, same-card, on-is)
 
       pub place-over : isOver over ≡ true →
-          LeavesPlaces (placedOf b card nodes) (Refused Overload) (b .issues) (b .cards) (b .seats) (b .nodes)
-          (b .totals)
-          (b .next)
+          LeavesPlaces (placedOf b card nodes) (Refused (drawnBy (b .next) over)) (b .issues) (b .cards) (b .seats)
+          (b .nodes) (b .totals) (b .next)
       unfolding placedOf
       place-over o = places-stay {b = b} (placedOf b card nodes) (rw (may-is, found .0, ← over-is, o))
 
@@ -327,7 +326,7 @@ module _ {b : Board} {numbers powers ticks : List ℕ} {switches : List Bool} {h
           ) oe
 
       pub lent-over : isOver over ≡ true →
-          LeavesPlaces (placedOf b card given) (Refused Overload) issues cards seats nodes totals next
+          LeavesPlaces (placedOf b card given) (Refused (drawnBy next over)) issues cards seats nodes totals next
       lent-over o =
           rw (
             l .lends .issues-are,

@@ -7,22 +7,23 @@ use lib.Dec.{leb}
 use lib.ListN.{getD}
 use lib.IntN.{ℤ, pos, natAbs}
 use borrow.Author.Tests.{lt-leb}
-use Rattle.refusal.specs.declared.Refusal.the-variants.{NoRoom, OutOfRange, SplitCollector, Overload}
+use Rattle.refusal.specs.declared.Refusal.the-variants.{NoRoom, OutOfRange, SplitCollector}
 use Rattle.refusal.specs.declared.Refusal.the-variants.{NumbersUsedUp}
 use Rattle.refusal.specs.Order.{Verdict, no, yes, refuseIf}
 use Rattle.refusal.specs.Clash.{clash}
 use Rattle.terms.specs.Rows.{C1, C4, roleIndex}
 use Rattle.model.specs.Counts.{nodesMost}
 use Rattle.given.specs.Arguments.{Found, none, some, offNode, someNodeOff, apart}
-use Rattle.model.specs.Verdict.{placeVerdict}
+use Rattle.rows.specs.declared.Over.{Over}
+use Rattle.model.specs.Verdict.{placeVerdict, refuseOver}
 use Rattle.given.specs.Lists.{anyOf}
 use Rattle.given.specs.inner.Nodes.{nodeOf}
 use Rattle.placing.specs.inner.Placing.{apartOn, placing}
 use Rattle.model.proofs.Verdicts.{on-node}
 
-abbrev pub lastly : {A : Type 0} → Verdict A → (A → Bool) → Verdict A
-lastly (no f) over = no f
-lastly (yes a) over = refuseIf (over a) Overload (yes a)
+abbrev pub lastly : {A : Type 0} → Verdict A → (A → Over) → ℕ → Verdict A
+lastly (no f) over next = no f
+lastly (yes a) over next = refuseOver next (over a) (yes a)
 
 -- nodes as the board holds them tell what the caller's numbers tell
 off-same : (nodes : List ℤ) → anyOf (leb nodesMost) (map nodeOf nodes) ≡ someNodeOff nodes
@@ -51,15 +52,17 @@ size-at (z ∷ nodes) zero = refl
 size-at (z ∷ nodes) (suc k) = size-at nodes k
 
 pub then-lastly :
-    {A : Type 0} (found : Found A) (joins over : A → Bool) (nodes : List ℤ) (noRoom used : Bool) →
-    placeVerdict found joins over nodes noRoom used ≡ lastly (placing found joins (map nodeOf nodes) noRoom used) over
+    {A : Type 0} (found : Found A) (joins : A → Bool) (over : A → Over) (next : ℕ) (nodes : List ℤ)
+    (noRoom used : Bool) →
+    placeVerdict found joins over next nodes noRoom used
+    ≡ lastly (placing found joins (map nodeOf nodes) noRoom used) over next
 unfolding placeVerdict placing
-then-lastly none joins over nodes noRoom used = refl
-then-lastly (some a) joins over nodes noRoom used = rw (off-same nodes) (go (someNodeOff nodes) refl)
+then-lastly none joins over next nodes noRoom used = refl
+then-lastly (some a) joins over next nodes noRoom used = rw (off-same nodes) (go (someNodeOff nodes) refl)
   where
     chain : (s r u : Bool) →
-        refuseIf s SplitCollector (refuseIf r NoRoom (refuseIf u NumbersUsedUp (refuseIf (over a) Overload (yes a))))
-        ≡ lastly (refuseIf s SplitCollector (refuseIf r NoRoom (refuseIf u NumbersUsedUp (yes a)))) over
+        refuseIf s SplitCollector (refuseIf r NoRoom (refuseIf u NumbersUsedUp (refuseOver next (over a) (yes a))))
+        ≡ lastly (refuseIf s SplitCollector (refuseIf r NoRoom (refuseIf u NumbersUsedUp (yes a)))) over next
     chain true r u = refl
     chain false true u = refl
     chain false false true = refl
@@ -68,10 +71,10 @@ then-lastly (some a) joins over nodes noRoom used = rw (off-same nodes) (go (som
     go : (t : Bool) → someNodeOff nodes ≡ t →
         refuseIf t OutOfRange
         (refuseIf (joins a && apart nodes) SplitCollector
-        (refuseIf noRoom NoRoom (refuseIf used NumbersUsedUp (refuseIf (over a) Overload (yes a))))) ≡ lastly
+        (refuseIf noRoom NoRoom (refuseIf used NumbersUsedUp (refuseOver next (over a) (yes a))))) ≡ lastly
         (refuseIf t OutOfRange
         (refuseIf (joins a && apartOn (map nodeOf nodes)) SplitCollector
-        (refuseIf noRoom NoRoom (refuseIf used NumbersUsedUp (yes a))))) over
+        (refuseIf noRoom NoRoom (refuseIf used NumbersUsedUp (yes a))))) over next
     go true e = refl
     go false e =
         rw (on-same nodes e, size-at nodes (roleIndex C4), size-at nodes (roleIndex C1))

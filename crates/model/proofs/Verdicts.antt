@@ -10,6 +10,9 @@ use Rattle.card.specs.declared.WorkedCard.{WorkedCard}
 use Rattle.card.specs.Judge.{judgeOf}
 use Rattle.clip.specs.Record.{rightLength}
 use Rattle.name.specs.Name.{asked}
+use Rattle.rows.specs.declared.Over.{Over}
+use Rattle.rows.specs.Outcome.{isOver}
+use Rattle.settle.specs.declared.First.{First}
 use lib.Dec.{leb, ltb}
 use borrow.Author.Tests.{leb-false}
 use Rattle.model.specs.Counts.{nodesMost}
@@ -41,27 +44,27 @@ loads name {bytes} {noRoom} {used} {c} e =
         let s = passes-if used _ _ _ (r .1) in
         let same : d ≡ c = cc in record { judged = j ∙ ap yes same; room = r .0; number = s .0 }
 
-pub record Places {A : Type 0} (found : Found A) (joins over : A → Bool) (nodes : List ℤ)
+pub record Places {A : Type 0} (found : Found A) (joins : A → Bool) (over : A → Over) (nodes : List ℤ)
     (noRoom used : Bool) (a : A) : Type 0 where
   pub there : found ≡ some a
   pub on : someNodeOff nodes ≡ false
   pub joined : joins a && apart nodes ≡ false
   pub room : noRoom ≡ false
   pub number : used ≡ false
-  pub quiet : over a ≡ false
+  pub quiet : isOver (over a) ≡ false
 
 pub places :
-    {A : Type 0} (found : Found A) {joins over : A → Bool} {nodes : List ℤ} {noRoom used : Bool}
-    {a : A} →
-    placeVerdict found joins over nodes noRoom used ≡ yes a → Places found joins over nodes noRoom used a
+    {A : Type 0} (found : Found A) {joins : A → Bool} {over : A → Over} (next : ℕ) {nodes : List ℤ}
+    {noRoom used : Bool} {a : A} →
+    placeVerdict found joins over next nodes noRoom used ≡ yes a → Places found joins over nodes noRoom used a
 unfolding placeVerdict
-places none e = clash cc
-places (some b) {joins} {over} {nodes} {noRoom} {used} {a} e =
+places none next e = clash cc
+places (some b) {joins} {over} next {nodes} {noRoom} {used} {a} e =
     let p = passes-if (someNodeOff nodes) _ _ _ e in
     let q = passes-if (joins b && apart nodes) _ _ _ (p .1) in
     let r = passes-if noRoom _ _ _ (q .1) in
     let s = passes-if used _ _ _ (r .1) in
-    let t = passes-if (over b) _ _ _ (s .1) in
+    let t = passes-if (isOver (over b)) _ _ _ (s .1) in
     let same : b ≡ a = cc in
     record {
       there = ap some same;
@@ -72,18 +75,18 @@ places (some b) {joins} {over} {nodes} {noRoom} {used} {a} e =
       quiet = rw (← same) (t .0);
     }
 
-pub record Moves (pairs : List ℤ) (over : Bool) (shifts : List Shift) : Type 0 where
+pub record Moves (pairs : List ℤ) (first : First) (shifts : List Shift) : Type 0 where
   pub by : shifts ≡ shiftsOf pairs
   pub on : somePairOff pairs ≡ false
-  pub quiet : over ≡ false
+  pub quiet : isOver (first .over) ≡ false
 
-pub moves : {pairs : List ℤ} {over : Bool} {shifts : List Shift} → moveVerdict pairs over ≡ yes shifts →
-    Moves pairs over shifts
+pub moves : {pairs : List ℤ} {first : First} {shifts : List Shift} → moveVerdict pairs first ≡ yes shifts →
+    Moves pairs first shifts
 unfolding moveVerdict
-moves {pairs} {over} e =
+moves {pairs} {first} e =
     let p = passes-if (not (arePairs pairs)) _ _ _ e in
     let q = passes-if (somePairOff pairs) _ _ _ (p .1) in
-    let r = passes-if over _ _ _ (q .1) in record { by = cc; on = q .0; quiet = r .0 }
+    let r = passes-if (isOver (first .over)) _ _ _ (q .1) in record { by = cc; on = q .0; quiet = r .0 }
 
 pub lifts : {A : Type 0} (found : Found A) {a : A} → liftVerdict found ≡ yes a → found ≡ some a
 unfolding liftVerdict

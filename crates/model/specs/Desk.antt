@@ -10,18 +10,19 @@ use lib.ListN.{getD, replicate, length}
 use lib.IntN.{ℤ, pos, natAbs}
 use Rattle.refusal.specs.declared.Refusal.{Refusal}
 use Rattle.refusal.specs.declared.Refusal.the-variants.{Malformed, BadName, NameNotHeld, NoRoom, OutOfRange}
-use Rattle.refusal.specs.declared.Refusal.the-variants.{SplitCollector, Overload, CardInUse, NumbersUsedUp}
+use Rattle.refusal.specs.declared.Refusal.the-variants.{SplitCollector, CardInUse, NumbersUsedUp}
 use Rattle.refusal.specs.Order.{Verdict, no, yes, refuseIf, andThen}
 use Rattle.name.specs.Name.{asked, padded, same}
 use Rattle.card.specs.Judge.{judgeOf}
 use Rattle.clip.specs.Record.{rightLength}
 use Rattle.card.specs.declared.WorkedCard.{WorkedCard}
 use Rattle.terms.specs.Rows.{roles}
-use Rattle.totals.specs.Flow.{overloads, flow, sumOver}
+use Rattle.totals.specs.Flow.{flow, sumOver}
 use Rattle.given.specs.Lists.{anyOf, larger}
 use Rattle.given.specs.Arguments.{Found, none, some, issueOf, offNode, someNodeOff, apart, known, usedUp}
 use Rattle.given.specs.Pairs.{arePairs, somePairOff, Shift, shiftsOf, shiftedIn}
 use Rattle.model.specs.Counts.{nodesMost, cardsMost, transistorsMost}
+use Rattle.model.specs.Faults.{Fault, refuseFirst, faultsOf, faultsAmong}
 
 pub record Held : Type 0 where
   pub issue : ℕ
@@ -179,9 +180,9 @@ abbrev pub showed : Desk → Verdict ℕ → Step
 showed d (no f) = refuse d f
 showed d (yes n) = record { reply = shows (getD (d .volts) n (pos 0)) (total d n); desk = d }
 
--- some transistor that stands would overload at these voltages
-abbrev pub someOverloads : Desk → List ℤ → Bool
-someOverloads d volts = anyOf (λ (t : Standing). overloads (t .worked) (t .nodes) volts) (d .standing)
+-- all that would overload in the transistors that stand, at these voltages
+abbrev pub faultsAt : Desk → List ℤ → List Fault
+faultsAt d volts = faultsAmong (λ (t : Standing). faultsOf (t .issue) (t .worked) (t .nodes) volts) (d .standing)
 
 abbrev pub heldAs : ℕ → List Held → Found Held
 heldAs n cards = firstWith (λ (h : Held). eqb (h .issue) n) cards
@@ -200,7 +201,7 @@ mayLoad d name bytes =
     (λ (c : WorkedCard). refuseIf (leb cardsMost (length (d .cards))) NoRoom
     (refuseIf (usedUp (d .next)) NumbersUsedUp (yes c)))))
 
--- Placing: 12, 13, 14, 11, 17, 15
+-- Placing: 12, 13, 14, 11, 17, then 15 or 18 for the first that would overload, with the number to come
 abbrev pub mayPlace : Desk → ℤ → List ℤ → Verdict Held
 mayPlace d card nodes =
     andThen (known (heldAs (issueOf card) (d .cards)))
@@ -208,14 +209,15 @@ mayPlace d card nodes =
     (refuseIf (h .worked .«rcbli_zero» && apart nodes) SplitCollector
     (refuseIf (leb transistorsMost (length (d .standing))) NoRoom
     (refuseIf (usedUp (d .next)) NumbersUsedUp
-    (refuseIf (overloads (h .worked) (map natAbs nodes) (d .volts)) Overload (yes h))))))
+    (refuseFirst (faultsOf (d .next) (h .worked) (map natAbs nodes) (d .volts)) (yes h))))))
 
--- Moving voltages together: 1, 13 for any pair, then 15 if some transistor that stands would overload where they end
+-- Moving voltages together: 1, 13 for any pair, then 15 or 18 for the first that would overload where they end, of all
+-- transistors that stand
 abbrev pub mayMove : Desk → List ℤ → Verdict (List Shift)
 mayMove d pairs =
     refuseIf (not (arePairs pairs)) Malformed
     (refuseIf (somePairOff pairs) OutOfRange
-    (refuseIf (someOverloads d (movedTo (d .volts) (shiftsOf pairs))) Overload (yes (shiftsOf pairs))))
+    (refuseFirst (faultsAt d (movedTo (d .volts) (shiftsOf pairs))) (yes (shiftsOf pairs))))
 
 -- Lifting: 12
 abbrev pub mayLift : Desk → ℤ → Verdict Standing

@@ -1,6 +1,7 @@
 pub mod Counts
 pub mod Board
 pub mod Verdict
+pub mod Faults
 pub mod Desk
 pub mod Model
 pub mod inner

@@ -12,9 +12,8 @@ use Rattle.name.specs.Name.{padded, nameLength}
 use Rattle.volts.specs.Volts.{givenBack, keptAs}
 use Rattle.card.specs.declared.WorkedCard.{WorkedCard}
 use Rattle.terms.specs.inner.Ready.{readyOf}
-use Rattle.rows.specs.Outcome.{isOver}
 use Rattle.terms.specs.Rows.{roles}
-use Rattle.totals.specs.Flow.{flow, overAt, overloads, withMore}
+use Rattle.totals.specs.Flow.{flow, overAt, withMore}
 use Rattle.given.specs.Lists.{anyOf}
 use Rattle.given.specs.Arguments.{issueOf, usedUp}
 use Rattle.given.specs.Pairs.{Shift, shiftsOf, shiftedIn}
@@ -214,7 +213,7 @@ placed b nodes (yes i) =
 abbrev pub mayPlace : Board → ℤ → List ℤ → Verdict ℕ
 mayPlace b card nodes =
     placeVerdict (cardPlace (issueOf card) (cardsOf b)) (λ (i : ℕ). workedAt (cardsOf b) i .«rcbli_zero»)
-    (λ (i : ℕ). overloads (workedAt (cardsOf b) i) (map natAbs nodes) (voltsOf b)) nodes
+    (λ (i : ℕ). overAt (workedAt (cardsOf b) i) (map natAbs nodes) (voltsOf b)) (b .next) nodes
     (leb transistorsMost (freeTransistor (transistorsOf b))) (usedUp (b .next))
 
 unfoldable pub placedOf : Board → ℤ → List ℤ → Answered
@@ -225,7 +224,7 @@ moved b (no f) = refuse b f
 moved b (yes shifts) = record { board = leveled b (settled b shifts); answer = Done }
 
 abbrev pub mayMove : Board → List ℤ → Verdict (List Shift)
-mayMove b pairs = moveVerdict pairs (isOver (firstOver b (shiftsOf pairs) .over))
+mayMove b pairs = moveVerdict pairs (firstOver b (shiftsOf pairs))
 
 unfoldable pub movedOf : Board → List ℤ → Answered
 movedOf b pairs = moved b (mayMove b pairs)

@@ -6,14 +6,17 @@ use Prim.Native.Nat.{ℕ}
 use lib.Dec.{eqb}
 use lib.IntN.{ℤ, natAbs}
 use Rattle.refusal.specs.declared.Refusal.the-variants.{Malformed, BadName, NameNotHeld, NoRoom, OutOfRange}
-use Rattle.refusal.specs.declared.Refusal.the-variants.{SplitCollector, Overload, CardInUse, NumbersUsedUp}
+use Rattle.refusal.specs.declared.Refusal.the-variants.{SplitCollector, CardInUse, NumbersUsedUp}
 use Rattle.refusal.specs.Order.{Verdict, yes, refuseIf, andThen}
 use Rattle.name.specs.Name.{asked}
 use Rattle.card.specs.declared.WorkedCard.{WorkedCard}
 use Rattle.card.specs.Judge.{judgeOf}
 use Rattle.clip.specs.Record.{rightLength}
+use Rattle.rows.specs.declared.Over.{Over}
+use Rattle.rows.specs.Outcome.{isOver, drawnBy}
 use Rattle.given.specs.Arguments.{Found, known, offNode, someNodeOff, apart}
 use Rattle.given.specs.Pairs.{arePairs, somePairOff, Shift, shiftsOf}
+use Rattle.settle.specs.declared.First.{First}
 
 -- Loading: 1, 2, 6 to 10, 11, 17, from what the record is judged to be
 abbrev pub loadOrder : List ℕ → List ℕ → Verdict WorkedCard → Bool → Bool → Verdict WorkedCard
@@ -27,21 +30,26 @@ loadOrder name bytes judged noRoom usedUp =
 unfoldable pub loadVerdict : List ℕ → List ℕ → Bool → Bool → Verdict WorkedCard
 loadVerdict name bytes noRoom usedUp = loadOrder name bytes (judgeOf bytes) noRoom usedUp
 
--- Placing: 12, 13, 14, 11, 17, 15; C4 and C1 are joined where R_Cbli is 0
-unfoldable pub placeVerdict : {A : Type 0} → Found A → (A → Bool) → (A → Bool) → List ℤ → Bool → Bool → Verdict A
-placeVerdict {A} found joined over nodes noRoom usedUp =
+-- 15 or 18, by what the transistor of a number overloads, if by anything
+abbrev pub refuseOver : {A : Type 0} → ℕ → Over → Verdict A → Verdict A
+refuseOver issue over next = refuseIf (isOver over) (drawnBy issue over) next
+
+-- Placing: 12, 13, 14, 11, 17, 15 or 18 of the number to come; C4 and C1 are joined where R_Cbli is 0
+unfoldable pub placeVerdict :
+    {A : Type 0} → Found A → (A → Bool) → (A → Over) → ℕ → List ℤ → Bool → Bool → Verdict A
+placeVerdict {A} found joined over next nodes noRoom usedUp =
     andThen (known found)
     (λ (a : A). refuseIf (someNodeOff nodes) OutOfRange
     (refuseIf (joined a && apart nodes) SplitCollector
     (refuseIf noRoom NoRoom
     (refuseIf usedUp NumbersUsedUp
-    (refuseIf (over a) Overload (yes a))))))
+    (refuseOver next (over a) (yes a))))))
 
--- Moving voltages: 1, 13, 15
-unfoldable pub moveVerdict : List ℤ → Bool → Verdict (List Shift)
-moveVerdict pairs over =
+-- Moving voltages: 1, 13, 15 or 18 of the first that would overload
+unfoldable pub moveVerdict : List ℤ → First → Verdict (List Shift)
+moveVerdict pairs first =
     refuseIf (not (arePairs pairs)) Malformed
-    (refuseIf (somePairOff pairs) OutOfRange (refuseIf over Overload (yes (shiftsOf pairs))))
+    (refuseIf (somePairOff pairs) OutOfRange (refuseOver (first .issue) (first .over) (yes (shiftsOf pairs))))
 
 -- Lifting: 12
 unfoldable pub liftVerdict : {A : Type 0} → Found A → Verdict A

@@ -8,7 +8,7 @@ use placing::Way;
 use refusal::Refusal;
 use terms::ROLES;
 
-// 12, 13, 14, 11, 17, 15.
+// 12, 13, 14, 11, 17, then 15 or 18 with the number that the transistor would have had.
 pub fn place(
     issues: &mut [u32; places::TRANSISTORS],
     cards: &mut [u32; places::TRANSISTORS],
@@ -49,7 +49,7 @@ pub fn place(
                 volts,
             );
             if settle::is_over(over) {
-                return Answer::Refused(Refusal::Overload);
+                return Answer::Refused(settle::refusal_of(issue, over));
             }
             *totals = l;
             issues[free] = issue;

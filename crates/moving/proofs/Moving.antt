@@ -7,9 +7,9 @@ use native.Mathlib.Omega.{arith}
 use lib.ListN.{length, getD}
 use lib.IntN.{ℤ, pos, natAbs, _+ℤ_}
 use Rattle.refusal.specs.declared.Refusal.{Refusal}
-use Rattle.refusal.specs.declared.Refusal.the-variants.{Malformed, OutOfRange, Overload}
+use Rattle.refusal.specs.declared.Refusal.the-variants.{Malformed, OutOfRange}
 use Rattle.volts.specs.Volts.{givenBack}
-use Rattle.rows.specs.Outcome.{isOver}
+use Rattle.rows.specs.Outcome.{isOver, drawnBy}
 use Rattle.totals.specs.Flow.{overAt}
 use Rattle.totals.specs.inner.Sums.{More}
 use Rattle.totals.specs.inner.Sizes.{flowMost}
@@ -130,7 +130,7 @@ module _ (b : Board) (k : Reached b) (pairs : List ℤ) (good : arePairs pairs �
         (λ i h t. rw (worked-there b g i h (stands i t), nodes-there b i h)))
 
     pub move-over : isOver (first .over) ≡ true →
-        LeavesLevels (movedOf b pairs) (Refused Overload) (b .volts) (b .totals)
+        LeavesLevels (movedOf b pairs) (Refused (drawnBy (first .issue) (first .over))) (b .volts) (b .totals)
     unfolding movedOf moveVerdict
     move-over o = levels-stay {b = b} (movedOf b pairs) (rw (good, on, ← first-is, o))
 
@@ -209,7 +209,8 @@ module _ {b : Board} {numbers powers ticks : List ℕ} {switches : List Bool} {i
             ← (l .totals-are),
           ) more
 
-      pub lent-over : isOver (first .over) ≡ true → LeavesLevels (movedOf b pairs) (Refused Overload) volts totals
+      pub lent-over : isOver (first .over) ≡ true →
+          LeavesLevels (movedOf b pairs) (Refused (drawnBy (first .issue) (first .over))) volts totals
       lent-over o =
           rw (l .volts-are, l .totals-are)
           (move-over b r pairs good on will own-will places own-places own-first own-more o)

@@ -63,7 +63,7 @@ fn naming_any(issues: &[u32; TRANSISTORS], nodes: &[u8; places::ALL_NODES], pair
     set
 }
 
-// 1, 13 for any pair, then 15 where some transistor would overload at the end.
+// 1, 13 for any pair, then 15 or 18 for the first of the transistors that would overload at the end.
 pub fn move_all(
     volts: &mut [u32; NODES],
     totals: &mut [i64; NODES],
@@ -104,7 +104,7 @@ pub fn move_all(
     );
     let over = first.over;
     if settle::is_over(over) {
-        return Answer::Refused(Refusal::Overload);
+        return Answer::Refused(settle::refusal_of(first.issue, over));
     }
     *volts = will;
     *totals = l;

@@ -7,7 +7,7 @@ use Rattle.refusal.specs.declared.Refusal.{Refusal}
 use Rattle.refusal.specs.declared.Refusal.the-variants.{Malformed, BadName, NameTwice, NameNotHeld, ShortOutput}
 use Rattle.refusal.specs.declared.Refusal.the-variants.{NotFinite, WrongLevel, BadExsub, BadOctave, OutOfReach}
 use Rattle.refusal.specs.declared.Refusal.the-variants.{NoRoom, Unknown, OutOfRange, SplitCollector, Overload}
-use Rattle.refusal.specs.declared.Refusal.the-variants.{CardInUse, NumbersUsedUp}
+use Rattle.refusal.specs.declared.Refusal.the-variants.{CardInUse, NumbersUsedUp, Injection}
 
 -- the number of each refusal
 abbrev pub numberOf : Refusal → ℕ
@@ -25,22 +25,40 @@ numberOf NoRoom = 11
 numberOf Unknown = 12
 numberOf OutOfRange = 13
 numberOf SplitCollector = 14
-numberOf Overload = 15
+numberOf (Overload i b) = 15
 numberOf CardInUse = 16
 numberOf NumbersUsedUp = 17
+numberOf (Injection i b) = 18
 
--- the values beside the number: none has any
+-- the values beside the number: for what overloads, the transistor's number and its branch
 abbrev pub valuesOf : Refusal → List ℕ
-valuesOf f = []
+valuesOf (Overload i b) = i ∷ b ∷ []
+valuesOf (Injection i b) = i ∷ b ∷ []
+valuesOf Malformed = []
+valuesOf BadName = []
+valuesOf NameTwice = []
+valuesOf NameNotHeld = []
+valuesOf ShortOutput = []
+valuesOf NotFinite = []
+valuesOf WrongLevel = []
+valuesOf BadExsub = []
+valuesOf BadOctave = []
+valuesOf OutOfReach = []
+valuesOf NoRoom = []
+valuesOf Unknown = []
+valuesOf OutOfRange = []
+valuesOf SplitCollector = []
+valuesOf CardInUse = []
+valuesOf NumbersUsedUp = []
 
 abbrev pub told : Refusal → List ℕ
 told f = numberOf f ∷ valuesOf f
 
 -- ---- no two refusals tell the same
 
--- all of them, in the order of their numbers, which start at 1
-inOrder : List Refusal
-inOrder =
+-- all of them, in the order of their numbers, which start at 1, with two values where there are any
+inOrder : ℕ → ℕ → List Refusal
+inOrder i b =
     Malformed
     ∷ BadName
     ∷ NameTwice
@@ -55,14 +73,15 @@ inOrder =
     ∷ Unknown
     ∷ OutOfRange
     ∷ SplitCollector
-    ∷ Overload
+    ∷ Overload i b
     ∷ CardInUse
     ∷ NumbersUsedUp
+    ∷ Injection i b
     ∷ []
 
--- the refusal whose number stands first among what is told
+-- the refusal whose number stands first among what is told, and its values after it
 refusalTold : List ℕ → Refusal
-refusalTold l = getD inOrder (getD l 0 0 - 1) Malformed
+refusalTold l = getD (inOrder (getD l 1 0) (getD l 2 0)) (getD l 0 0 - 1) Malformed
 
 told-back : (f : Refusal) → refusalTold (told f) ≡ f
 unfolding inOrder refusalTold
@@ -80,9 +99,10 @@ told-back NoRoom = refl
 told-back Unknown = refl
 told-back OutOfRange = refl
 told-back SplitCollector = refl
-told-back Overload = refl
+told-back (Overload i b) = refl
 told-back CardInUse = refl
 told-back NumbersUsedUp = refl
+told-back (Injection i b) = refl
 
 pub told-injective : (f g : Refusal) → told f ≡ told g → f ≡ g
 told-injective f g e = sym (told-back f) ∙ ap refusalTold e ∙ told-back g

@@ -31,12 +31,14 @@ pub enum Refusal {
     OutOfRange,
     // C4 apart from C1 though nothing lies between them
     SplitCollector,
-    // more current than the desk counts
-    Overload,
+    // more current than the desk counts: the transistor's number, and the branch that has a T too large
+    Overload(u32, u32),
     // a card with a transistor standing on it
     CardInUse,
     // every issue number has been given
     NumbersUsedUp,
+    // more injection than the desk counts: the transistor's number, and the branch that has a ratio too large
+    Injection(u32, u32),
 }
 
 pub fn number(f: Refusal) -> u32
@@ -57,8 +59,9 @@ pub fn number(f: Refusal) -> u32
         Refusal::Unknown => 12,
         Refusal::OutOfRange => 13,
         Refusal::SplitCollector => 14,
-        Refusal::Overload => 15,
+        Refusal::Overload(_, _) => 15,
         Refusal::CardInUse => 16,
         Refusal::NumbersUsedUp => 17,
+        Refusal::Injection(_, _) => 18,
     }
 }

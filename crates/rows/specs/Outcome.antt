@@ -5,6 +5,8 @@ use Prim.Native.Nat.{ℕ, suc}
 use lib.Dec.{ltb}
 use lib.ListN.{replicate, length}
 use lib.IntN.{ℤ, pos}
+use Rattle.refusal.specs.declared.Refusal.{Refusal}
+use Rattle.refusal.specs.declared.Refusal.the-variants as refusal
 use Rattle.card.specs.declared.WorkedCard.{WorkedCard}
 use Rattle.rows.specs.declared.Over.{Over}
 use Rattle.rows.specs.declared.Over.the-variants.{Within, Ticks, Injection}
@@ -48,6 +50,13 @@ abbrev pub isOver : Over → Bool
 isOver Within = false
 isOver (Ticks k) = true
 isOver (Injection k) = true
+
+-- the refusal that it draws for the transistor of a number: 15 for a T, 18 for a ratio, with the row's branch; nothing
+-- asks for that of a transistor within its limits, which has no such branch
+abbrev pub drawnBy : ℕ → Over → Refusal
+drawnBy issue Within = refusal.Overload issue 0
+drawnBy issue (Ticks k) = refusal.Overload issue k
+drawnBy issue (Injection k) = refusal.Injection issue k
 
 -- nothing counts where a row overloads
 abbrev pub outcomeAt : Over → List ℤ → Outcome

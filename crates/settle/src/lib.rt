@@ -10,6 +10,7 @@ ghost use Rattle.settle.specs.First.{earlier, firstBelow};
 ghost use Rattle.settle.specs.inner.Working.{gained, overOf, Settling};
 pub use flows::is_over;
 pub use flows::put_in;
+pub use flows::refusal_of;
 pub use flows::take_out;
 use places::TRANSISTORS;
 use rows::Over;

@@ -6,13 +6,22 @@ use Rattle.refusal.specs.Order.{numberTold}
 use Rattle.clip.specs.Limits.{width}
 use Rattle.clip.specs.Clip.{maskOf}
 use Rattle.card.specs.Judge.{judgeOf}
-use Rattle.spelling.specs.Bytes.{space, newline}
+use Rattle.spelling.specs.Bytes.{space, newline, bytes}
 use Rattle.listed.specs.Listed.{listedMask}
 use Rattle.sheet.specs.Digits.{maskDigits, hexDigits, decimalOf, signedDigits, ampereDigits}
 
+-- numbers with a space before each, and the newline
+unfoldable pub numbersLine : List ℕ → List ℕ
+numbersLine [] = newline ∷ []
+numbersLine (n ∷ l) = space ∷ (decimalOf n ++ numbersLine l)
+
 -- a word and a number
 unfoldable pub labelLine : List ℕ → ℕ → List ℕ
-labelLine label n = label ++ (space ∷ (decimalOf n ++ newline ∷ []))
+labelLine label n = label ++ numbersLine (n ∷ [])
+
+-- a refusal, by all that it tells
+unfoldable pub toldLine : List ℕ → List ℕ
+toldLine told = bytes "refused" ++ numbersLine told
 
 -- a card's name, which has no padding, its mask and its number
 abbrev pub cardLine : List ℕ → ℕ → ℕ → List ℕ

@@ -6,11 +6,14 @@ use lib.IntN.{ℤ}
 use Rattle.refusal.specs.Unique.{unique-by-equation}
 use Rattle.sheet.specs.declared.Text.{Text}
 use Rattle.sheet.specs.Text.{textOf}
-use Rattle.sheet.specs.Lines.{labelLine, listingLine, nodeLine, sheetLine}
+use Rattle.sheet.specs.Lines.{labelLine, toldLine, listingLine, nodeLine, sheetLine}
 
 pub unique-label-line : (label : List ℕ) (n : ℕ) {r r′ : Text} → r ≡ textOf (labelLine label n)
     → r′ ≡ textOf (labelLine label n) → r ≡ r′
 unique-label-line label n e f = unique-by-equation e f
+
+pub unique-told-line : (l : List ℕ) {r r′ : Text} → r ≡ textOf (toldLine l) → r′ ≡ textOf (toldLine l) → r ≡ r′
+unique-told-line l e f = unique-by-equation e f
 
 pub unique-listing-line : (name bytes : List ℕ) {r r′ : Text} → r ≡ textOf (listingLine name bytes)
     → r′ ≡ textOf (listingLine name bytes) → r ≡ r′

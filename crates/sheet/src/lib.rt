@@ -1,8 +1,9 @@
 // What the desk's programs print. A text comes back as bytes with their count.
 ghost use mathlib.Core.Path.{_≡_};
+ghost use mathlib.Core.List.{[], _∷_};
 ghost use Rattle.sheet.specs.Text.{textOf};
 ghost use Rattle.sheet.specs.Digits.{maskDigits, wordDigits, hexDigits};
-ghost use Rattle.sheet.specs.Lines.{labelLine, listingLine, nodeLine, sheetLine};
+ghost use Rattle.sheet.specs.Lines.{labelLine, toldLine, listingLine, nodeLine, sheetLine};
 pub use listed::bare_name;
 
 mod gather; // gather.rt: bytes gathered one after the other
@@ -28,9 +29,19 @@ pub fn label_line(label: &[u8], n: u64) -> Text
     ensures { λ r. ⌜ r ≡ textOf (labelLine (now (label .entry)) n) ⌝ }
 {
     let start = gather::append(gather::empty(), label);
-    let spaced = gather::push(start, b' ');
-    let number = digits::decimal(spaced, n);
-    gather::push(number, b'\n')
+    let numbered = lines::spaced(start, n);
+    gather::push(numbered, b'\n')
+}
+
+// A refusal's number, and the transistor and the branch that it tells, as in `refused 15 3 6`.
+pub fn told_line(number: u32, issue: u32, branch: u32) -> Text
+    ensures { λ r. ⌜ r ≡ textOf (toldLine (number ∷ issue ∷ branch ∷ [])) ⌝ }
+{
+    let start = gather::append(gather::empty(), b"refused");
+    let numbered = lines::spaced(start, number as u64);
+    let issued = lines::spaced(numbered, issue as u64);
+    let placed = lines::spaced(issued, branch as u64);
+    gather::push(placed, b'\n')
 }
 
 // A clip mask in hex digits.

@@ -1,8 +1,11 @@
 // What the lines are made of.
 ghost use mathlib.Core.Path.{_≡_};
+ghost use mathlib.Core.List.{_∷_};
 ghost use Rattle.refusal.specs.Order.{numberTold};
 ghost use Rattle.card.specs.Judge.{judgeOf};
 ghost use Rattle.sheet.specs.Text.{Adds};
+ghost use Rattle.spelling.specs.Bytes.{space};
+ghost use Rattle.sheet.specs.Digits.{decimalOf};
 ghost use Rattle.sheet.specs.Lines.{readingOf};
 use crate::Text;
 use crate::digits;
@@ -17,6 +20,13 @@ pub(crate) fn judged(bytes: &[u8]) -> u32
         Judged::Card(_) => 0,
         Judged::Refused(f) => refusal::number(f),
     }
+}
+
+// A number, with a space before it.
+pub(crate) fn spaced(t: Text, n: u64) -> Text
+    ensures { λ r. ⌜ Adds t (space ∷ decimalOf n) r ⌝ }
+{
+    digits::decimal(gather::push(t, b' '), n)
 }
 
 // A node, its microvolts and its ticks.

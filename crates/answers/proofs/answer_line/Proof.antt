@@ -3,7 +3,7 @@ use mir.Syntax.{w64}
 use mir.ValLaws.{toZ-ofZ}
 use borrow.Author.Needs.{needs}
 use Rattle.answers.specs.Answers.{answerLine}
-use Rattle.answers.proofs.Written.{as-label, as-node}
+use Rattle.answers.proofs.Written.{as-node}
 use Rattle.answers.proofs.answer_line.Tie as tie
 use Rattle.answers.proofs.answer_line.Statement.{statement}
 
@@ -47,9 +47,7 @@ returns-9 c = rw (c .before .before .before .enum-told4 .given .1) (c .label5 .e
 
 returns-10 : tie.Need-returns-10
 unfolding answerLine
-returns-10 c =
-    rw (c .before .before .before .before .before .a6 .given .1)
-    (as-label _ (c .before .before .number .ensures) (c .label6 .ensures))
+returns-10 c = rw (c .before .before .before .a6 .given .1) (c .refused .ensures)
 
 returns-11 : tie.Need-returns-11
 unfolding answerLine
@@ -64,6 +62,5 @@ answer-line-spec =
     (λ c. search needs) (λ c. search needs) (λ c κs. search needs) (λ c. search needs) (λ c. search needs)
     (λ c κs. search needs) (λ c. search needs) (λ c. search needs) (λ c κs. search needs) (λ c. search needs)
     (λ c κs. search needs) (λ c. search needs) (λ c. search needs) (λ c κs. search needs) (λ c. search needs)
-    (λ c. search needs) (λ c κs. search needs) (λ c. search needs) (λ c κs. search needs) (λ c. search needs)
-    (λ c. search needs) (λ c κs. search needs) returns returns-2 returns-3 returns-4 returns-5 returns-6 returns-7
-    returns-8 returns-9 returns-10 returns-11)
+    (λ c κs. search needs) (λ c. search needs) (λ c. search needs) (λ c κs. search needs) returns returns-2 returns-3
+    returns-4 returns-5 returns-6 returns-7 returns-8 returns-9 returns-10 returns-11)

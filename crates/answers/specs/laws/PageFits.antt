@@ -6,11 +6,20 @@ use Prim.Native.Nat.{ℕ, suc, _+_, _≤_, _<_}
 use native.Mathlib.Nat.{add-zero, zero-add}
 use native.Mathlib.Omega.{arith}
 use borrow.Author.Tests.{lt-ltb}
+use lib.Dec.{lit≤}
 use lib.ListN.{length, set, length-append, length-take}
 use lib.Seq.{set-append-seam}
+use Rattle.refusal.specs.declared.Refusal.{Refusal}
+use Rattle.refusal.specs.declared.Refusal.the-variants.{Malformed, BadName, NameTwice, NameNotHeld, ShortOutput}
+use Rattle.refusal.specs.declared.Refusal.the-variants.{NotFinite, WrongLevel, BadExsub, BadOctave, OutOfReach}
+use Rattle.refusal.specs.declared.Refusal.the-variants.{NoRoom, Unknown, OutOfRange, SplitCollector, Overload}
+use Rattle.refusal.specs.declared.Refusal.the-variants.{CardInUse, NumbersUsedUp, Injection}
+use Rattle.refusal.specs.Told.{told}
 use Rattle.bytes_le.specs.Buffer.{over}
+use Rattle.sheet.specs.laws.LinesFit.{told-long}
 use Rattle.answers.specs.Page.{page, byteIf, withByte, withBytes, Writes}
-use Rattle.answers.specs.Answers.{shownBytes, errorLine}
+use Rattle.answers.specs.declared.Answer.the-variants.{Refused}
+use Rattle.answers.specs.Answers.{shownBytes, answerLine, errorLine}
 
 -- the first bytes are used, and l has room after them
 after : (a l old : List ℕ) → length l ≤ length old
@@ -32,6 +41,32 @@ after a (b ∷ l) (x ∷ old) h =
 pub page-whole : {l old new : List ℕ} {end : ℕ} → length l ≤ length old → Writes l old 0 new end
     → page new end ≡ page (over l old) (length l)
 page-whole {l} {old} h w = w .written ∙ after [] l old h ∙ ap (page (over l old)) (zero-add (length l))
+
+-- a refusal tells its number, and two values at most
+told-few : (f : Refusal) → length (told f) ≤ 3
+told-few Malformed = lit≤ tt
+told-few BadName = lit≤ tt
+told-few NameTwice = lit≤ tt
+told-few NameNotHeld = lit≤ tt
+told-few ShortOutput = lit≤ tt
+told-few NotFinite = lit≤ tt
+told-few WrongLevel = lit≤ tt
+told-few BadExsub = lit≤ tt
+told-few BadOctave = lit≤ tt
+told-few OutOfReach = lit≤ tt
+told-few NoRoom = lit≤ tt
+told-few Unknown = lit≤ tt
+told-few OutOfRange = lit≤ tt
+told-few SplitCollector = lit≤ tt
+told-few (Overload i b) = lit≤ tt
+told-few CardInUse = lit≤ tt
+told-few NumbersUsedUp = lit≤ tt
+told-few (Injection i b) = lit≤ tt
+
+-- the answer to what is refused
+pub refused-room : (f : Refusal) → length (answerLine (Refused f)) ≤ 71
+unfolding answerLine
+refused-room f = told-long (told f) (told-few f)
 
 -- the answer to a line that is no command
 pub error-room : (first : List ℕ) → length (errorLine first) ≤ 7 + shownBytes

@@ -1,10 +1,11 @@
 -- The number told of currents, that of the first test that fails or 0 where none does; and one reply to one request.
-use mathlib.Core.Path.{_≡_, ap, ap₂, _∙_}
+use mathlib.Core.Path.{_≡_, refl, ap, ap₂, _∙_}
 use mathlib.Core.Bool.{not}
 use mathlib.Core.List.{List}
 use Prim.Native.Nat.{ℕ}
 use lib.Ieee.{Float, eq}
 use lib.IntN.{ℤ}
+use Rattle.refusal.specs.Told.{numberOf}
 use Rattle.refusal.specs.Order.{Verdict, no, yes, andThen, tells, tells-one, numberTold, numberIf, number-first}
 use Rattle.refusal.specs.Order.{then-if}
 use Rattle.refusal.specs.Unique.{unique-by-equation}
@@ -19,14 +20,22 @@ use Rattle.card.specs.laws.Tells.{judge-order}
 use Rattle.branch.specs.declared.Admission.{Admission}
 use Rattle.branch.specs.declared.Admission.the-variants.{Given, Refused}
 use Rattle.branch.specs.declared.Reply.{Reply}
-use Rattle.rows.specs.Outcome.{isOver, outcomeOf}
+use Rattle.rows.specs.declared.Over.{Over}
+use Rattle.rows.specs.declared.Over.the-variants.{Within, Ticks, Injection}
+use Rattle.rows.specs.Outcome.{isOver, drawnBy, outcomeOf}
 use Rattle.branch.specs.Currents.{atVolts, currentsOf, toldReply, Replies}
 
 -- ---- the number
 
+-- of what overloads: 15 for a T, 18 for a ratio
+abbrev pub overNumber : Over → ℕ
+overNumber Within = 0
+overNumber (Ticks k) = 15
+overNumber (Injection k) = 18
+
 -- of a worked card at voltages
 abbrev pub voltsNumber : WorkedCard → List ℤ → ℕ
-voltsNumber c volts = numberIf (someOff volts) 13 (numberIf (isOver (outcomeOf c volts .over)) 15 0)
+voltsNumber c volts = numberIf (someOff volts) 13 (overNumber (outcomeOf c volts .over))
 
 -- on clipped numbers, then from the bytes: loading's tests go first
 abbrev pub numbersNumber : List Float → List ℤ → ℕ
@@ -39,11 +48,16 @@ abbrev pub currentsNumber : List ℕ → List ℤ → ℕ
 currentsNumber s volts =
     numberIf (not (hasWords width s)) 1 (numberIf (not (finiteUp s width)) 6 (numbersNumber (clippedUp s width) volts))
 
+drawn-number : (o : Over) → numberIf (isOver o) (numberOf (drawnBy 0 o)) 0 ≡ overNumber o
+drawn-number Within = refl
+drawn-number (Ticks k) = refl
+drawn-number (Injection k) = refl
+
 pub currents-tells : (s : List ℕ) (volts : List ℤ) → numberTold (currentsOf s volts) ≡ currentsNumber s volts
 unfolding currentsOf
 currents-tells s volts =
     ap (λ (v : Verdict WorkedCard). numberTold (andThen v (λ (c : WorkedCard). atVolts c volts))) (judge-order s)
-    ∙ simp (then-if, number-first)
+    ∙ simp (then-if, number-first, drawn-number)
 
 -- ---- one reply
 

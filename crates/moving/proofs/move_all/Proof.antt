@@ -55,12 +55,14 @@ settle-requires c κs =
 
 returns-3 : tie.Need-returns-3
 returns-3 c =
-    let t = c .before .before in
+    let f = c .before in
+    let t = f .before .before in
     let w = t .before in
     let k = kept w .before in
-    λ b r l. lent-over l _ r (are-pairs k) (none-off (kept w)) _
+    λ b r l. rw (c .refusal-of .ensures)
+    (lent-over l _ r (are-pairs k) (none-off (kept w)) _
     (k .keep-pairs .ensures .volts (not-false _ (kept w .if2 .left))) _ (named w .naming-any .ensures)
-    (t .settle .ensures .0) (t .settle .ensures .1) (sym (c .before .is-over .ensures) ∙ c .if3 .taken)
+    (t .settle .ensures .0) (t .settle .ensures .1) (sym (f .before .is-over .ensures) ∙ f .if3 .taken))
 
 returns-4 : tie.Need-returns-4
 returns-4 c =
@@ -75,4 +77,4 @@ pub move-all-spec : {M : Type 1} → statement M
 move-all-spec =
     tie.close
     (tie.spec (λ c κs. search needs) returns (λ c κs. search needs) returns-2 (λ c κs. none-off c) settle-requires
-    (λ c κs. search needs) returns-3 returns-4)
+    (λ c κs. search needs) (λ c κs. search needs) returns-3 returns-4)

@@ -2,7 +2,7 @@
 use mathlib.Core.Path.{_≡_, _∙_}
 use mathlib.Core.Bool.{Bool, true, false, cond, _&&_}
 use mathlib.Core.List.{List, [], _∷_, _++_}
-use Prim.Native.Nat.{ℕ, zero, suc, _-_, _/_, _%_, _^_, _≤_}
+use Prim.Native.Nat.{ℕ, zero, suc, _+_, _-_, _*_, _/_, _%_, _^_, _≤_}
 use native.Mathlib.Omega.{arith}
 use lib.Dec.{ltb}
 use lib.IntN.{ℤ, natAbs}
@@ -19,7 +19,7 @@ use Rattle.current.specs.Current.{decimals, belowZero, picoOf}
 use Rattle.listed.specs.Listed.{listedMask}
 use Rattle.sheet.specs.Digits.{glyphOf, digitsOf, hexDigits, plainDigits, signOf, ampereDigits}
 use Rattle.sheet.specs.Digits.{maskDigits, mostDigits, wordDigits}
-use Rattle.sheet.specs.Lines.{labelLine, listingLine, readingOf, nodeLine, sheetLine}
+use Rattle.sheet.specs.Lines.{numbersLine, labelLine, toldLine, listingLine, readingOf, nodeLine, sheetLine}
 
 pub text-whole : (l : List ℕ) → length l ≤ room → shown (textOf l) ≡ l
 unfolding textOf
@@ -56,6 +56,14 @@ ampere-long z =
     let d = digits-long 10 decimals n in
     simp length-append (omega arith)
 
+numbers-long : (l : List ℕ) → length (numbersLine l) ≤ 1 + 21 * length l
+unfolding numbersLine
+numbers-long [] = omega arith
+numbers-long (n ∷ l) =
+    let h = plain-long mostDigits n in
+    let k = numbers-long l in
+    rw length-append (omega arith)
+
 reading-long : (node : ℕ) (v ticks : ℤ) → length (readingOf node v ticks) ≤ 64
 unfolding readingOf
 reading-long node v ticks =
@@ -71,8 +79,16 @@ reading-long node v ticks =
 pub label-whole : (label : List ℕ) (n : ℕ) → length label ≤ 80 → shown (textOf (labelLine label n)) ≡ labelLine label n
 unfolding labelLine
 label-whole label n h =
-    let k = plain-long mostDigits n in
-    text-whole (labelLine label n) (simp length-append (omega arith))
+    let k = numbers-long (n ∷ []) in
+    text-whole (labelLine label n) (rw length-append (omega arith))
+
+-- a refusal's number and two values
+pub told-long : (l : List ℕ) → length l ≤ 3 → length (toldLine l) ≤ 71
+unfolding toldLine
+told-long l h = let k = numbers-long l in rw length-append (omega arith)
+
+pub told-whole : (l : List ℕ) → length l ≤ 3 → shown (textOf (toldLine l)) ≡ toldLine l
+told-whole l h = let k = told-long l h in text-whole (toldLine l) (omega arith)
 
 pub listing-whole : (name bytes : List ℕ) → length name ≤ nameLength
     → shown (textOf (listingLine name bytes)) ≡ listingLine name bytes

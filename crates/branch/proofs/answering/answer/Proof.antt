@@ -1,12 +1,11 @@
 -- `branch::answering::answer` meets its contract: each arm is the reply for its kind of outcome.
-use mathlib.Core.Path.{_≡_, sym, ap, subst, _∙_}
-use mathlib.Core.Bool.{true}
+use mathlib.Core.Path.{_≡_, refl, sym, ap, subst, _∙_}
 use mathlib.Core.List.{map}
 use borrow.Author.Needs.{needs}
 use Rattle.volts.specs.Volts.{givenBack}
 use Rattle.card.specs.declared.WorkedCard.{WorkedCard}
 use Rattle.terms.specs.declared.Ready.{Ready}
-use Rattle.rows.specs.Outcome.{isOver, outcomeOf}
+use Rattle.rows.specs.Outcome.{outcomeOf}
 use Rattle.terms.specs.inner.Ready.{IsReady}
 use Rattle.terms.proofs.Laws.{ready-card, ready-made}
 use Rattle.branch.proofs.Replying.{reply-given, reply-over}
@@ -37,11 +36,15 @@ worked c =
     let same = ap (λ (r : Ready). r .card) (ready .prepare .ensures) ∙ ready-card (s .args .c) in
     c .work-out .ensures ∙ ap (λ (x : WorkedCard). outcomeOf x (map givenBack (s .args .t2))) same
 
-over : (c : tie.After-turned-away) → isOver (c .before .before .before .work-out .result .over) ≡ true
-over c = ap isOver (c .before .enum-told2 .given .1)
+returns-2 : tie.Need-returns-2
+returns-2 c =
+    let ticks = c .before .before in
+    reply-over (worked (ticks .before .before)) (ticks .o .given .1) refl (c .turned-away .ensures)
 
-over2 : (c : tie.After-turned-away2) → isOver (c .before .before .before .work-out .result .over) ≡ true
-over2 c = ap isOver (c .before .enum-told3 .given .1)
+returns-3 : tie.Need-returns-3
+returns-3 c =
+    let injection = c .before .before in
+    reply-over (worked (injection .before .before)) (injection .o2 .given .1) refl (c .turned-away2 .ensures)
 
 pub answer-spec : {M : Type 1} → statement M
 answer-spec =
@@ -56,5 +59,5 @@ answer-spec =
     (λ c. search needs)
     (λ c κs. search needs)
     (λ c. reply-given (worked (c .before .before .before)) (c .before .enum-told .given .1))
-    (λ c. reply-over (worked (c .before .before .before)) (over c) (c .turned-away .ensures))
-    (λ c. reply-over (worked (c .before .before .before)) (over2 c) (c .turned-away2 .ensures)))
+    returns-2
+    returns-3)

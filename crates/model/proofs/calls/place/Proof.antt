@@ -92,12 +92,13 @@ put-in-requires c κs =
 
 returns : tie.Need-returns
 returns c =
-    let t = c .before .before in
+    let f = c .before in
+    let t = f .before .before in
     let k = worked t in
     let m = went k in
-    λ b r l. lent-over l r (start m .args .card) _ (long m) (asked m .nodes-of .ensures) (way-is m) (k .before .way2
-    .given .1)
-    (t .put-in .ensures .0) (sym (c .before .is-over .ensures) ∙ c .if1 .taken)
+    λ b r l. rw (c .refusal-of .ensures)
+    (lent-over l r (start m .args .card) _ (long m) (asked m .nodes-of .ensures) (way-is m) (k .before .way2 .given .1)
+    (t .put-in .ensures .0) (sym (f .before .is-over .ensures) ∙ f .if1 .taken))
 
 returns-2 : tie.Need-returns-2
 returns-2 c =
@@ -121,7 +122,8 @@ place-spec =
     tie.close
     (tie.spec (λ c κs. search needs) (λ c κs. search needs) (λ c κs. search needs) (λ c. search needs) (λ c. search
     needs)
-    (λ c κs. search needs) put-in-requires (λ c κs. search needs) returns (λ c. let h = free-there c in omega arith)
+    (λ c κs. search needs) put-in-requires (λ c κs. search needs) (λ c κs. search needs) returns
+    (λ c. let h = free-there c in omega arith)
     (λ c. let h = free-there c in omega arith) (λ c. let h = card-there c in omega arith)
     (λ c. let h = card-there c in omega arith) (λ c. let h = free-there (c .before) in omega arith)
     (λ c. let h = free-there (c .before) in omega arith) (λ c. let h = card-there (c .before) in omega arith)
