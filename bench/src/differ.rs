@@ -86,11 +86,39 @@ fn name(d: &mut Dice) -> Vec<u8> {
     (0..n).map(|_| *d.one_of(b"abcxyz019~!_")).collect()
 }
 
+/// Up to 256 names that all fall on one mark of the desk, since their two words always have the same sum; half of the
+/// time one of them stands twice.
+fn crowd(d: &mut Dice) -> Vec<Vec<u8>> {
+    let mut names: Vec<Vec<u8>> = (0..2 + d.roll(255) as usize)
+        .map(|i| {
+            let (a, b) = ((i % 16) as u8, (i / 16) as u8);
+            [
+                [97 + a, 97 + b, b'n', b'n'],
+                [b'n'; 4],
+                [112 - a, 112 - b, b'n', b'n'],
+                [b'n'; 4],
+            ]
+            .concat()
+        })
+        .collect();
+    if d.roll(2) == 0 {
+        let (from, to) = (d.roll(names.len() as u64), d.roll(names.len() as u64));
+        names[to as usize] = names[from as usize].clone();
+    }
+    names
+}
+
 /// A library, damaged one time in three.
 fn library(d: &mut Dice) -> Vec<u8> {
-    let n = d.roll(6) as usize;
-    let names: Vec<Vec<u8>> = (0..n).map(|_| name(d)).collect();
-    let mut b = vec![1, 0, n as u8, 0, 16, 0, 0, 0];
+    let names: Vec<Vec<u8>> = if d.roll(8) == 0 {
+        crowd(d)
+    } else {
+        (0..d.roll(6)).map(|_| name(d)).collect()
+    };
+    let n = names.len();
+    let mut b = vec![1, 0];
+    b.extend((n as u16).to_le_bytes());
+    b.extend(16u32.to_le_bytes());
     b.extend((16 + 16 * n as u32).to_le_bytes());
     b.extend((16 + 144 * n as u32).to_le_bytes());
     for x in &names {

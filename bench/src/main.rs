@@ -2,7 +2,8 @@
 //!
 //!   bench vectors FOLDER    this implementation against a folder of outside vectors
 //!   bench desk SCRIPT       what the desk must answer to a script
-//!   bench time NAME TIMES   one of the timed runs: root, exponential, currents, saturated, empty, still, move, all, singly, together, pair, read, find
+//!   bench time NAME TIMES   one of the timed runs: root, exponential, currents, saturated, empty, still, move, all,
+//!                           singly, together, pair, read, find, and the last two with _alike and _crowded
 //!   bench differ ROUNDS     random inputs through the built programs (`./desk`, `./listing` of the project) and this implementation
 
 mod board;
@@ -247,11 +248,56 @@ fn time_pair(times: u64) {
     println!("{}", told(&b));
 }
 
+/// A set of 256 names, how the last one is changed, and the one of place 200, which is found.
+struct Names {
+    name: fn(usize) -> Vec<u8>,
+    change: fn(&mut [u8], u8),
+    found: &'static [u8],
+}
+
+/// npn000 to npn255.
+const PLAIN: Names = Names {
+    name: |i| format!("npn{i:03}").into_bytes(),
+    change: |l, c| l[4102] = 48 + c,
+    found: b"npn200",
+};
+
+/// Names that share their first fourteen bytes; no more than 95 that are well-formed share fifteen.
+const ALIKE: Names = Names {
+    name: |i| {
+        let mut name = vec![b'n'; 16];
+        name[14] = 97 + (i % 16) as u8;
+        name[15] = 97 + (i / 16) as u8;
+        name
+    },
+    change: |l, c| l[4110] = 113 + c,
+    found: b"nnnnnnnnnnnnnnim",
+};
+
+/// Names whose two words always have the same sum, so that all fall on one mark of the desk.
+const CROWDED: Names = Names {
+    name: |i| {
+        let mut name = vec![b'n'; 16];
+        name[0] = 97 + (i % 16) as u8;
+        name[8] = 112 - (i % 16) as u8;
+        name[1] = 97 + (i / 16) as u8;
+        name[9] = 112 - (i / 16) as u8;
+        name
+    },
+    change: |l, c| {
+        l[4102] = 48 + c;
+        l[4110] = 57 - c;
+    },
+    found: b"imnnnnnnhdnnnnnn",
+};
+
 /// A good library of 256 cards.
-fn timed_library() -> Vec<u8> {
-    let names: Vec<u8> = (0..256)
-        .flat_map(|i| format!("{:\0<16}", format!("npn{i:03}")).into_bytes())
-        .collect();
+fn timed_library(set: &Names) -> Vec<u8> {
+    let mut names = vec![0; 4096];
+    for (i, field) in names.chunks_mut(16).enumerate() {
+        let name = (set.name)(i);
+        field[..name.len()].copy_from_slice(&name);
+    }
     let words: Vec<u64> = timed_record()
         .chunks(8)
         .map(|b| u64::from_le_bytes(b.try_into().unwrap()))
@@ -261,22 +307,22 @@ fn timed_library() -> Vec<u8> {
     l
 }
 
-fn time_read(times: usize) {
-    let mut l = timed_library();
+fn time_read(times: usize, set: &Names) {
+    let mut l = timed_library(set);
     let (mut names, mut words, mut sum) = (vec![0; 4096], vec![0; 4096], 0);
     for n in 0..times {
-        l[4102] = 48 + (n % 10) as u8;
+        (set.change)(&mut l, (n % 10) as u8);
         library::read(std::hint::black_box(&l), &mut names, &mut words).unwrap();
         sum = (sum + 1 + words[n % 4096] % 7 + names[n % 4096] as u64) % (1 << 30);
     }
     println!("{sum}");
 }
 
-fn time_find(times: usize) {
-    let (mut l, mut sum) = (timed_library(), 0);
+fn time_find(times: usize, set: &Names) {
+    let (mut l, mut sum) = (timed_library(set), 0);
     for n in 0..times {
-        l[4102] = 48 + (n % 10) as u8;
-        let at = library::locate(std::hint::black_box(&l), b"npn200").unwrap();
+        (set.change)(&mut l, (n % 10) as u8);
+        let at = library::locate(std::hint::black_box(&l), set.found).unwrap();
         sum += 1 + l[at + n % 128] as u64;
     }
     println!("{sum}");
@@ -296,8 +342,12 @@ fn time(name: &str, times: u64) {
         "singly" => time_stages(times, false),
         "together" => time_stages(times, true),
         "pair" => time_pair(times),
-        "read" => time_read(times as usize),
-        "find" => time_find(times as usize),
+        "read" => time_read(times as usize, &PLAIN),
+        "find" => time_find(times as usize, &PLAIN),
+        "read_alike" => time_read(times as usize, &ALIKE),
+        "find_alike" => time_find(times as usize, &ALIKE),
+        "read_crowded" => time_read(times as usize, &CROWDED),
+        "find_crowded" => time_find(times as usize, &CROWDED),
         _ => println!("no timed run {name}"),
     }
 }

@@ -1,11 +1,8 @@
 // A card's record in a library: found by the card's name, or handed out by its number.
 use refusal::Refusal;
 ghost use mathlib.Core.Path.{_≡_};
-ghost use Prim.Native.Nat.{_≤_};
-ghost use lib.ListN.{length, take};
 ghost use Rattle.refusal.specs.Order.{tells};
-ghost use Rattle.name.specs.Name.{same};
-ghost use Rattle.roll.specs.Directory.{nameBytes, namesIn, placeOf};
+ghost use Rattle.roll.specs.Directory.{namesIn, placeOf};
 ghost use Rattle.finding.specs.Answers.{toldLocated, locating, Finds, HandsOut};
 use bytes_le::WORD_BYTES;
 use directory::HEADER_BYTES;
@@ -18,23 +15,16 @@ pub enum Located {
     Refused(Refusal),
 }
 
-// Whether a directory starts with the padded name x: its bytes are copied before they are compared.
-fn begins(d: &[u8], x: &[u8; NAME_BYTES]) -> bool
-    requires { ⌜ nameBytes ≤ length (now d) ⌝ }
-    ensures { λ r. ⌜ r ≡ same (now (x .entry)) (take nameBytes (now (d .entry))) ⌝ }
-{
-    let held = name::pad(&d[..NAME_BYTES]);
-    name::is_same(x, &held)
-}
-
-// The place of a padded name among those of a directory; their count where it is none of them.
+// The place of a padded name among those of a directory, compared where they stand; their count where it is none of them.
 fn search(d: &[u8], x: &[u8; NAME_BYTES]) -> usize
     ensures { λ r. ⌜ r ≡ placeOf (now (x .entry)) (namesIn (now (d .entry))) ⌝ }
 {
+    let low = bytes_le::u64_at(x, 0);
+    let high = bytes_le::u64_at(x, WORD_BYTES);
     let mut t = d;
     let mut i = 0;
     while NAME_BYTES <= t.len() {
-        if begins(t, x) {
+        if name::stands_at(t, 0, low, high) {
             return i;
         }
         t = &t[NAME_BYTES..];

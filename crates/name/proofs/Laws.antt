@@ -1,7 +1,7 @@
 -- One turn of each loop over a name's bytes, on plain values, and what two equal words say of two names.
 use mathlib.Core.Path.{_≡_, refl, sym, _∙_, ap, ap₂}
-use mathlib.Core.Bool.{Bool, true, false, cond, _&&_}
-use mathlib.Core.List.{List, [], _∷_, _++_, append-nil}
+use mathlib.Core.Bool.{Bool, true, false, cond, _&&_, true≢false}
+use mathlib.Core.List.{List, [], _∷_, _++_}
 use Prim.Native.Nat.{ℕ, zero, suc, _+_, _-_, _^_, _<_, _≤_, zero-le}
 use native.Mathlib.Nat.{le-of-eq, sub-zero}
 use native.Mathlib.Numerals.{add-one}
@@ -172,13 +172,6 @@ is-padded x v h =
     ∙ ap (λ (l : List ℕ). take nameLength x ++ l)
     (drop-zeros (length (take nameLength x)) nameLength ∙ ap (λ (n : ℕ). replicate n 0) e)
 
--- sixteen bytes have no padding
-pub padded-full : (x : List ℕ) → length x ≡ nameLength → padded x ≡ x
-unfolding padded
-padded-full x h =
-    let e : nameLength - length x ≡ 0 = omega arith in
-    ap₂ (λ (l : List ℕ) (n : ℕ). l ++ replicate n 0) (take-all nameLength x (le-of-eq h)) e ∙ append-nil x
-
 -- ---- two names as words
 
 unlike : (a b : List ℕ) (t : Bool) → same a b ≡ t → (a ≡ b → ⊥) → same a b ≡ false
@@ -191,6 +184,21 @@ same-not a b h = unlike a b (same a b) refl h
 
 pub same-eq : {a b : List ℕ} → a ≡ b → same a b ≡ true
 same-eq {a} {b} e = ap (same a) (sym e) ∙ same-self a
+
+-- which of two names stands first does not matter
+pub same-swap : (a b : List ℕ) → same a b ≡ same b a
+same-swap a b = go (same a b) refl
+  where
+    go : (t : Bool) → same a b ≡ t → t ≡ same b a
+    go true e = sym (same-eq (sym (same-equal a b e)))
+    go false e = sym (same-not b a (λ f. true≢false (sym (same-eq (sym f)) ∙ e)))
+
+-- no name stands where there is no room for sixteen bytes
+pub short-apart : (x y : ℕ) (s : List ℕ) (at : ℕ) → length s < at + nameLength
+    → same (bytesOf 8 x ++ bytesOf 8 y) (take nameLength (drop at s)) ≡ false
+short-apart x y s at h =
+    let few : length (take nameLength (drop at s)) < nameLength = rw (length-take, length-drop) (omega arith) in
+    same-not (bytesOf 8 x ++ bytesOf 8 y) (take nameLength (drop at s)) (λ e. let l = ap length e in omega arith)
 
 -- x and y are the two words of the name a
 pub record Words (a : List ℕ) (x y : ℕ) : Type 0 where
@@ -211,6 +219,10 @@ words-of t {x} {y} h p q =
       high = q .value ∙ ap le (sym (ap (drop 8) f ∙ drop-at (take 8 t) (take 8 (drop 8 t)) 8 k));
       bytes = f ∙ ap₂ _++_ (sym (p .bytes l)) (sym (q .bytes m));
     }
+
+-- the words of sixteen bytes, all of which are the name
+pub words-in : (a : List ℕ) {x y : ℕ} → length a ≡ nameLength → Word a x → Word (drop 8 a) y → Words a x y
+words-in a h p q = rw (take-all nameLength a (le-of-eq h)) at (words-of a (le-of-eq (sym h)) p q)
 
 -- two numbers of 64 bits are the words of the name that they spell
 pub words-made : {x y : ℕ} → x < 2 ^ 64 → y < 2 ^ 64 → Words (bytesOf 8 x ++ bytesOf 8 y) x y

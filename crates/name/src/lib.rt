@@ -1,7 +1,10 @@
 // Names of cards: sixteen bytes with their padding, or as they are asked for, without it. Every function takes any slice.
 ghost use mathlib.Core.Path.{_≡_};
-ghost use lib.ListN.{length, take};
+ghost use mathlib.Core.List.{_++_};
+ghost use lib.ListN.{length, take, drop};
+ghost use Rattle.bytes_le.specs.Le.{wordBytes, bytesOf};
 ghost use Rattle.name.specs.Name.{nameLength, mark, run, zeros, wellFormed, asked, padded, same};
+use bytes_le::WORD_BYTES;
 
 // The bytes of a name with its padding.
 pub const LENGTH: usize = 16;
@@ -93,16 +96,20 @@ pub fn pad(x: &[u8]) -> [u8; LENGTH]
     held
 }
 
-// Whether two padded names are one, as two words each.
-pub fn is_same(a: &[u8; LENGTH], b: &[u8; LENGTH]) -> bool
-    ensures { λ r. ⌜ r ≡ same (now (a .entry)) (now (b .entry)) ⌝ }
+// Whether the name with these two words stands at a place: its bytes are compared there, a word at a time.
+pub fn stands_at(s: &[u8], at: usize, low: u64, high: u64) -> bool
+    ensures { λ r. ⌜ r ≡ same (bytesOf wordBytes low ++ bytesOf wordBytes high) (take nameLength (drop at (now (s .entry)))) ⌝ }
 {
-    let low = bytes_le::u64_at(a, 0);
-    let high = bytes_le::u64_at(a, 8);
-    let other_low = bytes_le::u64_at(b, 0);
-    let other_high = bytes_le::u64_at(b, 8);
-    if low != other_low {
+    if s.len() < LENGTH {
         return false;
     }
-    high == other_high
+    if s.len() - LENGTH < at {
+        return false;
+    }
+    let x = bytes_le::u64_at(s, at);
+    let y = bytes_le::u64_at(s, at + WORD_BYTES);
+    if low != x {
+        return false;
+    }
+    high == y
 }

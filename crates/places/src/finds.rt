@@ -1,16 +1,15 @@
 // Looking through the places of cards and transistors. A place whose issue is 0 is empty.
 ghost use mathlib.Core.Path.{_≡_};
-ghost use Prim.Native.Nat.{_*_, _<_};
-ghost use Rattle.name.specs.Name.{nameLength};
-ghost use Rattle.deck.specs.Stretch.{stretch};
+ghost use mathlib.Core.Bool.{cond};
 ghost use Rattle.given.specs.Lists.{larger};
 ghost use Rattle.places.specs.Counts.{cardsMost, transistorsMost};
-ghost use Rattle.places.specs.Finding.{onCard, issueIf};
+ghost use Rattle.places.specs.Finding.{onCard};
 ghost use Rattle.places.specs.inner.Parts.{placeOr};
 ghost use Rattle.places.specs.inner.Flat.{firstAt, numberPlace, anyOn, highestIn};
 use crate::ALL_NAMES;
 use crate::CARDS;
 use crate::TRANSISTORS;
+use bytes_le::WORD_BYTES;
 
 pub fn find_card(held: &[u32; CARDS], n: u32) -> usize
     ensures { λ r. ⌜ r ≡ firstAt cardsMost n (now (held .entry)) ⌝ }
@@ -74,44 +73,34 @@ pub fn any_on(issues: &[u32; TRANSISTORS], cards: &[u32; TRANSISTORS], n: u32) -
     false
 }
 
-fn name_at(names: &[u8; ALL_NAMES], i: usize) -> [u8; name::LENGTH]
-    requires { ⌜ i < cardsMost ⌝ }
-    ensures { λ r. ⌜ r ≡ stretch 0 (now (names .entry)) (nameLength * i) nameLength ⌝ }
-{
-    let mut own = [0u8; name::LENGTH];
-    let at = name::LENGTH * i;
-    for k in 0..name::LENGTH {
-        own[k] = names[at + k];
-    }
-    own
-}
-
 fn larger_of(a: u32, b: u32) -> u32
     ensures { λ r. ⌜ r ≡ larger a b ⌝ }
 {
     if a < b { b } else { a }
 }
 
-// The best issue so far, or this one where it has the name and is higher.
-fn better_of(issue: u32, own: &[u8; name::LENGTH], asked: &[u8; name::LENGTH], best: u32) -> u32
-    ensures { λ r. ⌜ r ≡ larger (issueIf (now (asked .entry)) issue (now (own .entry))) best ⌝ }
+// The best issue so far, or this one where it is of the name and higher.
+fn better_of(issue: u32, named: bool, best: u32) -> u32
+    ensures { λ r. ⌜ r ≡ larger (cond named issue 0) best ⌝ }
 {
-    if name::is_same(own, asked) {
+    if named {
         return larger_of(issue, best);
     }
     best
 }
 
-// The highest issue among the cards of a name.
+// The highest issue among the cards of a name; each card's is compared where it stands.
 pub fn highest(held: &[u32; CARDS], names: &[u8; ALL_NAMES], asked: &[u8; name::LENGTH]) -> u32
     ensures { λ r. ⌜ r ≡ highestIn (now (asked .entry)) (now (held .entry)) (now (names .entry)) ⌝ }
 {
+    let low = bytes_le::u64_at(asked, 0);
+    let high = bytes_le::u64_at(asked, WORD_BYTES);
     let mut best: u32 = 0;
     let mut i = CARDS;
     while 0 < i {
         i -= 1;
-        let own = name_at(names, i);
-        let m = better_of(held[i], &own, asked, best);
+        let named = name::stands_at(names, name::LENGTH * i, low, high);
+        let m = better_of(held[i], named, best);
         best = m;
     }
     best

@@ -1,30 +1,31 @@
 -- The search for a name that stands twice: from the last name on, with a mark made for every name passed.
 use mathlib.Core.Path.{_≡_, refl, sym, _∙_, ap, ap₂}
-use mathlib.Core.Bool.{Bool, true, false, _&&_, _||_}
+use mathlib.Core.Bool.{Bool, true, false, _&&_, _||_, and-false}
 use mathlib.Core.List.{List, [], _∷_, _++_}
-use Prim.Native.Nat.{ℕ, zero, suc, _+_, _*_, _-_, _<_, _≤_}
+use Prim.Native.Nat.{ℕ, zero, suc, _+_, _*_, _-_, _/_, _<_, _≤_}
 use native.Mathlib.Omega.{arith}
-use lib.Dec.{lit<, ltb}
-use lib.ListN.{length, take, drop, getD, set, replicate, length-drop, length-set}
-use lib.Seq.{drop-drop, getD-set-same}
+use lib.Dec.{lit<}
+use lib.ListN.{length, take, drop, replicate, length-drop, length-set}
+use lib.Seq.{drop-drop, length-take-le}
 use Rattle.bytes_le.specs.Le.{le, bytesOf, Word, wordBytes}
 use Rattle.bytes_le.proofs.Laws.{rest}
 use Rattle.name.specs.Name.{same, same-equal}
-use Rattle.name.proofs.Laws.{Words, words-of}
+use Rattle.name.proofs.Laws.{Words, words-in}
 use Rattle.roll.specs.Directory.{among, twice, nameBytes, namesHeld, namesIn}
 use Rattle.roll.proofs.Names.{never, or-true, or-false, cut-none, cut-more}
-use Rattle.roll.specs.inner.Marks.{slotOf, slots}
+use Rattle.roll.specs.inner.Marks.{slotOf, slots, digits, markWords, made, withMark}
+use Rattle.roll.proofs.Marks.{is-set, stays}
 
 -- the number of a name's mark
 abbrev markOf : List ℕ → ℕ
 markOf x = slotOf (le (take wordBytes x)) (le (drop wordBytes x))
 
--- the part of a directory from its name i on, and the part of a slice after its first name
-abbrev pub fromName : ℕ → List ℕ → List ℕ
-fromName i d = take (length d - nameBytes * i) (drop (nameBytes * i) d)
+-- the name i of a directory, and the part after it
+abbrev pub nameAt : ℕ → List ℕ → List ℕ
+nameAt i d = take (nameBytes * i + nameBytes - nameBytes * i) (drop (nameBytes * i) d)
 
-abbrev pub afterName : List ℕ → List ℕ
-afterName t = take (length t - nameBytes) (drop nameBytes t)
+abbrev pub afterName : ℕ → List ℕ → List ℕ
+afterName i d = take (length d - (nameBytes * i + nameBytes)) (drop (nameBytes * i + nameBytes) d)
 
 true-false : {X : Type 0} → true ≡ false → X
 true-false e = never (cc)
@@ -32,11 +33,11 @@ true-false e = never (cc)
 -- of the names from place i on none stands twice, and each has its mark
 pub record Marked (d marks : List ℕ) (i : ℕ) : Type 0 where
   pub within : nameBytes * i ≤ length d
-  pub kept : length marks ≡ slots
+  pub kept : length marks ≡ markWords
   pub single : twice (namesIn (drop (nameBytes * i) d)) ≡ false
-  pub marked : (x : List ℕ) → among x (namesIn (drop (nameBytes * i) d)) ≡ true → getD marks (markOf x) 0 ≡ 1
+  pub marked : (x : List ℕ) → among x (namesIn (drop (nameBytes * i) d)) ≡ true → made marks (markOf x) ≡ true
 
-pub marks-none : (d : List ℕ) → Marked d (replicate slots 0) (namesHeld d)
+pub marks-none : (d : List ℕ) → Marked d (replicate markWords 0) (namesHeld d)
 marks-none d =
     let n : ℕ = namesHeld d in
     let short : length (drop (nameBytes * n) d) < nameBytes = rw length-drop (omega arith) in
@@ -47,14 +48,6 @@ marks-none d =
       single = ap twice none;
       marked = λ x e. true-false (sym e ∙ ap (among x) none);
     }
-
--- a mark stays when another is made
-stays : (l : List ℕ) (i k : ℕ) → getD l i 0 ≡ 1 → getD (set l k 1) i 0 ≡ 1
-stays [] i k e = e
-stays (x ∷ l) zero zero e = refl
-stays (x ∷ l) zero (suc k) e = e
-stays (x ∷ l) (suc i) zero e = e
-stays (x ∷ l) (suc i) (suc k) e = stays l i k e
 
 -- one that stands twice further on stands twice
 later : (d : List ℕ) (i : ℕ) → nameBytes * i ≤ length d → twice (namesIn (drop (nameBytes * i) d)) ≡ true
@@ -76,37 +69,31 @@ later d (suc i) h e =
     or-right true = refl
     or-right false = refl
 
-by-mark : (m : ℕ) (a b : Bool) → (a ≡ true → m ≡ 1) → b ≡ (ltb 0 m && a) → b ≡ false → a ≡ false
-by-mark m true b f e g = true-false (sym (e ∙ ap (λ (n : ℕ). ltb 0 n && true) (f refl)) ∙ g)
+by-mark : (m a b : Bool) → (a ≡ true → m ≡ true) → b ≡ (m && a) → b ≡ false → a ≡ false
+by-mark m true b f e g = true-false (sym (e ∙ ap (λ (t : Bool). t && true) (f refl)) ∙ g)
 by-mark m false b f e g = refl
 
-by-true : (m : ℕ) (a b : Bool) → b ≡ (ltb 0 m && a) → b ≡ true → a ≡ true
+by-true : (m a b : Bool) → b ≡ (m && a) → b ≡ true → a ≡ true
 by-true m true b e g = refl
-by-true m false b e g = true-false (sym g ∙ e ∙ and-right (ltb 0 m))
-  where
-    and-right : (t : Bool) → t && false ≡ false
-    and-right true = refl
-    and-right false = refl
+by-true m false b e g = true-false (sym g ∙ e ∙ and-false m)
 
-mark-cons : (x y : List ℕ) (l : List (List ℕ)) (marks : List ℕ) (t : Bool) → same x y ≡ t → (t || among x l) ≡ true
-    → (x ≡ y → getD marks (markOf x) 0 ≡ 1) → (among x l ≡ true → getD marks (markOf x) 0 ≡ 1) → getD marks (markOf x) 0 ≡ 1
-mark-cons x y l marks true e h here there = here (same-equal x y e)
-mark-cons x y l marks false e h here there = there h
+-- a name among those of a longer list is its first or one of the rest
+among-cons : {P : Type 0} (x y : List ℕ) (l : List (List ℕ)) (t : Bool) → same x y ≡ t → (t || among x l) ≡ true
+    → (x ≡ y → P) → (among x l ≡ true → P) → P
+among-cons x y l true e h here there = here (same-equal x y e)
+among-cons x y l false e h here there = there h
 
 -- all names passed
 pub marks-all : {d marks : List ℕ} {i : ℕ} → Marked d marks i → i ≤ 0 → false ≡ twice (namesIn d)
 marks-all {d} {marks} {i} v h = let e : i ≡ 0 = omega arith in sym (rw e at (v .single))
 
--- the part from the name before place i on holds that name
-pub holds-name : {d marks : List ℕ} {i : ℕ} → Marked d marks i → 0 < i → nameBytes ≤ length (fromName (i - 1) d)
-holds-name v h = let w = v .within in rw (rest, length-drop) (omega arith)
-
--- one turn: t is the directory from the name before place i on, with its words low and high and its mark's number k;
--- found is what looking it up gave
+-- one turn: the name before place i has the words low and high and its mark the number k; found is what looking it
+-- up gave
 module _ {d marks : List ℕ} {i : ℕ} (v : Marked d marks i) (pos : 0 < i) {low high k : ℕ} {found : Bool}
-    (p : Word (fromName (i - 1) d) low) (q : Word (drop wordBytes (fromName (i - 1) d)) high)
+    (p : Word (nameAt (i - 1) d) low) (q : Word (drop wordBytes (nameAt (i - 1) d)) high)
     (ek : k ≡ slotOf low high) (hk : k < slots)
-    (ef : found ≡ (ltb 0 (getD marks k 0) && among (bytesOf wordBytes low ++ bytesOf wordBytes high) (namesIn (afterName (fromName (i - 1) d))))) where
+    (ef : found ≡ (made marks k
+    && among (bytesOf wordBytes low ++ bytesOf wordBytes high) (namesIn (afterName (i - 1) d)))) where
   t : List ℕ
   t = drop (nameBytes * (i - 1)) d
 
@@ -114,31 +101,33 @@ module _ {d marks : List ℕ} {i : ℕ} (v : Marked d marks i) (pos : 0 < i) {lo
   unfolding t
   long = let h = v .within in rw length-drop (omega arith)
 
+  there : nameBytes * (i - 1) + nameBytes ≡ nameBytes * i
+  there = omega arith
+
   next : drop nameBytes t ≡ drop (nameBytes * i) d
   unfolding t
-  next =
-      let e : nameBytes * (i - 1) + nameBytes ≡ nameBytes * i = omega arith in
-      drop-drop nameBytes (nameBytes * (i - 1)) d ∙ ap (λ (n : ℕ). drop n d) e
-
-  part : fromName (i - 1) d ≡ t
-  unfolding t
-  part = rest d (nameBytes * (i - 1))
+  next = drop-drop nameBytes (nameBytes * (i - 1)) d ∙ ap (λ (n : ℕ). drop n d) there
 
   x : List ℕ
   x = take nameBytes t
 
+  own : nameAt (i - 1) d ≡ x
+  unfolding t x
+  own =
+      let e : nameBytes * (i - 1) + nameBytes - nameBytes * (i - 1) ≡ nameBytes = omega arith in
+      ap (λ (n : ℕ). take n (drop (nameBytes * (i - 1)) d)) e
+
   words : Words x low high
   unfolding x
-  words = words-of t long (rw part at p) (rw part at q)
+  words = words-in x (length-take-le nameBytes t long) (rw own at p) (rw own at q)
 
   is-mark : markOf x ≡ k
   is-mark = ap₂ slotOf (sym (words .low)) (sym (words .high)) ∙ sym ek
 
-  looked : found ≡ (ltb 0 (getD marks k 0) && among x (namesIn (drop (nameBytes * i) d)))
-  unfolding t
+  looked : found ≡ (made marks k && among x (namesIn (drop (nameBytes * i) d)))
   looked =
-      ef ∙ ap₂ (λ (n l : List ℕ). ltb 0 (getD marks k 0) && among n (namesIn l)) (sym (words .bytes))
-      (ap afterName part ∙ rest t nameBytes ∙ next)
+      ef ∙ ap₂ (λ (n l : List ℕ). made marks k && among n (namesIn l)) (sym (words .bytes))
+      (rest d (nameBytes * (i - 1) + nameBytes) ∙ ap (λ (n : ℕ). drop n d) there)
 
   from-here : namesIn t ≡ x ∷ namesIn (drop (nameBytes * i) d)
   unfolding x
@@ -147,23 +136,22 @@ module _ {d marks : List ℕ} {i : ℕ} (v : Marked d marks i) (pos : 0 < i) {lo
   pub marks-twice : found ≡ true → true ≡ twice (namesIn d)
   unfolding t
   marks-twice e =
-      let a : among x (namesIn (drop (nameBytes * i) d)) ≡ true = by-true (getD marks k 0) _ found looked e in
+      let a : among x (namesIn (drop (nameBytes * i) d)) ≡ true = by-true (made marks k) _ found looked e in
       let h : nameBytes * (i - 1) ≤ length d = let w = v .within in omega arith in
       sym (later d (i - 1) h (ap twice from-here ∙ or-true a _))
 
-  pub marks-more : found ≡ false → Marked d (set marks k 1) (i - 1)
+  pub marks-more : found ≡ false → Marked d (withMark marks k) (i - 1)
   unfolding t
   marks-more e =
       let a : among x (namesIn (drop (nameBytes * i) d)) ≡ false =
-      by-mark (getD marks k 0) _ found (λ h. ap (λ (n : ℕ). getD marks n 0) (sym is-mark) ∙ v .marked x h) looked e in
-      let hs : k < length marks = let l = v .kept in omega arith in
+      by-mark (made marks k) _ found (λ h. ap (made marks) (sym is-mark) ∙ v .marked x h) looked e in
       record {
         within = let w = v .within in omega arith;
-        kept = length-set marks k 1 ∙ v .kept;
+        kept = length-set marks (k / digits) _ ∙ v .kept;
         single = ap twice from-here ∙ or-false a ∙ v .single;
         marked = λ y h.
-            mark-cons y x (namesIn (drop (nameBytes * i) d)) (set marks k 1) (same y x) refl
+            among-cons y x (namesIn (drop (nameBytes * i) d)) (same y x) refl
             (sym (ap (among y) from-here) ∙ h)
-            (λ f. ap (λ (n : ℕ). getD (set marks k 1) n 0) (ap markOf f ∙ is-mark) ∙ getD-set-same marks k 1 0 hs)
-            (λ f. stays marks (markOf y) k (v .marked y f));
+            (λ f. ap (made (withMark marks k)) (ap markOf f ∙ is-mark) ∙ is-set marks k (v .kept) hk)
+            (λ f. stays marks k (v .kept) hk (markOf y) (v .marked y f));
       }

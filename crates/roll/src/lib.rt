@@ -2,13 +2,10 @@
 ghost use mathlib.Core.Path.{_≡_};
 ghost use mathlib.Core.Bool.{_&&_};
 ghost use mathlib.Core.List.{_++_};
-ghost use Prim.Native.Nat.{_<_, _≤_};
-ghost use lib.Dec.{ltb};
-ghost use lib.ListN.{length, take};
+ghost use Prim.Native.Nat.{_<_};
 ghost use Rattle.bytes_le.specs.Le.{wordBytes, bytesOf};
-ghost use Rattle.name.specs.Name.{same};
-ghost use Rattle.roll.specs.inner.Marks.{slots, slotOf};
-ghost use Rattle.roll.specs.Directory.{nameBytes, namesIn, among, twice};
+ghost use Rattle.roll.specs.inner.Marks.{slots, slotOf, made, withMark};
+ghost use Rattle.roll.specs.Directory.{namesIn, among, twice};
 use bytes_le::WORD_BYTES;
 
 // The bytes of a name with its padding.
@@ -17,18 +14,10 @@ pub const NAME_BYTES: usize = 16;
 // How many marks the search for a name that stands twice keeps.
 const SLOTS: usize = 4093;
 
-// Whether a directory starts with the name that has these two words.
-fn starts(d: &[u8], low: u64, high: u64) -> bool
-    requires { ⌜ nameBytes ≤ length (now d) ⌝ }
-    ensures { λ r. ⌜ r ≡ same (bytesOf wordBytes low ++ bytesOf wordBytes high) (take nameBytes (now (d .entry))) ⌝ }
-{
-    let x = bytes_le::u64_at(d, 0);
-    let y = bytes_le::u64_at(d, WORD_BYTES);
-    if low != x {
-        return false;
-    }
-    high == y
-}
+// How many of them stand in a word, a binary digit each, and in how many words all.
+const DIGITS: usize = 64;
+
+const MARK_WORDS: usize = 64;
 
 // Whether the name with these two words stands in a directory.
 fn holds(d: &[u8], low: u64, high: u64) -> bool
@@ -36,7 +25,7 @@ fn holds(d: &[u8], low: u64, high: u64) -> bool
 {
     let mut t = d;
     while NAME_BYTES <= t.len() {
-        if starts(t, low, high) {
+        if name::stands_at(t, 0, low, high) {
             return true;
         }
         t = &t[NAME_BYTES..];
@@ -51,32 +40,51 @@ fn slot(low: u64, high: u64) -> usize
     (std::num::wrapping_add_u64(low, high) % SLOTS as u64) as usize
 }
 
-// Whether a name stands in the directory, which is looked through only where its mark has been made.
-fn again(mark: u8, d: &[u8], low: u64, high: u64) -> bool
-    ensures { λ r. ⌜ r ≡ (ltb 0 mark && among (bytesOf wordBytes low ++ bytesOf wordBytes high) (namesIn (now (d .entry)))) ⌝ }
+// Whether a mark has been made.
+fn is_made(marks: &[u64; MARK_WORDS], k: usize) -> bool
+    requires { ⌜ k < slots ⌝ }
+    ensures { λ r. ⌜ r ≡ made (now (marks .entry)) k ⌝ }
 {
-    if mark == 0 {
-        return false;
+    let word = marks[k / DIGITS];
+    (word >> ((k % DIGITS) as u64)) % 2 == 1
+}
+
+// Makes a mark; those made before stay.
+fn make(marks: &mut [u64; MARK_WORDS], k: usize)
+    requires { ⌜ k < slots ⌝ }
+    ensures { λ _. ⌜ now (marks .exit) ≡ withMark (now (marks .entry)) k ⌝ }
+{
+    let at = k / DIGITS;
+    marks[at] = marks[at] | (1u64 << ((k % DIGITS) as u64));
+}
+
+// Whether a name stands in the directory, which is looked through only where its mark has been made.
+fn again(marked: bool, d: &[u8], low: u64, high: u64) -> bool
+    ensures { λ r. ⌜ r ≡ (marked && among (bytesOf wordBytes low ++ bytesOf wordBytes high) (namesIn (now (d .entry)))) ⌝ }
+{
+    if marked {
+        return holds(d, low, high);
     }
-    holds(d, low, high)
+    false
 }
 
 // Whether some name of a directory stands twice: from the last name on, each makes its mark, and is compared with those after it where that was made before.
 pub fn doubled(d: &[u8]) -> bool
     ensures { λ r. ⌜ r ≡ twice (namesIn (now (d .entry))) ⌝ }
 {
-    let mut marks = [0u8; SLOTS];
+    let mut marks = [0u64; MARK_WORDS];
     let mut i = d.len() / NAME_BYTES;
     while 0 < i {
         i -= 1;
-        let t = &d[NAME_BYTES * i..];
-        let low = bytes_le::u64_at(t, 0);
-        let high = bytes_le::u64_at(t, WORD_BYTES);
+        let at = NAME_BYTES * i;
+        let own = &d[at..at + NAME_BYTES];
+        let low = bytes_le::u64_at(own, 0);
+        let high = bytes_le::u64_at(own, WORD_BYTES);
         let k = slot(low, high);
-        if again(marks[k], &t[NAME_BYTES..], low, high) {
+        if again(is_made(&marks, k), &d[at + NAME_BYTES..], low, high) {
             return true;
         }
-        marks[k] = 1;
+        make(&mut marks, k);
     }
     false
 }
