@@ -170,7 +170,7 @@ fn time_currents(times: u64, collector: i64, slope: i64) {
         let y = x as i64;
         let (b, h) = (600_000 + 2 * y, collector + slope * y);
         let v = [0, b, b - y / 8, h, h + y / 16, h + y / 32, 0];
-        let t = currents::currents(&curve, &c, &v).unwrap_or([0; 7]);
+        let t = currents::currents(&curve, &c, &v).unwrap_or([0; 8]);
         sum = t.iter().fold(sum, |s, t| s.wrapping_add(*t as u64));
     }
     println!("{sum}");
@@ -303,7 +303,7 @@ fn timed_library(set: &Names) -> Vec<u8> {
         .map(|b| u64::from_le_bytes(b.try_into().unwrap()))
         .collect();
     let mut l = vec![0; protocol::LONGEST];
-    library::write(&names, &words.repeat(256), &mut l).unwrap();
+    library::write(1, &names, &words.repeat(256), &mut l).unwrap();
     l
 }
 
@@ -322,7 +322,7 @@ fn time_find(times: usize, set: &Names) {
     let (mut l, mut sum) = (timed_library(set), 0);
     for n in 0..times {
         (set.change)(&mut l, (n % 10) as u8);
-        let at = library::locate(std::hint::black_box(&l), set.found).unwrap();
+        let (at, _) = library::locate(std::hint::black_box(&l), set.found).unwrap();
         sum += 1 + l[at + n % 128] as u64;
     }
     println!("{sum}");
