@@ -22,12 +22,19 @@ returns c =
       card = worked c .worked-at .ensures j;
       plain = octaves c .before .reciprocal-at .ensures j;
       second = octaves c .reciprocal-at2 .ensures j;
-      bulk = tick-is ticks (s .args .i) 2 (omega arith) j;
-      side = tick-is ticks (s .args .i) 3 (omega arith) j;
-      nonideal = tick-is ticks (s .args .i) 4 (omega arith) j;
-      ex = tick-is ticks (s .args .i) 5 (omega arith) j;
-      sub = tick-is ticks (s .args .i) 6 (omega arith) j;
-      sf = tick-is ticks (s .args .i) 7 (omega arith) j;
+      doubled = c .XX .reciprocal-at3 .ensures j;
+      knee =
+          record {
+            m = tick-is ticks (s .args .i) 3 (omega arith) j;
+            n = tick-is ticks (s .args .i) 4 (omega arith) j;
+          };
+      bulk = tick-is ticks (s .args .i) 5 (omega arith) j;
+      side = tick-is ticks (s .args .i) 6 (omega arith) j;
+      nonideal = tick-is ticks (s .args .i) 7 (omega arith) j;
+      ex = tick-is ticks (s .args .i) 8 (omega arith) j;
+      sub = tick-is ticks (s .args .i) 9 (omega arith) j;
+      sf = tick-is ticks (s .args .i) 10 (omega arith) j;
+      reverse = tick-is ticks (s .args .i) 11 (omega arith) j;
     }
 
 pub ready-at-spec : {M : Type 1} → statement M

@@ -6,16 +6,16 @@ use Rattle.deck.proofs.worked_at.Statement.{statement}
 use Rattle.deck.proofs.worked_at.Tie as tie
 
 -- earlier places, from later ones
-abbrev split9 : tie.After-t34 → tie.After-split-at9
-split9 c = c .before .before .before .before
+abbrev split9 : tie.After-t39 → tie.After-split-at9
+split9 c = c .before .before .before .before .before .before
 
-abbrev split6 : tie.After-t34 → tie.After-split-at6
+abbrev split6 : tie.After-t39 → tie.After-split-at6
 split6 c = split9 c .before .before .before
 
-abbrev split3 : tie.After-t34 → tie.After-split-at3
+abbrev split3 : tie.After-t39 → tie.After-split-at3
 split3 c = split6 c .before .before .before
 
-abbrev start : tie.After-t34 → tie.Start
+abbrev start : tie.After-t39 → tie.Start
 start c = split3 c .before .before .before
 
 returns : tie.Need-returns
@@ -31,8 +31,10 @@ returns c =
       sf = split9 c .before .before .split-at7 .ensures j;
       rex = split9 c .before .split-at8 .ensures j;
       rsub = split9 c .split-at9 .ensures j;
-      octave = number-is (s .args .numbers .now) (s .args .i) 9 (omega arith) j;
-      second = number-is (s .args .numbers .now) (s .args .i) 10 (omega arith) j;
+      reverse = c .before .before .before .before .before .split-at10 .ensures j;
+      octave = number-is (s .args .numbers .now) (s .args .i) 10 (omega arith) j;
+      second = number-is (s .args .numbers .now) (s .args .i) 11 (omega arith) j;
+      knee = number-is (s .args .numbers .now) (s .args .i) 12 (omega arith) j;
       exsub = first-switch (s .args .switches .now) (s .args .i) j;
       «rcbli_zero» = switch-is (s .args .switches .now) (s .args .i) j;
     }
@@ -50,6 +52,10 @@ worked-at-spec =
     (λ c κs. search needs)
     (λ c κs. search needs)
     (λ c κs. search needs)
+    (λ c κs. search needs)
+    (λ c. search needs)
+    (λ c. search needs)
+    (λ c. search needs)
     (λ c. search needs)
     (λ c. search needs)
     (λ c. search needs)

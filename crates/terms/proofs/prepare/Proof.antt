@@ -7,7 +7,8 @@ use Rattle.terms.proofs.prepare.Tie as tie
 returns : tie.Need-returns
 unfolding readyOf
 returns c =
-    let two = c .before .before .before .before in
+    let six = c .before in
+    let two = six .before .before .before .before in
     let octaves = two .before .before in
     λ i. record {
       card = octaves .before .before .before .before .args .c;
@@ -15,10 +16,11 @@ returns c =
       second = octaves .reciprocal-of2 .ensures i;
       bulk = two .before .alone .ensures i;
       side = two .alone2 .ensures i;
-      nonideal = c .before .before .before .alone3 .ensures i;
-      ex = c .before .before .alone4 .ensures i;
-      sub = c .before .alone5 .ensures i;
-      sf = c .alone6 .ensures i;
+      nonideal = six .before .before .before .alone3 .ensures i;
+      ex = six .before .before .alone4 .ensures i;
+      sub = six .before .alone5 .ensures i;
+      sf = six .alone6 .ensures i;
+      reverse = c .alone7 .ensures i;
     }
 
 pub prepare-spec : {M : Type 1} → statement M
