@@ -5,7 +5,7 @@ use mathlib.Core.Bool.{Bool, true, false, cond, _||_}
 use Prim.Native.Nat.{ℕ, zero, suc, _-_, _^_, _≤_, _<_}
 use native.Mathlib.Omega.{arith}
 use lib.Dec.{eqb, ltb, lit<}
-use lib.IntN.{ℤ, pos, negℤ, natAbs, subℕ}
+use lib.IntN.{ℤ, pos, negsuc, negℤ, natAbs, subℕ}
 use borrow.Author.Tests.{eqb-true, eqb-false, ne-eqb, le-ltb, ltb-true, ltb-false}
 use Rattle.refusal.specs.Clash.{clash}
 use Rattle.whole.specs.Scale.{heldAt}
@@ -32,7 +32,7 @@ same-size (suc n) = refl
 
 none-less : (n : ℕ) → subℕ 0 n ≡ negℤ (pos n)
 none-less zero = sub-up 0 0 (omega arith)
-none-less (suc n) = sub-down 0 (suc n) (omega arith)
+none-less (suc n) = sub-down 0 (suc n) (omega arith) ∙ ap negsuc (omega arith)
 
 less-none : (n : ℕ) → subℕ n 0 ≡ pos n
 less-none n = sub-up n 0 (omega arith) ∙ ap pos (omega arith)

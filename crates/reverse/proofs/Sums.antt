@@ -1,10 +1,11 @@
 -- Two exponentials added where their digits are raised by thirty places, and all shifted down, are the floor of their
 -- exact sum.
-use mathlib.Core.Path.{_≡_, refl, sym, ap, ap₂, _∙_}
+use mathlib.Core.Path.{_≡_, sym, ap, ap₂, subst, _∙_}
 use Prim.Native.Nat.{ℕ, _+_, _-_, _*_, _/_, _^_, _≤_, _<_}
 use native.Mathlib.Nat.{mul-comm, mul-add, add-mul, mul-assoc, mul-left-comm, mul-right-comm, mul-div-cancel}
 use native.Mathlib.Nat.{mul-add-div, div-div-eq-div-mul, mul-div-mul-right, mul-le-mul, pow-le-pow-right, add-comm}
-use native.Mathlib.Nat.{le-div-iff-mul-le, div-le-self, le-trans, le-of-eq}
+use native.Mathlib.Nat.{le-div-iff-mul-le, div-lt-iff-lt-mul, div-le-self, le-trans, le-of-eq, le-add-right}
+use native.Mathlib.Nat.{mul-le-mul-left}
 use native.Mathlib.Omega.{arith}
 use lib.Dec.{lit<}
 use lib.Pow.{pow-add, pow-pos}
@@ -80,19 +81,23 @@ module _ {g h : Exponential} (high : Sized g) (low : Sized h) (order : h .n ≤ 
   parts-are : sumParts (expAt g) (expAt h) ≡ (g .m * 2 ^ g .n + h .m * 2 ^ h .n) / 2 ^ 8202
   parts-are = ap₂ (λ (x y : ℕ). (x + y) / 2 ^ 8202) (in-lowest g) (in-lowest h)
 
-  -- numbers that stay within 64 bits
-  pub digits-small : (x : ℕ) → x ≤ 2 ^ 31 → x * 2 ^ 30 ≤ 2 ^ 61
-  digits-small x k = omega arith
+  -- raised, both stay within 64 bits
+  pub sum-small : g .m * 2 ^ 30 + h .m * 2 ^ 30 / 2 ^ (g .n - h .n) ≤ 2 ^ 62
+  sum-small =
+      let a = high .digits .high in
+      let b = low .digits .high in let c = div-le-self (h .m * 2 ^ 30) (2 ^ (g .n - h .n)) in omega arith
+
+  small : (x k : ℕ) → x ≤ 2 ^ 62 → 2 ^ 17 ≤ k → x / k < 2 ^ 62
+  small x k a b =
+      let q = mul-le-mul-left (2 ^ 62) b in div-lt-iff-lt-mul {k = k} {x = x} {y = 2 ^ 62} (omega arith) .1 (omega arith)
 
   pub within-top : g .n ≤ 8215 → {r : ℕ} →
       r ≡ (g .m * 2 ^ 30 + h .m * 2 ^ 30 / 2 ^ (g .n - h .n)) / 2 ^ (8232 - g .n) →
       UpTo sumLimit r (sumParts (expAt g) (expAt h))
   within-top k {r} e =
       upto-equal (e ∙ sum-is (g .m) (h .m) (g .n) (h .n) order k ∙ sym parts-are)
-      (let a = high .digits .high in
-      let b = low .digits .high in
-      let c = div-le-self (h .m * 2 ^ 30) (2 ^ (g .n - h .n)) in
-      let d = div-le-self (g .m * 2 ^ 30 + h .m * 2 ^ 30 / 2 ^ (g .n - h .n)) (2 ^ (8232 - g .n)) in omega arith)
+      (rw e (small (g .m * 2 ^ 30 + h .m * 2 ^ 30 / 2 ^ (g .n - h .n)) (2 ^ (8232 - g .n)) sum-small
+      (pow-le-pow-right {n = 2} (lit< tt) {i = 17} {j = 8232 - g .n} (omega arith))))
 
   -- the higher one is too much by itself
   pub above-top : 8215 < g .n → UpTo sumLimit (2 ^ 43 + 1) (sumParts (expAt g) (expAt h))
@@ -100,16 +105,16 @@ module _ {g h : Exponential} (high : Sized g) (low : Sized h) (order : h .n ≤ 
     where
       reach : 2 ^ 44 * 2 ^ 8202 ≤ g .m * 2 ^ g .n + h .m * 2 ^ h .n
       reach =
-          let m = mul-le-mul (high .digits .low) (pow-le-pow-right {n = 2} (lit< tt) {i = 8216} {j = g .n} (omega arith))
-          in
-          let e : 2 ^ 44 * 2 ^ 8202 ≡ 2 ^ 30 * 2 ^ 8216 = sym (pow-add 2 44 8202) ∙ pow-add 2 30 8216 in
-          omega (arith, m, e)
+          le-trans (le-of-eq (sym (pow-add 2 44 8202) ∙ pow-add 2 30 8216))
+          (le-trans
+          (mul-le-mul (high .digits .low) (pow-le-pow-right {n = 2} (lit< tt) {i = 8216} {j = g .n} (omega arith)))
+          (le-add-right (g .m * 2 ^ g .n) (h .m * 2 ^ h .n)))
 
       large : sumLimit < sumParts (expAt g) (expAt h)
       large =
-          let q = le-div-iff-mul-le {x = 2 ^ 44} {y = g .m * 2 ^ g .n + h .m * 2 ^ h .n} (pow-pos 8202) .1
-          reach in
-          let p = parts-are in omega (arith, p, q)
+          subst (λ (y : ℕ). sumLimit < y) (sym parts-are)
+          (le-trans (lit< tt)
+          (le-div-iff-mul-le {x = 2 ^ 44} {y = g .m * 2 ^ g .n + h .m * 2 ^ h .n} (pow-pos 8202) .1 reach))
 
 -- in either order
 pub sum-turned : (g h : Exponential) → sumParts (expAt g) (expAt h) ≡ sumParts (expAt h) (expAt g)

@@ -17,10 +17,10 @@ const SUM_OVER: u64 = SUM_MOST + 1;
 // Above this power an exponential is by itself more than that.
 const TOP: u64 = BIAS + 23;
 
-// Digits are raised by so many places, so that what a lower exponential adds is not lost before all is shifted down.
-const RAISED: u64 = 30;
+// Digits are raised by 30 places, so that what a lower exponential adds is not lost before all is shifted down.
+const RAISED: u64 = 1073741824;
 
-const DOWN: u64 = BIAS + RAISED + 10;
+const DOWN: u64 = BIAS + 40;
 
 // The first number of ticks that is too much.
 const TICKS_OVER: u64 = TICKS_MOST + 1;
@@ -39,7 +39,7 @@ fn summed(high: Exponential, low: Exponential) -> u64
     if TOP < high.n {
         return SUM_OVER;
     }
-    let x = (high.m << RAISED) + whole::shift_down(low.m << RAISED, high.n - low.n);
+    let x = high.m * RAISED + whole::shift_down(low.m * RAISED, high.n - low.n);
     whole::shift_down(x, DOWN - high.n)
 }
 
