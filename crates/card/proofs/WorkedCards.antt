@@ -4,7 +4,7 @@ use mathlib.Core.Bool.{true, false, not}
 use mathlib.Core.List.{List, [], _∷_}
 use Prim.Native.Nat.{ℕ, _≤_}
 use native.Mathlib.Omega.{arith}
-use lib.Dec.{T}
+use lib.Dec.{T, lit≤}
 use lib.IntN.{pos, subℕ}
 use lib.Ieee.{Float, fin, binary64, eq, le, lt, fits}
 use lib.Ieee.Fits.{mul-fits, div-fits, cond-fits}
@@ -62,11 +62,14 @@ card-is-worked x g o r =
     let m = mlf-positive x g in
     let above = product-above (mlf x) (octave x) m (g .least) o in
     let y = positive-of (product x) above (holds (second .0)) in record {
-      splits = each-worked (λ v. IsSplit (splitOf v)) is-split (parametersOf x) (reach .1);
+      splits =
+          let e = each-worked (λ v. IsSplit (splitOf v)) is-split (parametersOf x) (reach .1) in
+          (e .0, (e .1 .0, (e .1 .1 .0, (e .1 .1 .1 .0, (e .1 .1 .1 .1 .0, (e .1 .1 .1 .1 .1 .0, (e .1 .1 .1 .1 .1 .1 .0, (e .1 .1 .1 .1 .1 .1 .1 .0, (e .1 .1 .1 .1 .1 .1 .1 .1 .0, (e .0, tt))))))))));
       octave-least = octave-least (octave x) (low .0) (high .0);
       octave-most = octave-most (octave x) (low .0) (high .0);
       second-least = million-or-more (product x) y (product-least (mlf x) (octave x) m (g .least) o);
       second-most = leb-true (wholePart (product x)) secondMost (second .1);
+      knee-near = lit≤ tt;
     }
 
 -- ---- the tests that a card has passed

@@ -69,8 +69,10 @@ cardFrom w o n e z = record {
   sf = splitOf (w .sf);
   rex = splitOf (w .rex);
   rsub = splitOf (w .rsub);
+  reverse = splitOf (w .sn);
   octave = o;
   second = n;
+  knee = 5000000;
   exsub = e;
   «rcbli_zero» = z;
 }
@@ -93,8 +95,10 @@ noWorked = record {
   sf = noSplit;
   rex = noSplit;
   rsub = noSplit;
+  reverse = noSplit;
   octave = 0;
   second = 0;
+  knee = 0;
   exsub = false;
   «rcbli_zero» = false;
 }

@@ -54,8 +54,10 @@ fn card(w: Worked, octave: u32, second: u32, exsub: bool, joined: bool) -> Worke
         sf: float::cut(w.sf),
         rex: float::cut(w.rex),
         rsub: float::cut(w.rsub),
+        reverse: float::cut(w.sn),
         octave,
         second,
+        knee: 5000000,
         exsub,
         rcbli_zero: joined,
     }

@@ -24,8 +24,10 @@ pub struct WorkedCard {
     pub sf: float::Split,
     pub rex: float::Split,
     pub rsub: float::Split,
+    pub reverse: float::Split,
     pub octave: u32,
     pub second: u32,
+    pub knee: u32,
     // EXSUB is 1
     pub exsub: bool,
     // R_Cbli is 0: C4 and C1 are one node
@@ -52,8 +54,10 @@ pub fn no_card() -> WorkedCard
         sf: none,
         rex: none,
         rsub: none,
+        reverse: none,
         octave: 0,
         second: 0,
+        knee: 0,
         exsub: false,
         rcbli_zero: false,
     }

@@ -4,11 +4,11 @@ use Prim.Native.Nat.{ℕ, suc, _*_, _^_}
 use native.Mathlib.Nat.{zero-mul, zero-div}
 use native.Mathlib.Omega.{arith}
 use lib.Dec.{lit<}
-use lib.IntN.{ℤ, pos, negsuc, subℕ}
+use lib.IntN.{ℤ, pos, negsuc, subℕ, _+ℤ_}
 use borrow.Author.Tests.{lt-ltb}
 use Rattle.whole.specs.Scale.{floorScale}
 use Rattle.whole.specs.Quotient.{quotient-up}
-use Rattle.scaling.specs.Scaled.{partPlaces, tickLimit}
+use Rattle.scaling.specs.Scaled.{valueAt, expOf, partPlaces, tickPlaces, tickLimit}
 use Rattle.scaling.specs.inner.Shifts.{UpTo}
 use Rattle.reverse.specs.declared.Pair.{Pair}
 use Rattle.reverse.specs.Sum.{sumLimit, overSum}
@@ -24,14 +24,16 @@ nothing (pos e) = zero-mul (2 ^ e)
 nothing (negsuc e) = zero-div (2 ^ suc e)
 
 none-over : (y : ℕ) → subℕ 0 0 ≡ overSum (subℕ 0 0) y
-none-over y = sym (quotient-up 0 0 partPlaces y (omega arith) ∙ ap pos (ap (λ (n : ℕ). n) (zero-div y)))
+none-over y = sym (quotient-up 0 0 partPlaces y (omega arith) ∙ ap pos (zero-div y))
 
 module _ (c : WorkedCard) (v : Role → Role → ℤ) where
   no-plus : c .reverse .a ≡ 0 → tickOf c v (row8 .plus) ≡ 0
-  no-plus e = rw (e, zero-mul) (nothing _)
+  no-plus e =
+      let g = expOf (v B1 C4) (c .octave) in
+      rw (e, zero-mul (g .digits)) (nothing (valueAt (c .reverse) .power +ℤ g .power +ℤ pos tickPlaces))
 
   no-minus : c .reverse .a ≡ 0 → tickOf c v (row8 .minus) ≡ 0
-  no-minus e = rw e (nothing _)
+  no-minus e = rw e (nothing (valueAt (c .reverse) .power +ℤ pos tickPlaces))
 
   pub idle : c .reverse .a ≡ 0 → Whole c v row8 reverse B1 C4 0 0
   idle e =

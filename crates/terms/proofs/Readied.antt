@@ -20,6 +20,7 @@ use Rattle.terms.specs.Rows.{roles}
 use Rattle.terms.specs.Values.{doubledOctave, kneeVolts}
 use Rattle.scaling.specs.Scaled.{valueAt, expOf, times, wholeTicks, wholeParts, tickLimit, ratioLimit}
 use Rattle.scaling.specs.inner.Shifts.{aloneOf, expAt}
+use Rattle.reverse.specs.Sum.{sumParts, sumLimit}
 use Rattle.terms.specs.inner.Ready.{readyOf, IsReady, Askable}
 use Rattle.scaling.specs.inner.Shifts.{UpTo, IsExp, Scalable, Junction, scaledOf, moreParts}
 use Rattle.scaling.proofs.Scaling.{ticks-upto, parts-upto, alone-upto, exponential-is}
@@ -174,3 +175,8 @@ module _ {x : Split} {g : Exponential} {w u : ℕ} {v : ℤ} (i : IsSplit x) (e 
 
   pub parts-at : n ≡ scaledOf x g moreParts → UpTo ratioLimit n (wholeParts (times (valueAt x) (expOf v u)))
   parts-at h = rw (h, ← octave-exp e o) (parts-upto i (e .sized))
+
+-- a sum with the exponentials that the code has
+pub sum-at : {g h : Exponential} {w u : ℕ} {v k : ℤ} {n : ℕ} → IsExp w v g → w ≡ u → IsExp u k h →
+    UpTo sumLimit n (sumParts (expAt g) (expAt h)) → UpTo sumLimit n (sumParts (expOf v u) (expOf k u))
+sum-at a o b e = rw (← octave-exp a o, ← (b .is)) e

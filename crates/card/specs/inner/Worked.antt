@@ -24,7 +24,7 @@ pub record GoodMlf (x : List Float) : Type 0 where
 -- the nine splits in a row
 abbrev pub splitsOf : WorkedCard → List Split
 splitsOf c =
-    c .sn ∷ c .bulk ∷ c .side ∷ c .nonideal ∷ c .ex ∷ c .sub ∷ c .sf ∷ c .rex ∷ c .rsub ∷ []
+    c .sn ∷ c .bulk ∷ c .side ∷ c .nonideal ∷ c .ex ∷ c .sub ∷ c .sf ∷ c .rex ∷ c .rsub ∷ c .reverse ∷ []
 
 -- the least that a tenth of an octave can be
 abbrev pub secondLeast : ℕ
@@ -37,3 +37,4 @@ pub record IsWorked (c : WorkedCard) : Type 0 where
   pub octave-most : c .octave ≤ octaveMost
   pub second-least : secondLeast ≤ c .second
   pub second-most : c .second ≤ secondMost
+  pub knee-near : c .knee ≤ 10000000

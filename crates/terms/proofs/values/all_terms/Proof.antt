@@ -1,6 +1,7 @@
 -- `values::all_terms` meets its contract: each term with the exponential that it names, worked once; row by row.
 use lib.Dec.{lit<, lit≤}
 use borrow.Author.Needs.{needs}
+use Rattle.terms.specs.Rows.{row1, row2, row3, row4, row5, row6, row7, row8}
 use Rattle.terms.specs.inner.Terms.{none, more}
 use Rattle.scaling.proofs.Scaling.{upto-zero}
 use Rattle.terms.proofs.Readied.{Splits, splits, plain-octave, second-octave}
@@ -156,14 +157,14 @@ returns c =
     let back = parts-at (s .rex) j2 (plain-octave h) (x .before .faint7 .ensures) in
     record {
       rows =
-          more (record { counted = (forward, reverse); left = knee; right = back })
-          (more (record { counted = (bulk, own-bulk h); left = upto-zero; right = upto-zero })
-          (more (record { counted = (side, own-side h); left = upto-zero; right = upto-zero })
-          (more (record { counted = (nonideal, own-nonideal h); left = upto-zero; right = upto-zero })
-          (more (record { counted = (ex, own-ex h); left = upto-zero; right = exratio })
-          (more (record { counted = (sub, x .term-x .ensures); left = upto-zero; right = subratio })
-          (more (record { counted = (sf, own-sf h); left = upto-zero; right = upto-zero })
-          (more (record { counted = c .term-8 .ensures; left = upto-zero; right = upto-zero })
+          more {r = row1} (record { counted = (forward, reverse); left = knee; right = back })
+          (more {r = row2} (record { counted = (bulk, own-bulk h); left = upto-zero; right = upto-zero })
+          (more {r = row3} (record { counted = (side, own-side h); left = upto-zero; right = upto-zero })
+          (more {r = row4} (record { counted = (nonideal, own-nonideal h); left = upto-zero; right = upto-zero })
+          (more {r = row5} (record { counted = (ex, own-ex h); left = upto-zero; right = exratio })
+          (more {r = row6 (start at .args .r .card .exsub)} (record { counted = (sub, x .term-x .ensures); left = upto-zero; right = subratio })
+          (more {r = row7} (record { counted = (sf, own-sf h); left = upto-zero; right = upto-zero })
+          (more {r = row8} (record { counted = c .term-8 .ensures; left = upto-zero; right = upto-zero })
           none)))))));
     }
 
