@@ -40,7 +40,7 @@ module _ (c : WorkedCard) (v : Role → Role → ℤ) where
   same-ratios (sumOf s t) a b = same-test a b
   same-ratios (exps x p q) a b = same-test a b
 
-  module _ (r : Row) {p m : ℕ} where
+  module _ (r : Row) (p m : ℕ) where
     counted-over : (d : Divisor) → Counted c v r d p m → someAbove tickLimit (p ∷ m ∷ []) ≡ overTicks c v r d
     counted-over undivided t = same-test (t .0) (t .1)
     counted-over (sumOf s u) t = same-test (t .0) (t .1)
@@ -57,7 +57,7 @@ module _ (c : WorkedCard) (v : Role → Role → ℤ) where
   over-is none = refl
   over-is (more {k = k} {r = r} t rest) =
       rw (
-        counted-over r (r .divisor) (t .counted),
+        counted-over r _ _ (r .divisor) (t .counted),
         same-ratios (r .divisor) (t .left) (t .right),
         over-is rest,
       )
@@ -108,7 +108,7 @@ module _ (c : WorkedCard) (v : Role → Role → ℤ) where
       go : (k < i) ⊎ (i ≤ k) → (k < i → (getD (x .plus) i 0 < 2 ^ 62) × (getD (x .minus) i 0 < 2 ^ 62)) →
           (getD (x .plus) i 0 < 2 ^ 62) × (getD (x .minus) i 0 < 2 ^ 62)
       go (inl h) later = later h
-      go (inr h) later = let e : k ≡ i = omega arith in rw (← e) (counted-small r (r .divisor) (t .counted))
+      go (inr h) later = let e : k ≡ i = omega arith in rw (← e) (counted-small r _ _ (r .divisor) (t .counted))
 
   pub terms-small : {x : Terms} → TermsOf c v x → Small x
   terms-small t =

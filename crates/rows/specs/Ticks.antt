@@ -29,7 +29,7 @@ quotientShift = suc partPlaces
 abbrev pub dividedBy : WorkedCard → (Role → Role → ℤ) → Divisor → ℤ → ℤ
 dividedBy c v undivided n = n
 dividedBy c v (sumOf s t) n = quotientOf n quotientShift (summandOf c v s + summandOf c v t)
-dividedBy c v (exps x p q) n = expsTicks c v p q n
+dividedBy c v (exps x p q) n = expsTicks c v x p q n
 
 -- the ticks of a row
 abbrev pub rowTicks : WorkedCard → (Role → Role → ℤ) → Row → ℤ

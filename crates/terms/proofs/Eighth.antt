@@ -1,5 +1,5 @@
 -- Row 8 worked whole: nothing where its value is 0, else its T's over its sum.
-use mathlib.Core.Path.{_≡_, refl, sym, ap, _∙_}
+use mathlib.Core.Path.{_≡_, sym, _∙_}
 use Prim.Native.Nat.{ℕ, suc, _*_, _^_}
 use native.Mathlib.Nat.{zero-mul, zero-div}
 use native.Mathlib.Omega.{arith}
@@ -7,11 +7,11 @@ use lib.Dec.{lit<}
 use lib.IntN.{ℤ, pos, negsuc, subℕ, _+ℤ_}
 use borrow.Author.Tests.{lt-ltb}
 use Rattle.whole.specs.Scale.{floorScale}
-use Rattle.whole.specs.Quotient.{quotient-up}
-use Rattle.scaling.specs.Scaled.{valueAt, expOf, partPlaces, tickPlaces, tickLimit}
+use Rattle.whole.specs.laws.Biased.{sub-up}
+use Rattle.scaling.specs.Scaled.{valueAt, expOf, tickPlaces, tickLimit}
 use Rattle.scaling.specs.inner.Shifts.{UpTo}
 use Rattle.reverse.specs.declared.Pair.{Pair}
-use Rattle.reverse.specs.Sum.{sumLimit, overSum}
+use Rattle.reverse.specs.Sum.{sumLimit}
 use Rattle.reverse.specs.inner.Pairs.{pairOf}
 use Rattle.reverse.proofs.Standing.{stands}
 use Rattle.card.specs.declared.WorkedCard.{WorkedCard}
@@ -22,9 +22,6 @@ use Rattle.terms.specs.inner.Terms.{Whole}
 nothing : (z : ℤ) → floorScale 0 z ≡ 0
 nothing (pos e) = zero-mul (2 ^ e)
 nothing (negsuc e) = zero-div (2 ^ suc e)
-
-none-over : (y : ℕ) → subℕ 0 0 ≡ overSum (subℕ 0 0) y
-none-over y = sym (quotient-up 0 0 partPlaces y (omega arith) ∙ ap pos (zero-div y))
 
 module _ (c : WorkedCard) (v : Role → Role → ℤ) where
   no-plus : c .reverse .a ≡ 0 → tickOf c v (row8 .plus) ≡ 0
@@ -39,7 +36,7 @@ module _ (c : WorkedCard) (v : Role → Role → ℤ) where
   idle e =
       record {
         over = rw (no-plus e, no-minus e, e);
-        ticks = λ f. rw (no-plus e, no-minus e) (none-over (sumAt c v B1 C4));
+        ticks = λ f. rw e (sub-up 0 0 (omega arith));
         plus-small = lit< tt;
         minus-small = lit< tt;
       }
@@ -52,7 +49,7 @@ module _ (c : WorkedCard) (v : Role → Role → ℤ) where
       rw e
       (record {
         over = rw (lt-ltb 0 (c .reverse .a) (omega arith)) (w .over);
-        ticks = λ f. w .ticks (sym (w .over) ∙ f);
+        ticks = λ f. rw (lt-ltb 0 (c .reverse .a) (omega arith)) (w .ticks (sym (w .over) ∙ f));
         plus-small = w .plus-small;
         minus-small = w .minus-small;
       })

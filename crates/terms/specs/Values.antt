@@ -1,5 +1,5 @@
 -- From volts to T's, ratios and sums: the numbers that the rows' terms and divisors stand for.
-use mathlib.Core.Bool.{Bool, _&&_}
+use mathlib.Core.Bool.{Bool, cond, _&&_}
 use mathlib.Core.List.{List}
 use Prim.Native.Nat.{ℕ, _*_}
 use lib.Dec.{ltb}
@@ -57,9 +57,9 @@ kneeVolts c = subℕ (c .knee) span
 abbrev pub sumAt : WorkedCard → (Role → Role → ℤ) → Role → Role → ℕ
 sumAt c v p q = sumParts (expOf (v p q) (doubledOctave c)) (expOf (kneeVolts c) (doubledOctave c))
 
--- N * 2^20 / Y
-abbrev pub expsTicks : WorkedCard → (Role → Role → ℤ) → Role → Role → ℤ → ℤ
-expsTicks c v p q n = overSum n (sumAt c v p q)
+-- N * 2^20 / Y; nothing where the value is 0
+abbrev pub expsTicks : WorkedCard → (Role → Role → ℤ) → Value → Role → Role → ℤ → ℤ
+expsTicks c v x p q n = cond (ltb 0 (valueOf c x .digits)) (overSum n (sumAt c v p q)) (pos 0)
 
 -- and whether that is too much: nothing is where the value is 0
 abbrev pub expsOver : WorkedCard → (Role → Role → ℤ) → Value → Role → Role → ℤ → Bool

@@ -32,7 +32,7 @@ ticksOf c v r = subℕ (tickOf c v (r .plus)) (tickOf c v (r .minus))
 pub record Whole (c : WorkedCard) (v : Role → Role → ℤ) (r : Row) (x : Value) (a b : Role) (p m : ℕ) : Type 0 where
   pub over :
       eitherOver p m ≡ eitherOver (tickOf c v (r .plus)) (tickOf c v (r .minus)) || expsOver c v x a b (ticksOf c v r)
-  pub ticks : eitherOver p m ≡ false → subℕ p m ≡ expsTicks c v a b (ticksOf c v r)
+  pub ticks : eitherOver p m ≡ false → subℕ p m ≡ expsTicks c v x a b (ticksOf c v r)
   pub plus-small : p < 2 ^ 62
   pub minus-small : m < 2 ^ 62
 
