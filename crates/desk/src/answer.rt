@@ -38,9 +38,11 @@ pub fn put_unreadable(path: &[u8], out: &mut [u8; ROOM], at: &mut usize) {
     puts(part(&text, 0, n), out, at);
 }
 
-pub fn put_clipping(clipping: Clipping, out: &mut [u8; ROOM], at: &mut usize) {
+// The numbers of a clipped record, as many as it has.
+pub fn put_clipping(clipping: Clipping, wide: bool, out: &mut [u8; ROOM], at: &mut usize) {
     let numbers = clipping.numbers;
+    let words = if wide { clip::WIDTH } else { clip::NARROW };
     let mut text = [0u8; ANSWER_ROOM];
-    let n = answers::clip_line(clipping.mask, &numbers, &mut text);
+    let n = answers::clip_line(clipping.mask, wide, &numbers[..words], &mut text);
     put_part(&text, n, out, at);
 }
