@@ -87,15 +87,11 @@ fn first_wrong(x: &[f64; WIDTH], spares: bool) -> Answer
     ensures { λ r. ⌜ r ≡ firstWrong spares (now (x .entry)) ⌝ }
 {
     let level = x[numbers::LEVEL] == 504.0;
-    let settings = settings_good(x, spares);
+    let good = settings_good(x, spares);
     let octave = octaves::is_octave(x[numbers::OCTAVE]);
     let bad_exsub = Refusal::BadExsub;
     let bad_octave = Refusal::BadOctave;
-    let after = unless(
-        settings,
-        bad_exsub,
-        unless(octave, bad_octave, Answer::Taken),
-    );
+    let after = unless(good, bad_exsub, unless(octave, bad_octave, Answer::Taken));
     unless(level, Refusal::WrongLevel, after)
 }
 

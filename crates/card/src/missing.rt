@@ -1,6 +1,9 @@
 // The words that not every record has: what they mean where they are missing, and the spare ones.
 ghost use mathlib.Core.Path.{_≡_};
 ghost use mathlib.Core.Bool.{_&&_};
+ghost use Prim.Native.Nat.{_<_};
+ghost use Rattle.clip.specs.Limits.{wide};
+ghost use Rattle.clip.specs.Record.{wordAt};
 ghost use Rattle.card.specs.Judge.{sparesGood};
 ghost use Rattle.card.specs.inner.Missing.{filledWith};
 use clip::WIDTH;
@@ -25,11 +28,19 @@ pub(crate) fn both(a: bool, b: bool) -> bool
     if a { b } else { false }
 }
 
-// Whether both spare words are +0 by their bits, as the record has them.
+// Word i of a record, as it stands there before clipping.
+fn word_at(bytes: &[u8], i: usize) -> u64
+    requires { ⌜ i < wide ⌝ }
+    ensures { λ r. ⌜ r ≡ wordAt (now (bytes .entry)) i ⌝ }
+{
+    bytes_le::u64_at(bytes, 8 * i)
+}
+
+// Whether both spare words are +0 by their bits.
 pub(crate) fn spares_good(bytes: &[u8]) -> bool
     ensures { λ r. ⌜ r ≡ sparesGood (now (bytes .entry)) ⌝ }
 {
-    let first = bytes_le::u64_at(bytes, 8 * numbers::SPARE);
-    let second = bytes_le::u64_at(bytes, 8 * numbers::SPARE + 8);
+    let first = word_at(bytes, numbers::SPARE);
+    let second = word_at(bytes, numbers::SPARE + 1);
     both(first == 0, second == 0)
 }

@@ -1,4 +1,4 @@
--- `card::missing::spares_good` meets its contract: both words are read where the record has them.
+-- `card::missing::spares_good` meets its contract: both words are compared with 0.
 use borrow.Author.Needs.{needs}
 use Rattle.card.proofs.missing.spares_good.Statement.{statement}
 use Rattle.card.proofs.missing.spares_good.Tie as tie
@@ -7,9 +7,7 @@ pub spares-good-spec : {M : Type 1} → statement M
 spares-good-spec =
     tie.close
     (tie.spec
-    (λ c. search needs)
     (λ c κs. search needs)
-    (λ c. search needs)
     (λ c. search needs)
     (λ c κs. search needs)
     (λ c κs. search needs)
