@@ -18,7 +18,7 @@ use Rattle.clip.specs.Numbers as number
 use Rattle.clip.specs.Limits.{zero, one, wide, narrow}
 use Rattle.clip.specs.Record.{isWide, rightLength, widthOf, finiteUp}
 use Rattle.clip.specs.Clip.{clippedUp, paddedUp, clipOf, Clips}
-use Rattle.card.specs.Judge.{numbersFor, judgedNumbers, sparesGood, judgeNumbers, judgeOf}
+use Rattle.card.specs.Judge.{numbersFor, sparesGood, judgeNumbers, judgeOf}
 use Rattle.card.specs.inner.Missing.{filledWith}
 use Rattle.card.specs.inner.Worked.{GoodMlf}
 use Rattle.clip.specs.laws.Unique.{clip-taken, clip-refused}

@@ -6,8 +6,8 @@ use native.Mathlib.Nat.{div-lt-iff-lt-mul}
 use native.Mathlib.Omega.{arith}
 use lib.Dec.{T, ltb, eqb, lt→ltb}
 use lib.IntN.{ℤ, pos, negsuc, negℤ, subℕ}
-use lib.Ieee.{Float, nan, inf, fin, Format, binary64, prec, emax, low, size, nearest, odd, units, round, ofBits, up, down}
-use lib.Ieee.{neg, mul, lt, le, toUnsigned, toSigned}
+use lib.Ieee.{Float, nan, inf, fin, Format, binary64, prec, emax, low, size, nearest, odd, units, round, ofBits, up}
+use lib.Ieee.{down, neg, mul, lt, le, toUnsigned, toSigned}
 use lib.Ieee.Fits.{down-pos}
 use lib.Ieee.Order.{round-mono}
 use lib.Ieee.Positive.{num, den}

@@ -5,7 +5,7 @@ use mathlib.Core.List.{List}
 use Prim.Native.Nat.{ℕ, zero, suc, _*_, _≤_, _<_}
 use native.Mathlib.Omega.{arith}
 use native.Mathlib.Decide.{ℕ-discrete}
-use lib.ListN.{length, drop, drop-of-length-le}
+use lib.ListN.{length, drop-of-length-le}
 use lib.Ieee.{Float, binary64, ofBits, neg, mul, le, eq}
 use lib.Ieee.Scale.{finite}
 use borrow.Author.Tests.{eqb-true, ne-eqb}
@@ -17,7 +17,7 @@ use Rattle.card.specs.declared.WorkedCard.{WorkedCard}
 use Rattle.clip.specs.Numbers as number
 use Rattle.clip.specs.Limits as limits
 use Rattle.clip.specs.Limits.{one, wide, narrow, ruleOf, clipTo}
-use Rattle.clip.specs.Record.{isWide, numberAt, finiteUp}
+use Rattle.clip.specs.Record.{isWide, finiteUp}
 use Rattle.clip.specs.Clip.{clippedAt}
 use Rattle.working.specs.Work.{workedOf, allFinite}
 use Rattle.card.specs.Octave.{octaveGood, secondGood}

@@ -27,7 +27,7 @@ use Rattle.card.specs.Knee.{kneeGood, kneeOf}
 abbrev pub missing : List Float
 missing = zero ∷ zero ∷ zero ∷ zero ∷ zero ∷ one ∷ zero ∷ zero ∷ []
 
--- the clipped numbers that are judged: all that a record of version 2 has; of version 1 the sixteen, and the missing ones
+-- the clipped numbers that are judged: all of a record of version 2; of version 1 the sixteen, and the missing ones
 abbrev pub numbersFor : Bool → List ℕ → List Float
 numbersFor true s = clippedUp s wide
 numbersFor false s = clippedUp s narrow ++ missing

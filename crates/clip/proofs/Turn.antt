@@ -91,7 +91,7 @@ not-finite s (suc n) i h e = of (ℕ-discrete i n) (λ l. not-finite s n i l e)
     of (no d) g = finite-more s n ∙ ap (λ (b : Bool). b && finite (numberAt s n)) (g (omega arith))
 
 -- ---- no record has more words than the widest
-pub at-most-wide : {s : List ℕ} {n : ℕ} → IsRecord s n → n ≤ wide
+at-most-wide : {s : List ℕ} {n : ℕ} → IsRecord s n → n ≤ wide
 at-most-wide {s} {n} p = rw (p .width) at (of (isWide s))
   where
     of : (b : Bool) → cond b wide narrow ≤ wide

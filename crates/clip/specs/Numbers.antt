@@ -1,4 +1,5 @@
--- The parameters' numbers: the place of each among a record's words, and in the clip mask. A record of version 1 has the first sixteen.
+-- The parameters' numbers: the place of each among a record's words, and in the clip mask.
+-- A record of version 1 has the first sixteen.
 use Prim.Native.Nat.{ℕ}
 
 abbrev pub mult : ℕ

@@ -1,4 +1,5 @@
-// The parameters' numbers: the place of each among a record's words, and in the clip mask. A record of version 1 has the first sixteen.
+// The parameters' numbers: the place of each among a record's words, and in the clip mask.
+// A record of version 1 has the first sixteen.
 pub const MULT: usize = 0;
 
 pub const IS: usize = 1;

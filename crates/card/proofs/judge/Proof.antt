@@ -1,4 +1,4 @@
--- `card::judge` meets its contract: clipping's refusal is loading's, and its numbers, filled, go to the tests that follow.
+-- `card::judge` meets its contract: clipping's refusal is loading's, and its numbers, filled, go to the next tests.
 use mathlib.Core.Path.{sym, ap, _∙_}
 use mathlib.Core.Bool.{Bool}
 use borrow.Author.Needs.{needs}

@@ -1,5 +1,5 @@
 -- `card::knee::microvolts` meets its contract: of either sign the whole part is what the definition cuts.
-use mathlib.Core.Path.{_≡_, ap, _∙_}
+use mathlib.Core.Path.{ap, _∙_}
 use Prim.Native.Nat.{ℕ, _+_, _-_}
 use native.Mathlib.Omega.{arith}
 use borrow.Author.Needs.{needs}
