@@ -97,7 +97,7 @@ module _ {r : Ready} (h : IsReady r) where
             record {
               digits = exponential-size (kneeVolts (r .card)) (doubledOctave (r .card));
               small =
-                  exponent-small (r .card .knee) (doubledOctave (r .card)) (h .worked .knee-near)
+                  exponent-small (r .card .knee) (doubledOctave (r .card)) (h .worked .knee-most)
                   (doubled-in (h .worked));
             };
       })

@@ -33,7 +33,7 @@ exponential-at-requires c κs =
     let w = start t .pre in
     record {
       table-is = search needs;
-      near = w .knee-near;
+      near = w .knee-most;
       reciprocal =
           equals-reciprocal (doubledOctave (start t .args .c)) _ (doubled-in w) (doubled t .reciprocal-of3 .ensures);
     }
