@@ -31,7 +31,7 @@ fn keep_library(
 ) {
     let bytes = part(read, 0, n);
     match shelf::judge(bytes) {
-        Reading::Cards(cards) => {
+        Reading::Cards(cards, _) => {
             shelf::keep(bytes, held);
             put_answer(Answer::Library(cards), out, at);
         }
