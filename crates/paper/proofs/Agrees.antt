@@ -58,7 +58,7 @@ abbrev ratio : Split
 ratio = record { a = 1073741824; down = keptPower (negsuc 67) }
 
 abbrev worked : WorkedCard
-worked = record { sn = current; bulk = current; side = none; nonideal = none; ex = current; sub = none; sf = none; rex = ratio; rsub = ratio; octave = 16000000; second = 16000000; exsub = false; «rcbli_zero» = true }
+worked = record { sn = current; bulk = current; side = none; nonideal = none; ex = current; sub = none; sf = none; rex = ratio; rsub = ratio; reverse = none; octave = 16000000; second = 16000000; knee = 5000000; exsub = false; «rcbli_zero» = true }
 
 card-is : judgeOf (recordOf theCard) ≡ yes worked
 unfolding recordOf judgeOf clipOf finiteUp clippedUp clippedAt ofBits lt eq ne le whole mul div sub toUnsigned size
