@@ -139,6 +139,12 @@ fn timed_record() -> Vec<u8> {
     words.map(f64::to_le_bytes).concat()
 }
 
+/// The same as version 2 has it, with a reverse non-ideal current.
+fn wide_record() -> Vec<u8> {
+    let more = [1e-15, 0.2, 1.0, 1.0, 1.0, 1.0, 0.0, 0.0f64];
+    [timed_record(), more.map(f64::to_le_bytes).concat()].concat()
+}
+
 fn time_root(times: u64) {
     let (mut x, mut sum) = (1u64, 0u64);
     for n in 0..times {
@@ -161,9 +167,9 @@ fn time_exponential(times: u64) {
 }
 
 /// Seven voltages of which no two go together, so that no exponential serves two rows by chance.
-fn time_currents(times: u64, collector: i64, slope: i64) {
+fn time_currents(times: u64, record: &[u8], collector: i64, slope: i64) {
     let curve = *numbers::CURVE;
-    let c = card::judge(&timed_record()).unwrap();
+    let c = card::judge(record).unwrap();
     let (mut x, mut sum) = (1u32, 0u64);
     for _ in 0..times {
         x = (x * 1103 + 12345) % 65536;
@@ -332,8 +338,9 @@ fn time(name: &str, times: u64) {
     match name {
         "root" => time_root(times),
         "exponential" => time_exponential(times),
-        "currents" => time_currents(times, 2_000_000, -1),
-        "saturated" => time_currents(times, 0, 1),
+        "currents" => time_currents(times, &timed_record(), 2_000_000, -1),
+        "saturated" => time_currents(times, &timed_record(), 0, 1),
+        "reverse" => time_currents(times, &wide_record(), 0, 1),
         "empty" => time_moves(times, 0, |n| 1 + n % 8, 600_000),
         "still" => time_moves(times, 64, |_| 31, 600_000),
         "move" => time_moves(times, 64, |n| 1 + n % 8, 600_000),
