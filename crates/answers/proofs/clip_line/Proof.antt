@@ -16,7 +16,8 @@ returns : tie.Need-returns
 unfolding clipLine
 returns c =
     let m = masked c in
-    let w = m .before .before .before .before .args .wide in
+    let p = m .before .before .before .before in
+    let w = p .before .before .before .args .wide in
     then (m .before .before .before .put .ensures)
     (then
     (text-written (m .before .before .mask-digits .ensures) (hex-whole (maskDigits w) _ (let k = mask-short w in omega arith))
