@@ -1,3 +1,2 @@
 pub mod Kept
 pub mod Replying
-pub mod Versions
