@@ -2,8 +2,8 @@
 //!
 //!   bench vectors FOLDER    this implementation against a folder of outside vectors
 //!   bench desk SCRIPT       what the desk must answer to a script
-//!   bench time NAME TIMES   one of the timed runs: root, exponential, currents, saturated, empty, still, move, all,
-//!                           singly, together, pair, read, find, and the last two with _alike and _crowded
+//!   bench time NAME TIMES   one of the timed runs: root, exponential, currents, saturated, wide, reverse, empty, still,
+//!                           move, refused, all, singly, together, pair, read, find, and the last two with _alike and _crowded
 //!   bench differ ROUNDS     random inputs through the built programs (`./desk`, `./listing` of the project) and this implementation
 
 mod board;
@@ -340,6 +340,7 @@ fn time(name: &str, times: u64) {
         "exponential" => time_exponential(times),
         "currents" => time_currents(times, &timed_record(), 2_000_000, -1),
         "saturated" => time_currents(times, &timed_record(), 0, 1),
+        "wide" => time_currents(times, &wide_record(), 2_000_000, -1),
         "reverse" => time_currents(times, &wide_record(), 0, 1),
         "empty" => time_moves(times, 0, |n| 1 + n % 8, 600_000),
         "still" => time_moves(times, 64, |_| 31, 600_000),

@@ -64,7 +64,7 @@ module _ (p m y : ℕ) (a : p ≤ tickLimit) (b : m ≤ tickLimit) (there : 0 < 
       record {
         over = or-false _ ∙ held (m - p) .above ∙ sym (by-result size);
         ticks = λ e. none-less (sizeOver (m - p) y)
-        ∙ ap (λ (k : ℕ). negℤ (pos k)) (result-same (m - p) (sym (by-result size) ∙ e)) ∙ sym q;
+            ∙ ap (λ (k : ℕ). negℤ (pos k)) (result-same (m - p) (sym (by-result size) ∙ e)) ∙ sym q;
         plus-small = lit< tt;
         minus-small = held (m - p) .small;
       }
@@ -76,7 +76,7 @@ module _ (p m y : ℕ) (a : p ≤ tickLimit) (b : m ≤ tickLimit) (there : 0 < 
       record {
         over = or-false _ ∙ held (p - m) .above ∙ sym (by-result size);
         ticks = λ e. less-none (sizeOver (p - m) y)
-        ∙ ap pos (result-same (p - m) (sym (by-result size) ∙ e)) ∙ sym q;
+            ∙ ap pos (result-same (p - m) (sym (by-result size) ∙ e)) ∙ sym q;
         plus-small = held (p - m) .small;
         minus-small = lit< tt;
       }

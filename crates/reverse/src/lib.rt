@@ -48,7 +48,11 @@ pub fn sum_of(g: Exponential, h: Exponential) -> u64
     requires { ⌜ Sized g × Sized h ⌝ }
     ensures { λ r. ⌜ UpTo sumLimit r (sumParts (expAt g) (expAt h)) ⌝ }
 {
-    if g.n < h.n { summed(h, g) } else { summed(g, h) }
+    if g.n < h.n {
+        summed(h, g)
+    } else {
+        summed(g, h)
+    }
 }
 
 // A difference of T's times 2^20 over the sum, toward zero: 15 for a T, for a sum of 0 or above its limit, and for a result above a T's limit.

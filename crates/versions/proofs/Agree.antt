@@ -67,14 +67,25 @@ module _ (k : ℕ) (c : WorkedCard) (v : Role → Role → ℤ) where
   six false = plain refl refl refl
 
   all-blind : (x : Bool) → c .reverse .a ≡ 0 → AllBlind (rowsFor x)
-  all-blind x e =
-      (plain {r = row1} refl refl refl,
-      (plain {r = row2} refl refl refl,
-      (plain {r = row3} refl refl refl,
-      (plain {r = row4} refl refl refl,
-      (plain {r = row5} refl refl refl,
-      (six x,
-      (plain {r = row7} refl refl refl, (plain {r = row8} (rw e) refl (rw e), tt))))))))
+  all-blind x e = (
+    plain {r = row1} refl refl refl,
+    (
+      plain {r = row2} refl refl refl,
+      (
+        plain {r = row3} refl refl refl,
+        (
+          plain {r = row4} refl refl refl,
+          (
+            plain {r = row5} refl refl refl,
+            (
+              six x,
+              (plain {r = row7} refl refl refl, (plain {r = row8} (rw e) refl (rw e), tt)),
+            ),
+          ),
+        ),
+      ),
+    ),
+  )
 
 knee-alone : (k : ℕ) (c : WorkedCard) (volts : List ℤ) → c .reverse .a ≡ 0 →
     outcomeOf (atKnee k c) volts ≡ outcomeOf c volts
