@@ -3,7 +3,7 @@
 //!   bench vectors FOLDER    this implementation against a folder of outside vectors
 //!   bench desk SCRIPT       what the desk must answer to a script
 //!   bench time NAME TIMES   one of the timed runs: root, exponential, currents, saturated, wide, reverse, empty, still,
-//!                           move, refused, all, singly, together, pair, read, find, and the last two with _alike and _crowded
+//!                           move, refused, all, singly, together, pair, read, find, and the last two with _wide, _alike and _crowded
 //!   bench differ ROUNDS     random inputs through the built programs (`./desk`, `./listing` of the project) and this implementation
 
 mod board;
@@ -297,25 +297,31 @@ const CROWDED: Names = Names {
     found: b"imnnnnnnhdnnnnnn",
 };
 
-/// A good library of 256 cards.
-fn timed_library(set: &Names) -> Vec<u8> {
+/// A good library of 256 cards of a version.
+fn timed_library(set: &Names, version: u16) -> Vec<u8> {
     let mut names = vec![0; 4096];
     for (i, field) in names.chunks_mut(16).enumerate() {
         let name = (set.name)(i);
         field[..name.len()].copy_from_slice(&name);
     }
-    let words: Vec<u64> = timed_record()
+    let record = if version == 1 {
+        timed_record()
+    } else {
+        wide_record()
+    };
+    let words: Vec<u64> = record
         .chunks(8)
         .map(|b| u64::from_le_bytes(b.try_into().unwrap()))
         .collect();
     let mut l = vec![0; protocol::LONGEST];
-    library::write(1, &names, &words.repeat(256), &mut l).unwrap();
+    let n = library::write(version, &names, &words.repeat(256), &mut l).unwrap();
+    l.truncate(n);
     l
 }
 
-fn time_read(times: usize, set: &Names) {
-    let mut l = timed_library(set);
-    let (mut names, mut words, mut sum) = (vec![0; 4096], vec![0; 4096], 0);
+fn time_read(times: usize, set: &Names, version: u16) {
+    let mut l = timed_library(set, version);
+    let (mut names, mut words, mut sum) = (vec![0; 4096], vec![0; 6144], 0);
     for n in 0..times {
         (set.change)(&mut l, (n % 10) as u8);
         library::read(std::hint::black_box(&l), &mut names, &mut words).unwrap();
@@ -324,8 +330,8 @@ fn time_read(times: usize, set: &Names) {
     println!("{sum}");
 }
 
-fn time_find(times: usize, set: &Names) {
-    let (mut l, mut sum) = (timed_library(set), 0);
+fn time_find(times: usize, set: &Names, version: u16) {
+    let (mut l, mut sum) = (timed_library(set, version), 0);
     for n in 0..times {
         (set.change)(&mut l, (n % 10) as u8);
         let (at, _) = library::locate(std::hint::black_box(&l), set.found).unwrap();
@@ -350,12 +356,14 @@ fn time(name: &str, times: u64) {
         "singly" => time_stages(times, false),
         "together" => time_stages(times, true),
         "pair" => time_pair(times),
-        "read" => time_read(times as usize, &PLAIN),
-        "find" => time_find(times as usize, &PLAIN),
-        "read_alike" => time_read(times as usize, &ALIKE),
-        "find_alike" => time_find(times as usize, &ALIKE),
-        "read_crowded" => time_read(times as usize, &CROWDED),
-        "find_crowded" => time_find(times as usize, &CROWDED),
+        "read" => time_read(times as usize, &PLAIN, 1),
+        "find" => time_find(times as usize, &PLAIN, 1),
+        "read_wide" => time_read(times as usize, &PLAIN, 2),
+        "find_wide" => time_find(times as usize, &PLAIN, 2),
+        "read_alike" => time_read(times as usize, &ALIKE, 1),
+        "find_alike" => time_find(times as usize, &ALIKE, 1),
+        "read_crowded" => time_read(times as usize, &CROWDED, 1),
+        "find_crowded" => time_find(times as usize, &CROWDED, 1),
         _ => println!("no timed run {name}"),
     }
 }
