@@ -115,8 +115,8 @@ impl Board {
             cards: [const { None }; CARDS],
             issues: [0; PLACES],
             standing: [NOWHERE; PLACES],
-            currents: [[0; 7]; PLACES],
-            taken_out: [[0; 7]; PLACES],
+            currents: [[0; 8]; PLACES],
+            taken_out: [[0; 8]; PLACES],
             taken: 0,
             naming: [0; NODES],
             volts: [0; NODES],
@@ -131,7 +131,7 @@ impl Board {
     }
 
     pub fn load(&mut self, name: &[u8], record: &[u8]) -> Result<i64, u32> {
-        if record.len() != 128 {
+        if record.len() != 128 && record.len() != 192 {
             return Err(1);
         }
         if !well_formed(name) {

@@ -1,6 +1,6 @@
-//! A card: its sixteen numbers clipped and worked, or the refusal's number.
+//! A card: its numbers, sixteen or twenty-four by its version, clipped and worked, or the refusal's number.
 
-use crate::numbers::{highest, Octave, Scaled, RATIO_LIMIT, TICK_LIMIT};
+use crate::numbers::{gain, highest, Gain, Octave, Scaled, CURVE, RATIO_LIMIT, TICK_LIMIT};
 
 /// A card as its currents need it.
 #[derive(Clone, Copy, Debug, PartialEq)]
@@ -18,8 +18,19 @@ pub struct Card {
     pub second: Octave,
     pub exsub: bool,
     pub direct: bool,
+    /// The reverse non-ideal current, where there is one.
+    pub reverse: Option<Reverse>,
     pub alone: Alone,
     pub highest: Highest,
+}
+
+/// The eighth branch: its value, its T by itself, the doubled octave and the exponential of V_Lr at it.
+#[derive(Clone, Copy, Debug, PartialEq)]
+pub struct Reverse {
+    pub s: Scaled,
+    pub alone: i64,
+    pub octave: Octave,
+    pub knee: Gain,
 }
 
 /// T of values by themselves.
@@ -46,8 +57,10 @@ pub struct Highest {
 }
 
 pub struct Clipped {
-    pub numbers: [f64; 16],
-    pub mask: u16,
+    /// As many as the record has; the others are 0.
+    pub numbers: [f64; WORDS],
+    pub width: usize,
+    pub mask: u32,
 }
 
 #[derive(Clone, Copy)]
@@ -57,7 +70,10 @@ enum Rule {
     Between(f64, f64),
 }
 
-const RULES: [Rule; 16] = [
+/// The words of the widest record.
+const WORDS: usize = 24;
+
+const RULES: [Rule; WORDS] = [
     Rule::AtLeast(0.0),
     Rule::AtLeast(0.0),
     Rule::AtLeast(1e-12),
@@ -74,13 +90,22 @@ const RULES: [Rule; 16] = [
     Rule::Between(0.0, 1.0),
     Rule::Free,
     Rule::Free,
+    Rule::AtLeast(0.0),
+    Rule::Free,
+    Rule::AtLeast(0.001),
+    Rule::AtLeast(0.001),
+    Rule::AtLeast(0.001),
+    Rule::Free,
+    Rule::Free,
+    Rule::Free,
 ];
 
 pub fn clip(record: &[u8]) -> Result<Clipped, u32> {
-    if record.len() != 128 {
+    if record.len() != 128 && record.len() != 192 {
         return Err(1);
     }
-    let mut numbers = [0f64; 16];
+    let width = record.len() / 8;
+    let mut numbers = [0f64; WORDS];
     for (x, bytes) in numbers.iter_mut().zip(record.chunks(8)) {
         *x = f64::from_bits(u64::from_le_bytes(bytes.try_into().unwrap()));
         if !x.is_finite() {
@@ -88,7 +113,7 @@ pub fn clip(record: &[u8]) -> Result<Clipped, u32> {
         }
     }
     let mut mask = 0;
-    for (i, x) in numbers.iter_mut().enumerate() {
+    for (i, x) in numbers[..width].iter_mut().enumerate() {
         let before = *x;
         let after = match RULES[i] {
             Rule::Free => before,
@@ -100,7 +125,11 @@ pub fn clip(record: &[u8]) -> Result<Clipped, u32> {
         }
         *x = if after == 0.0 { 0.0 } else { after };
     }
-    Ok(Clipped { numbers, mask })
+    Ok(Clipped {
+        numbers,
+        width,
+        mask,
+    })
 }
 
 /// A finite number that is not negative, as a * 2^b, for its product with m * 2^n in units of 2^-(30 + places).
@@ -142,17 +171,23 @@ fn ratio(x: f64) -> Scaled {
 }
 
 pub fn judge(record: &[u8]) -> Result<Card, u32> {
-    let x = clip(record)?.numbers;
+    let Clipped {
+        numbers: x, width, ..
+    } = clip(record)?;
     if x[15] != 504.0 {
         return Err(7);
     }
     if x[13] != 0.0 && x[13] != 1.0 {
         return Err(8);
     }
+    if width == WORDS && (x[21] != 1.0 || record[176..].iter().any(|b| *b != 0)) {
+        return Err(8);
+    }
     if x[14].fract() != 0.0 || x[14] < 10_000_000.0 || x[14] > 50_000_000.0 {
         return Err(9);
     }
-    let [mult, is, ik, bf, xi, ibf, mlf, bri, iss, icss, iks, _, rcbli, exsub, octave, _] = x;
+    let [mult, is, ik, bf, xi, ibf, mlf, bri, iss, icss, iks, _, rcbli, exsub, octave, _, ibr, vlr, ..] =
+        x;
     let sn = is * mult;
     let bulk = ((1.0 - xi) * sn) / bf;
     let side = (xi * sn) / bf;
@@ -163,20 +198,21 @@ pub fn judge(record: &[u8]) -> Result<Card, u32> {
     let rex = (4.0 * is) / ik;
     let rsub = (4.0 * is) / iks;
     let product = mlf * octave;
-    let all = [sn, bulk, side, nonideal, ex, sub, sf, rex, rsub, product];
-    if all.iter().any(|v| !v.is_finite()) || product.trunc() > 1e9 {
+    let s = ibr * mult;
+    let all = [sn, bulk, side, nonideal, ex, sub, sf, rex, rsub, product, s];
+    if all.iter().any(|v| !v.is_finite()) || product.trunc() > 1e9 || vlr.abs() > 5.0 {
         return Err(10);
     }
     let exsub = exsub == 1.0;
-    let [sn, bulk, side, nonideal, ex, sub, sf] =
-        [sn, bulk, side, nonideal, ex, sub, sf].map(current);
+    let [sn, bulk, side, nonideal, ex, sub, sf, s] =
+        [sn, bulk, side, nonideal, ex, sub, sf, s].map(current);
     let [rex, rsub] = [rex, rsub].map(ratio);
     let mut highest = Highest {
         b2e1: highest(&[sn, bulk, rex]),
         b2c2: highest(&[sn, rex]),
         b1e1: highest(&[side]),
         second: highest(&[nonideal]),
-        b1c4: highest(&[ex, sub, rex, rsub]),
+        b1c4: highest(&[ex, sub, rex, rsub, s]),
         sc1: highest(&[sf]),
         sc4: highest(&[sub]),
     };
@@ -188,6 +224,7 @@ pub fn judge(record: &[u8]) -> Result<Card, u32> {
             0
         })
     };
+    let s_alone = alone(s, true);
     let alone = Alone {
         bulk: alone(bulk, true),
         side: alone(side, true),
@@ -196,6 +233,13 @@ pub fn judge(record: &[u8]) -> Result<Card, u32> {
         sub: alone(sub, !exsub),
         sf: alone(sf, true),
     };
+    let doubled = Octave::of(2 * octave as i64);
+    let reverse = (s.a > 0).then(|| Reverse {
+        s,
+        alone: s_alone,
+        octave: doubled,
+        knee: gain(&CURVE, (vlr * 1_000_000.0) as i64, doubled),
+    });
     Ok(Card {
         sn,
         bulk,
@@ -210,6 +254,7 @@ pub fn judge(record: &[u8]) -> Result<Card, u32> {
         second: Octave::of(product as i64),
         exsub,
         direct: rcbli == 0.0,
+        reverse,
         alone,
         highest,
     })

@@ -1,24 +1,24 @@
-//! The seven branch currents of a transistor.
+//! The eight branch currents of a transistor.
 
 use crate::card::Card;
-use crate::numbers::{gain, quotient, root, Curve, Scaled};
+use crate::numbers::{gain, over_sum, quotient, root, sum_of, Curve, Scaled};
 
 /// Voltages of E1, B1, B2, C1, C2, C4 and S, in microvolts.
 pub type Volts = [i64; 7];
 
 /// The currents of the branches, in ticks.
-pub type Currents = [i64; 7];
+pub type Currents = [i64; 8];
 
 /// What a transistor gives to the totals of the nodes of its roles.
 #[inline]
-pub fn by_role([i1, i2, i3, i4, i5, i6, i7]: Currents) -> [i64; 7] {
+pub fn by_role([i1, i2, i3, i4, i5, i6, i7, i8]: Currents) -> [i64; 7] {
     [
         -i1 - i2 - i3 - i4,
-        i3 + i5 + i6,
+        i3 + i5 + i6 + i8,
         i2 + i4,
         -i7,
         i1,
-        -i5,
+        -i5 - i8,
         i7 - i6,
     ]
 }
@@ -69,6 +69,13 @@ pub fn currents(curve: &Curve, c: &Card, v: &Volts) -> Option<Currents> {
     if room < 0 {
         return None;
     }
+    let i8 = match &c.reverse {
+        None => 0,
+        Some(r) => {
+            let y = sum_of(gain(curve, b1 - c4, r.octave), r.knee)?;
+            over_sum(r.s.floor(b1c4) - r.alone, y)?
+        }
+    };
     Some([
         shared(
             c.sn.floor(b2e1) - c.sn.floor(b2c2),
@@ -81,6 +88,7 @@ pub fn currents(curve: &Curve, c: &Card, v: &Volts) -> Option<Currents> {
         shared(c.ex.floor(b1c4) - c.alone.ex, 0, c.rex.floor(b1c4)),
         shared(c.sub.floor(b1c4) - minus, 0, c.rsub.floor(b1c4)),
         c.sf.floor(sc1) - c.alone.sf,
+        i8,
     ])
 }
 
@@ -95,6 +103,14 @@ pub fn overload(curve: &Curve, c: &Card, v: &Volts) -> Option<(u32, u32)> {
     } else {
         alone(c.sub)
     };
+    let eighth = c.reverse.is_none_or(|r| {
+        let y = sum_of(gain(curve, b1 - c4, r.octave), r.knee);
+        let ticks = at(r.s, b1 - c4) && alone(r.s);
+        ticks
+            && y.is_some_and(|y| {
+                over_sum(r.s.floor(gain(curve, b1 - c4, c.octave)) - r.alone, y).is_some()
+            })
+    });
     let rows = [
         (
             at(c.sn, b2 - e1) && at(c.sn, b2 - c2),
@@ -109,6 +125,7 @@ pub fn overload(curve: &Curve, c: &Card, v: &Volts) -> Option<(u32, u32)> {
         (at(c.ex, b1 - c4) && alone(c.ex), at(c.rex, b1 - c4)),
         (at(c.sub, b1 - c4) && x, at(c.rsub, b1 - c4)),
         (at(c.sf, s - c1) && alone(c.sf), true),
+        (eighth, true),
     ];
     rows.iter().zip(1..).find_map(|(&(ticks, ratio), branch)| {
         if !ticks {

@@ -59,15 +59,24 @@ fn field(library: &[u8], at: usize, width: usize) -> usize {
         .fold(0, |n, i| n * 256 + library[at + i] as usize)
 }
 
-/// The number of cards of a good library.
-pub fn count(library: &[u8]) -> Result<usize, u32> {
+/// The words of a version's records.
+fn width(version: usize) -> Option<usize> {
+    match version {
+        1 => Some(16),
+        2 => Some(24),
+        _ => None,
+    }
+}
+
+/// The words of the records and the number of cards of a good library.
+pub fn count(library: &[u8]) -> Result<(usize, usize), u32> {
     if library.len() < 16 {
         return Err(1);
     }
     let n = field(library, 2, 2);
-    let whole = 16 + 144 * n;
-    if field(library, 0, 2) != 1
-        || n > 256
+    let words = width(field(library, 0, 2)).ok_or(1u32)?;
+    let whole = 16 + (16 + 8 * words) * n;
+    if n > 256
         || field(library, 4, 4) != 16
         || field(library, 8, 4) != 16 + 16 * n
         || field(library, 12, 4) != whole
@@ -76,32 +85,34 @@ pub fn count(library: &[u8]) -> Result<usize, u32> {
         return Err(1);
     }
     names_judged(&library[16..16 + 16 * n])?;
-    Ok(n)
+    Ok((words, n))
 }
 
-pub fn read(library: &[u8], names: &mut [u8], words: &mut [u64]) -> Result<usize, u32> {
-    let n = count(library)?;
-    if names.len() < 16 * n || words.len() < 16 * n {
+/// Reads a library: its version and the number of its cards.
+pub fn read(library: &[u8], names: &mut [u8], words: &mut [u64]) -> Result<(usize, usize), u32> {
+    let (width, n) = count(library)?;
+    if names.len() < 16 * n || words.len() < width * n {
         return Err(5);
     }
     names[..16 * n].copy_from_slice(&library[16..16 + 16 * n]);
     for (w, b) in words.iter_mut().zip(library[16 + 16 * n..].chunks(8)) {
         *w = u64::from_le_bytes(b.try_into().unwrap());
     }
-    Ok(n)
+    Ok((field(library, 0, 2), n))
 }
 
-pub fn write(names: &[u8], words: &[u64], library: &mut [u8]) -> Result<usize, u32> {
+pub fn write(version: u16, names: &[u8], words: &[u64], library: &mut [u8]) -> Result<usize, u32> {
+    let width = width(version as usize).ok_or(1u32)?;
     let n = names.len() / 16;
-    if names.len() % 16 != 0 || words.len() != 16 * n || n > 256 {
+    if names.len() % 16 != 0 || words.len() != width * n || n > 256 {
         return Err(1);
     }
     names_judged(names)?;
-    let whole = 16 + 144 * n;
+    let whole = 16 + (16 + 8 * width) * n;
     if library.len() < whole {
         return Err(5);
     }
-    library[0..2].copy_from_slice(&1u16.to_le_bytes());
+    library[0..2].copy_from_slice(&version.to_le_bytes());
     library[2..4].copy_from_slice(&(n as u16).to_le_bytes());
     library[4..8].copy_from_slice(&16u32.to_le_bytes());
     library[8..12].copy_from_slice(&((16 + 16 * n) as u32).to_le_bytes());
@@ -113,14 +124,15 @@ pub fn write(names: &[u8], words: &[u64], library: &mut [u8]) -> Result<usize, u
     Ok(whole)
 }
 
-/// Where a card's record starts.
-pub fn locate(library: &[u8], name: &[u8]) -> Result<usize, u32> {
-    let n = count(library)?;
+/// Where a card's record starts, and its bytes.
+pub fn locate(library: &[u8], name: &[u8]) -> Result<(usize, usize), u32> {
+    let (words, n) = count(library)?;
     if !well_formed(name) {
         return Err(2);
     }
     let mut key = [0u8; 16];
     key[..name.len()].copy_from_slice(name);
     let at = library[16..16 + 16 * n].chunks(16).position(|x| x == key);
-    at.map(|i| 16 + 16 * n + 128 * i).ok_or(4)
+    at.map(|i| (16 + 16 * n + 8 * words * i, 8 * words))
+        .ok_or(4)
 }

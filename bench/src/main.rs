@@ -2,8 +2,8 @@
 //!
 //!   bench vectors FOLDER    this implementation against a folder of outside vectors
 //!   bench desk SCRIPT       what the desk must answer to a script
-//!   bench time NAME TIMES   one of the timed runs: root, exponential, currents, saturated, empty, still, move, all,
-//!                           singly, together, pair, read, find, and the last two with _alike and _crowded
+//!   bench time NAME TIMES   one of the timed runs: root, exponential, currents, saturated, wide, reverse, empty, still,
+//!                           move, refused, all, singly, together, pair, read, find, and the last two with _wide, _alike and _crowded
 //!   bench differ ROUNDS     random inputs through the built programs (`./desk`, `./listing` of the project) and this implementation
 
 mod board;
@@ -139,6 +139,12 @@ fn timed_record() -> Vec<u8> {
     words.map(f64::to_le_bytes).concat()
 }
 
+/// The same as version 2 has it, with a reverse non-ideal current.
+fn wide_record() -> Vec<u8> {
+    let more = [1e-15, 0.2, 1.0, 1.0, 1.0, 1.0, 0.0, 0.0f64];
+    [timed_record(), more.map(f64::to_le_bytes).concat()].concat()
+}
+
 fn time_root(times: u64) {
     let (mut x, mut sum) = (1u64, 0u64);
     for n in 0..times {
@@ -161,16 +167,16 @@ fn time_exponential(times: u64) {
 }
 
 /// Seven voltages of which no two go together, so that no exponential serves two rows by chance.
-fn time_currents(times: u64, collector: i64, slope: i64) {
+fn time_currents(times: u64, record: &[u8], collector: i64, slope: i64) {
     let curve = *numbers::CURVE;
-    let c = card::judge(&timed_record()).unwrap();
+    let c = card::judge(record).unwrap();
     let (mut x, mut sum) = (1u32, 0u64);
     for _ in 0..times {
         x = (x * 1103 + 12345) % 65536;
         let y = x as i64;
         let (b, h) = (600_000 + 2 * y, collector + slope * y);
         let v = [0, b, b - y / 8, h, h + y / 16, h + y / 32, 0];
-        let t = currents::currents(&curve, &c, &v).unwrap_or([0; 7]);
+        let t = currents::currents(&curve, &c, &v).unwrap_or([0; 8]);
         sum = t.iter().fold(sum, |s, t| s.wrapping_add(*t as u64));
     }
     println!("{sum}");
@@ -291,25 +297,31 @@ const CROWDED: Names = Names {
     found: b"imnnnnnnhdnnnnnn",
 };
 
-/// A good library of 256 cards.
-fn timed_library(set: &Names) -> Vec<u8> {
+/// A good library of 256 cards of a version.
+fn timed_library(set: &Names, version: u16) -> Vec<u8> {
     let mut names = vec![0; 4096];
     for (i, field) in names.chunks_mut(16).enumerate() {
         let name = (set.name)(i);
         field[..name.len()].copy_from_slice(&name);
     }
-    let words: Vec<u64> = timed_record()
+    let record = if version == 1 {
+        timed_record()
+    } else {
+        wide_record()
+    };
+    let words: Vec<u64> = record
         .chunks(8)
         .map(|b| u64::from_le_bytes(b.try_into().unwrap()))
         .collect();
     let mut l = vec![0; protocol::LONGEST];
-    library::write(&names, &words.repeat(256), &mut l).unwrap();
+    let n = library::write(version, &names, &words.repeat(256), &mut l).unwrap();
+    l.truncate(n);
     l
 }
 
-fn time_read(times: usize, set: &Names) {
-    let mut l = timed_library(set);
-    let (mut names, mut words, mut sum) = (vec![0; 4096], vec![0; 4096], 0);
+fn time_read(times: usize, set: &Names, version: u16) {
+    let mut l = timed_library(set, version);
+    let (mut names, mut words, mut sum) = (vec![0; 4096], vec![0; 6144], 0);
     for n in 0..times {
         (set.change)(&mut l, (n % 10) as u8);
         library::read(std::hint::black_box(&l), &mut names, &mut words).unwrap();
@@ -318,11 +330,11 @@ fn time_read(times: usize, set: &Names) {
     println!("{sum}");
 }
 
-fn time_find(times: usize, set: &Names) {
-    let (mut l, mut sum) = (timed_library(set), 0);
+fn time_find(times: usize, set: &Names, version: u16) {
+    let (mut l, mut sum) = (timed_library(set, version), 0);
     for n in 0..times {
         (set.change)(&mut l, (n % 10) as u8);
-        let at = library::locate(std::hint::black_box(&l), set.found).unwrap();
+        let (at, _) = library::locate(std::hint::black_box(&l), set.found).unwrap();
         sum += 1 + l[at + n % 128] as u64;
     }
     println!("{sum}");
@@ -332,8 +344,10 @@ fn time(name: &str, times: u64) {
     match name {
         "root" => time_root(times),
         "exponential" => time_exponential(times),
-        "currents" => time_currents(times, 2_000_000, -1),
-        "saturated" => time_currents(times, 0, 1),
+        "currents" => time_currents(times, &timed_record(), 2_000_000, -1),
+        "saturated" => time_currents(times, &timed_record(), 0, 1),
+        "wide" => time_currents(times, &wide_record(), 2_000_000, -1),
+        "reverse" => time_currents(times, &wide_record(), 0, 1),
         "empty" => time_moves(times, 0, |n| 1 + n % 8, 600_000),
         "still" => time_moves(times, 64, |_| 31, 600_000),
         "move" => time_moves(times, 64, |n| 1 + n % 8, 600_000),
@@ -342,12 +356,14 @@ fn time(name: &str, times: u64) {
         "singly" => time_stages(times, false),
         "together" => time_stages(times, true),
         "pair" => time_pair(times),
-        "read" => time_read(times as usize, &PLAIN),
-        "find" => time_find(times as usize, &PLAIN),
-        "read_alike" => time_read(times as usize, &ALIKE),
-        "find_alike" => time_find(times as usize, &ALIKE),
-        "read_crowded" => time_read(times as usize, &CROWDED),
-        "find_crowded" => time_find(times as usize, &CROWDED),
+        "read" => time_read(times as usize, &PLAIN, 1),
+        "find" => time_find(times as usize, &PLAIN, 1),
+        "read_wide" => time_read(times as usize, &PLAIN, 2),
+        "find_wide" => time_find(times as usize, &PLAIN, 2),
+        "read_alike" => time_read(times as usize, &ALIKE, 1),
+        "find_alike" => time_find(times as usize, &ALIKE, 1),
+        "read_crowded" => time_read(times as usize, &CROWDED, 1),
+        "find_crowded" => time_find(times as usize, &CROWDED, 1),
         _ => println!("no timed run {name}"),
     }
 }

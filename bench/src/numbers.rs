@@ -95,7 +95,7 @@ impl Octave {
 }
 
 /// G(V) = m * 2^(n - 30) at the position p of V.
-#[derive(Clone, Copy)]
+#[derive(Clone, Copy, Debug, PartialEq)]
 pub struct Gain {
     pub m: u64,
     pub n: i64,
@@ -167,6 +167,43 @@ pub fn highest(values: &[Scaled]) -> i64 {
 pub fn root(x: u64) -> u64 {
     let r = (x as f64).sqrt() as u64;
     r - (r * r > x) as u64
+}
+
+/// The most that a divisor of two exponentials may be.
+pub const SUM_LIMIT: u64 = 1 << 43;
+
+/// floor(2^20 * (G + H)), exactly, where it is neither 0 nor above its limit.
+#[inline]
+pub fn sum_of(g: Gain, h: Gain) -> Option<u64> {
+    let (low, high) = if g.n < h.n { (g, h) } else { (h, g) };
+    if high.n > 23 {
+        return None;
+    }
+    let apart = high.n - low.n;
+    // the lower one counts, at most, in the place below which the higher one has nothing
+    let sum = if apart > 64 {
+        (high.m as u128) << 64 | 1
+    } else {
+        ((high.m as u128) << 64) + ((low.m as u128) << (64 - apart))
+    };
+    let down = 64 + 10 - high.n;
+    let y = if down > 127 { 0 } else { (sum >> down) as u64 };
+    (1..=SUM_LIMIT).contains(&y).then_some(y)
+}
+
+/// n * 2^20 / y toward zero, where it is at most 2^53 in size, for n up to 2^54 in size.
+#[inline]
+pub fn over_sum(n: i64, y: u64) -> Option<i64> {
+    let size = n.unsigned_abs();
+    let q = if size < 1 << 44 {
+        (size << 20) / y
+    } else {
+        u64::try_from(((size as u128) << 20) / y as u128).unwrap_or(u64::MAX)
+    };
+    if q > TICK_LIMIT as u64 {
+        return None;
+    }
+    Some(if n < 0 { -(q as i64) } else { q as i64 })
 }
 
 /// n * 2^21 / d toward zero, for n up to 2^54 in size and d below 2^42.

@@ -5,23 +5,24 @@ use crate::card::{clip, judge};
 use crate::library;
 use std::fmt::Write;
 
-pub const LONGEST: usize = 16 + 144 * 256;
+pub const LONGEST: usize = 16 + 208 * 256;
 
 pub fn listing(input: &[u8]) -> Vec<u8> {
-    let n = match library::count(input) {
-        Ok(n) => n,
+    let (words, n) = match library::count(input) {
+        Ok(found) => found,
         Err(k) => return format!("refused {k}\n").into_bytes(),
     };
     let mut out = format!("cards {n}\n").into_bytes();
     for i in 0..n {
         let name = &input[16 + 16 * i..32 + 16 * i];
-        let record = &input[16 + 16 * n + 128 * i..][..128];
+        let record = &input[16 + 16 * n + 8 * words * i..][..8 * words];
         let (mask, refusal) = match judge(record) {
             Ok(_) => (clip(record).map_or(0, |c| c.mask), 0),
             Err(k) => (0, k),
         };
         out.extend(name.iter().take_while(|&&b| b != 0));
-        out.extend(format!(" {mask:04x} {refusal}\n").bytes());
+        let digits = words / 4;
+        out.extend(format!(" {mask:0digits$x} {refusal}\n").bytes());
     }
     out
 }
@@ -126,7 +127,7 @@ impl Desk {
     }
 
     fn record(&self, name: &[u8]) -> Result<Vec<u8>, u32> {
-        library::locate(&self.library, name).map(|at| self.library[at..at + 128].to_vec())
+        library::locate(&self.library, name).map(|(at, size)| self.library[at..at + size].to_vec())
     }
 
     fn obey(&mut self, words: &[&[u8]]) -> Option<Vec<u8>> {
@@ -135,19 +136,19 @@ impl Desk {
             (b"library", 1) => match (self.read)(rest[0]) {
                 None => return Some([b"error cannot read ", rest[0]].concat()),
                 Some(bytes) => match library::count(&bytes) {
-                    Ok(n) => {
+                    Ok((_, n)) => {
                         self.library = bytes;
                         format!("library {n}")
                     }
                     Err(k) => format!("refused {k}"),
                 },
             },
-            (b"find", 1) => told(library::locate(&self.library, rest[0]), |at| {
+            (b"find", 1) => told(library::locate(&self.library, rest[0]), |(at, _)| {
                 format!("record {at}")
             }),
             (b"clip", 1) => told(self.record(rest[0]).and_then(|r| clip(&r)), |c| {
-                let mut s = format!("clip {:04x}", c.mask);
-                for x in c.numbers {
+                let mut s = format!("clip {:0d$x}", c.mask, d = c.width / 4);
+                for x in &c.numbers[..c.width] {
                     write!(s, " {:016x}", x.to_bits()).unwrap();
                 }
                 s

@@ -1,5 +1,5 @@
 -- The line that answers a command, with the newline that ends it.
-use mathlib.Core.Bool.{cond}
+use mathlib.Core.Bool.{Bool, cond}
 use mathlib.Core.List.{List, [], _∷_, _++_}
 use Prim.Native.Nat.{ℕ}
 use lib.Ieee.{Float, binary64, toBits, eq}
@@ -52,5 +52,5 @@ unfoldable pub wordsLine : List Float → List ℕ
 wordsLine [] = newline ∷ []
 wordsLine (x ∷ l) = space ∷ (hexDigits wordDigits (bitsOf x) ++ wordsLine l)
 
-unfoldable pub clipLine : ℕ → List Float → List ℕ
-clipLine mask numbers = bytes "clip " ++ (hexDigits maskDigits mask ++ wordsLine numbers)
+unfoldable pub clipLine : ℕ → Bool → List Float → List ℕ
+clipLine mask wide numbers = bytes "clip " ++ (hexDigits (maskDigits wide) mask ++ wordsLine numbers)

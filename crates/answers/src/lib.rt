@@ -63,11 +63,11 @@ pub fn unreadable_line(path: &[u8], out: &mut [u8]) -> usize
     page::put(b"\n", out, named)
 }
 
-// A clipped record: its mask and the bits of its numbers.
-pub fn clip_line(mask: u32, numbers: &[f64], out: &mut [u8; ANSWER_ROOM]) -> usize
-    ensures { λ r. ⌜ Writes (clipLine mask (now (numbers .entry))) (now (out .entry)) 0 (now (out .exit)) r ⌝ }
+// A clipped record: its mask, by whether it is of version 2, and the bits of its numbers.
+pub fn clip_line(mask: u32, wide: bool, numbers: &[f64], out: &mut [u8; ANSWER_ROOM]) -> usize
+    ensures { λ r. ⌜ Writes (clipLine mask wide (now (numbers .entry))) (now (out .entry)) 0 (now (out .exit)) r ⌝ }
 {
     let start = page::put(b"clip ", out, 0);
-    let masked = page::put_text(sheet::mask_digits(mask), out, start);
+    let masked = page::put_text(sheet::mask_digits(mask, wide), out, start);
     parts::put_words(numbers, out, masked)
 }

@@ -1,9 +1,11 @@
 -- What clipping's answer says of loading: the same refusal, or that the tests go on with the clipped numbers.
-use mathlib.Core.Path.{_≡_, sym, subst}
-use mathlib.Core.Bool.{true, not}
-use mathlib.Core.List.{List}
+use mathlib.Core.Path.{_≡_, sym, ap, subst, _∙_}
+use mathlib.Core.Bool.{Bool, true, false, not, cond}
+use mathlib.Core.List.{List, [], _∷_, _++_, append-nil, append-assoc}
 use Prim.Native.Nat.{ℕ}
 use native.Mathlib.Omega.{arith}
+use lib.ListN.{length, set, length-append}
+use lib.Seq.{set-at}
 use lib.Ieee.{Float}
 use borrow.Author.Tests.{not-false}
 use Rattle.refusal.specs.declared.Refusal.{Refusal}
@@ -12,34 +14,50 @@ use Rattle.refusal.specs.Told.{told}
 use Rattle.refusal.specs.Order.{refuseIf, yes, tells, refused, passes-if}
 use Rattle.clip.specs.declared.Answer.the-variants as answer
 use Rattle.clip.specs.declared.Clipping.{Clipping}
-use Rattle.clip.specs.Limits.{width}
-use Rattle.clip.specs.Record.{hasWords, finiteUp}
-use Rattle.clip.specs.Clip.{clippedUp, clipOf, Clips}
-use Rattle.card.specs.Judge.{judgeNumbers, judgeOf}
+use Rattle.clip.specs.Numbers as number
+use Rattle.clip.specs.Limits.{zero, one, wide, narrow}
+use Rattle.clip.specs.Record.{isWide, rightLength, widthOf, finiteUp}
+use Rattle.clip.specs.Clip.{clippedUp, paddedUp, clipOf, Clips}
+use Rattle.card.specs.Judge.{numbersFor, sparesGood, judgeNumbers, judgeOf}
+use Rattle.card.specs.inner.Missing.{filledWith}
 use Rattle.card.specs.inner.Worked.{GoodMlf}
 use Rattle.clip.specs.laws.Unique.{clip-taken, clip-refused}
-use Rattle.card.proofs.Clipped.{good-mlf}
+use Rattle.card.proofs.Clipped.{long, good-mlf}
 
-all-finite : (n : ℕ) (s : List ℕ) → clipOf n s ≡ yes tt → finiteUp s n ≡ true
+all-finite : (s : List ℕ) → clipOf s ≡ yes tt → finiteUp s (widthOf s) ≡ true
 unfolding clipOf
-all-finite n s e =
-    let long = passes-if (not (hasWords n s)) Malformed (refuseIf (not (finiteUp s n)) NotFinite (yes tt)) tt e in
-    not-false (finiteUp s n) (passes-if (not (finiteUp s n)) NotFinite (yes tt) tt (long .1) .0)
+all-finite s e =
+    let f = finiteUp s (widthOf s) in
+    let right = passes-if (not (rightLength s)) Malformed (refuseIf (not f) NotFinite (yes tt)) tt e in
+    not-false f (passes-if (not f) NotFinite (yes tt) tt (right .1) .0)
+
+-- ---- what clipping gives, filled, is what is judged: the polarity alone is not the zero that stands there
+before : List Float
+before = zero ∷ zero ∷ zero ∷ zero ∷ zero ∷ []
+
+filled-is : (s : List ℕ) (b : Bool) → filledWith b (paddedUp s (cond b wide narrow)) ≡ numbersFor b s
+unfolding before
+filled-is s true = append-nil (clippedUp s wide)
+filled-is s false =
+    let p = clippedUp s narrow in
+    let h : length (p ++ before) ≡ number.polarity = length-append p before ∙ omega (arith, long s narrow) in
+    ap (λ (l : List Float). set l number.polarity one) (sym (append-assoc p before (zero ∷ zero ∷ zero ∷ [])))
+    ∙ set-at (p ++ before) zero (zero ∷ zero ∷ []) one number.polarity h
+    ∙ append-assoc p before (one ∷ zero ∷ zero ∷ [])
 
 pub record Went (s : List ℕ) (x : List Float) : Type 0 where
-  pub numbers : x ≡ clippedUp s width
   pub good : GoodMlf x
-  pub next : judgeOf s ≡ judgeNumbers x
+  pub next : judgeOf s ≡ judgeNumbers (sparesGood s) x
 
-module _ {s : List ℕ} {r : Clipping} (c : Clips width s r) where
-  pub went : r .answer ≡ answer.Taken → Went s (r .numbers)
+module _ {s : List ℕ} {r : Clipping} (c : Clips s r) where
+  pub went : r .answer ≡ answer.Taken → {x : List Float} → x ≡ filledWith (isWide s) (r .numbers) → Went s x
   unfolding judgeOf
-  went t =
-      let e = clip-taken (clipOf width s) (c .answer) t in
-      let n : r .numbers ≡ clippedUp s width = rw e at (c .numbers) in
-      let g = good-mlf s width (omega arith) (all-finite width s e) in
-      record { numbers = n; good = subst GoodMlf (sym n) g; next = rw (e, n) }
+  went t ex =
+      let e = clip-taken (clipOf s) (c .answer) t in
+      let n : r .numbers ≡ paddedUp s (widthOf s) = rw e at (c .numbers) in
+      let j = ex ∙ ap (filledWith (isWide s)) n ∙ filled-is s (isWide s) in
+      record { good = subst GoodMlf (sym j) (good-mlf s (isWide s) (all-finite s e)); next = rw (e, j) }
 
   pub stays : (f : Refusal) → r .answer ≡ answer.Refused f → refused (told f) ≡ tells (judgeOf s)
   unfolding judgeOf
-  stays f t = rw (clip-refused (clipOf width s) (c .answer) t)
+  stays f t = rw (clip-refused (clipOf s) (c .answer) t)

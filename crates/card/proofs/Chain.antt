@@ -20,8 +20,9 @@ use Rattle.clip.specs.declared.Answer.the-variants as answer
 use Rattle.clip.specs.Limits.{zero, one, tenth}
 use Rattle.working.specs.Work.{workedOf, allFinite}
 use Rattle.card.specs.Octave.{ten-million, fifty-million, wholePart, octaveGood, secondGood}
-use Rattle.card.specs.Judge.{parametersOf, exsub, rcbli, octave, level, mlf, product, cardFrom, cardOf, level504}
-use Rattle.card.specs.Judge.{isSwitch, withinReach, reachOf, judgeNumbers}
+use Rattle.card.specs.Knee.{kneeGood, kneeOf}
+use Rattle.card.specs.Judge.{parametersOf, exsub, rcbli, octave, level, vlr, mlf, product, cardFrom, cardOf}
+use Rattle.card.specs.Judge.{level504, settingsGood, withinReach, reachOf, judgeNumbers}
 use Rattle.card.specs.inner.Octaves.{secondIf, secondOf}
 use Rattle.card.specs.inner.Tests.{unlessPassed, firstWrong}
 use Rattle.card.specs.inner.Worked.{GoodMlf}
@@ -91,15 +92,15 @@ module _ (a b c : Bool) (e f g : Refusal) where
       of true false c t = cc
       of false b c t = cc
 
-module _ (x : List Float) {r : Answer} (e : r ≡ firstWrong x) where
-  pub goes-on : r ≡ answer.Taken → (judgeNumbers x ≡ reachOf x) × (octaveGood (octave x) ≡ true)
+module _ (spares : Bool) (x : List Float) {r : Answer} (e : r ≡ firstWrong spares x) where
+  pub goes-on : r ≡ answer.Taken → (judgeNumbers spares x ≡ reachOf x) × (octaveGood (octave x) ≡ true)
   goes-on t =
-      none-wrong (eq (level x) level504) (isSwitch (exsub x)) (octaveGood (octave x)) WrongLevel BadExsub BadOctave
+      none-wrong (eq (level x) level504) (settingsGood spares x) (octaveGood (octave x)) WrongLevel BadExsub BadOctave
       (reachOf x) (sym e ∙ t)
 
-  pub stops : (f : Refusal) → r ≡ answer.Refused f → judgeNumbers x ≡ no f
+  pub stops : (f : Refusal) → r ≡ answer.Refused f → judgeNumbers spares x ≡ no f
   stops f t =
-      some-wrong (eq (level x) level504) (isSwitch (exsub x)) (octaveGood (octave x)) WrongLevel BadExsub BadOctave
+      some-wrong (eq (level x) level504) (settingsGood spares x) (octaveGood (octave x)) WrongLevel BadExsub BadOctave
       (reachOf x) f (sym e ∙ t)
 
 -- ---- 10
@@ -110,15 +111,20 @@ module _ (x : List Float) where
   pub second-out : secondOf (product x) ≡ Out → refused (told OutOfReach) ≡ tells (reachOf x)
   second-out p = out-of-reach (rw (told-out (secondGood (product x)) _ p))
 
-  module _ (k : ℕ) (p : secondOf (product x) ≡ Nanovolts k) (w : Worked) (ew : w ≡ workedOf (parametersOf x)) where
-    reach : withinReach x ≡ allFinite w
-    reach = rw (told-second (secondGood (product x)) _ k p .0, ew)
+  module _ (k : ℕ) (p : secondOf (product x) ≡ Nanovolts k) where
+    pub knee-out : kneeGood (vlr x) ≡ false → refused (told OutOfReach) ≡ tells (reachOf x)
+    knee-out g = out-of-reach (rw (told-second (secondGood (product x)) _ k p .0, g))
 
-    pub not-all : allFinite w ≡ false → refused (told OutOfReach) ≡ tells (reachOf x)
-    not-all a = out-of-reach (reach ∙ a)
+    module _ (g : kneeGood (vlr x) ≡ true) (w : Worked) (ew : w ≡ workedOf (parametersOf x)) where
+      reach : withinReach x ≡ allFinite w
+      reach = rw (told-second (secondGood (product x)) _ k p .0, g, ew)
 
-    pub taken : (n : ℕ) (c : WorkedCard) → n ≡ wholePart (octave x)
-        → c ≡ cardFrom w n k (eq (exsub x) one) (eq (rcbli x) zero) → allFinite w ≡ true → given c ≡ tells (reachOf x)
-    taken n c en ec a =
-        let card : c ≡ cardOf x = ec ∙ rw (en, told-second (secondGood (product x)) _ k p .1, ew) in
-        ap given card ∙ rw (reach, a)
+      pub not-all : allFinite w ≡ false → refused (told OutOfReach) ≡ tells (reachOf x)
+      not-all a = out-of-reach (reach ∙ a)
+
+      pub taken : (n v : ℕ) (c : WorkedCard) → n ≡ wholePart (octave x) → v ≡ kneeOf (vlr x)
+          → c ≡ cardFrom w n k v (eq (exsub x) one) (eq (rcbli x) zero) → allFinite w ≡ true
+          → given c ≡ tells (reachOf x)
+      taken n v c en ev ec a =
+          let card : c ≡ cardOf x = ec ∙ rw (en, told-second (secondGood (product x)) _ k p .1, ev, ew) in
+          ap given card ∙ rw (reach, a)

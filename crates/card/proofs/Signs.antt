@@ -45,7 +45,7 @@ units-unsigned f q k =
     cond-unsigned (ltb (q * 2 ^ k) (2 ^ (low f + suc (emax f)))) (odd (suc (prec f)) false q k (low f)) (inf false)
     (odd-unsigned (suc (prec f)) q k (low f)) tt
 
-round-unsigned : (f : Format) (a b : ℕ) → T (unsigned (round f false a b))
+pub round-unsigned : (f : Format) (a b : ℕ) → T (unsigned (round f false a b))
 unfolding round
 round-unsigned f a b =
     let n = a * 2 ^ low f in

@@ -1,4 +1,4 @@
--- The nine worked values of a record's clipped numbers have no minus sign.
+-- The ten worked values of a record's clipped numbers have no minus sign.
 use mathlib.Core.Path.{_≡_, refl, sym, ap, subst, _∙_}
 use mathlib.Core.Bool.{Bool, true, false, cond}
 use mathlib.Core.List.{List}
@@ -11,15 +11,15 @@ use Rattle.working.specs.declared.Worked.{Worked}
 use Rattle.clip.specs.declared.limits.Rule.{Rule}
 use Rattle.clip.specs.declared.limits.Rule.the-variants.{Free, AtLeast, Between}
 use Rattle.clip.specs.Numbers as number
-use Rattle.clip.specs.Limits.{width, zero, one, pico, tenth-milli, tenth-nano, ruleOf, plainOf, clipTo}
-use Rattle.clip.specs.Record.{numberAt, finiteUp}
-use Rattle.clip.specs.Clip.{clippedAt, clippedUp}
+use Rattle.clip.specs.Limits.{wide, narrow, zero, one, pico, tenth-milli, tenth-nano, ruleOf, plainOf, clipTo}
+use Rattle.clip.specs.Record.{isWide, numberAt, widthOf, finiteUp}
+use Rattle.clip.specs.Clip.{clippedAt}
 use Rattle.working.specs.Work.{four, sfOf, workedOf, valuesOf}
-use Rattle.card.specs.Judge.{at, parametersOf}
+use Rattle.card.specs.Judge.{numbersFor, judgedNumbers, at, parametersOf}
 use Rattle.card.specs.inner.Worked.{Each}
 use Rattle.card.specs.laws.Sign.{unsigned, Unsigned}
 use Rattle.card.proofs.Range.{holds}
-use Rattle.card.proofs.Clipped.{each-finite, each-clipped}
+use Rattle.card.proofs.Clipped.{each-finite, in-both, each-judged, each-missing}
 use Rattle.card.proofs.Signs.{plus, plus-unsigned, zero-plus, kept-plus, least-plus, between-plus, mul-unsigned}
 use Rattle.card.proofs.Signs.{div-unsigned, sub-unsigned}
 
@@ -68,38 +68,43 @@ sf-unsigned icss mult sub p q r = of (lt icss zero) refl
     of true e = r
     of false e = mul-unsigned binary64 icss mult (plus-unsigned icss (p e)) q
 
-module _ (s : List ℕ) (f : finiteUp s width ≡ true) where
+module _ (s : List ℕ) (b : Bool) (f : finiteUp s (cond b wide narrow) ≡ true) where
   abbrev x : List Float
-  x = clippedUp s width
+  x = numbersFor b s
 
   abbrev w : Worked
   w = workedOf (parametersOf x)
 
-  number-finite : (i : ℕ) → i < width → T (finite (numberAt s i))
-  number-finite i h = holds (each-finite s width i h f)
+  number-finite : (i : ℕ) → i < cond b wide narrow → T (finite (numberAt s i))
+  number-finite i h = holds (each-finite s (cond b wide narrow) i h f)
 
-  by-rule : (i : ℕ) (r : Rule) → i < width → ruleOf i ≡ r → at x i ≡ clipTo r (numberAt s i)
+  by-rule : (i : ℕ) (r : Rule) → i < cond b wide narrow → ruleOf i ≡ r → at x i ≡ clipTo r (numberAt s i)
   unfolding clippedAt
-  by-rule i r h e = each-clipped s width i h ∙ ap (λ (k : Rule). clipTo k (numberAt s i)) e
+  by-rule i r h e = each-judged s b i h ∙ ap (λ (k : Rule). clipTo k (numberAt s i)) e
 
-  least : (i : ℕ) (low : Float) → i < width → ruleOf i ≡ AtLeast low → T (plus low) → T (plus (at x i))
-  least i low h e p = rw (by-rule i (AtLeast low) h e) (least-plus low (numberAt s i) p (number-finite i h))
+  from-least : (i : ℕ) (low : Float) → i < cond b wide narrow → ruleOf i ≡ AtLeast low → T (plus low)
+      → T (plus (at x i))
+  from-least i low h e p = rw (by-rule i (AtLeast low) h e) (least-plus low (numberAt s i) p (number-finite i h))
+
+  -- one of the first sixteen
+  least : (i : ℕ) (low : Float) → i < narrow → ruleOf i ≡ AtLeast low → T (plus low) → T (plus (at x i))
+  least i low h = from-least i low (in-both b i h)
 
   -- a parameter whose least is zero
-  from-zero : (i : ℕ) → i < width → ruleOf i ≡ AtLeast zero → T (unsigned (at x i))
+  from-zero : (i : ℕ) → i < narrow → ruleOf i ≡ AtLeast zero → T (unsigned (at x i))
   from-zero i h e = plus-unsigned (at x i) (least i zero h e zero-plus)
 
   abbrev xibi : Float
   xibi = at x number.xibi
 
   xibi-at : xibi ≡ clipTo (Between zero one) (numberAt s number.xibi)
-  xibi-at = by-rule number.xibi (Between zero one) (omega arith) refl
+  xibi-at = by-rule number.xibi (Between zero one) (in-both b number.xibi (omega arith)) refl
 
   xibi-plus : T (plus xibi)
   xibi-plus =
       rw xibi-at
       (between-plus zero one (numberAt s number.xibi) zero-plus (limits-plus .0)
-      (number-finite number.xibi (omega arith)))
+      (number-finite number.xibi (in-both b number.xibi (omega arith))))
 
   left-of-one : T (unsigned (sub binary64 one xibi))
   left-of-one =
@@ -107,11 +112,13 @@ module _ (s : List ℕ) (f : finiteUp s width ≡ true) where
 
   icss-plus : lt (at x number.icss) zero ≡ false → T (plus (at x number.icss))
   icss-plus h =
-      let e = by-rule number.icss Free (omega arith) refl in
-      rw e (free-plus (numberAt s number.icss) (number-finite number.icss (omega arith)) (rw e at h))
+      let l = in-both b number.icss (omega arith) in
+      let e = by-rule number.icss Free l refl in
+      rw e (free-plus (numberAt s number.icss) (number-finite number.icss l) (rw e at h))
 
-  pub worked-unsigned : Each Unsigned (valuesOf w)
-  worked-unsigned =
+  -- the reverse current, given that its parameter has no minus sign
+  values-unsigned : T (plus (at x number.ibr)) → Each Unsigned (valuesOf w)
+  values-unsigned ibr =
       let times = mul-unsigned binary64 in
       let over = div-unsigned binary64 in
       let mult = from-zero number.mult (omega arith) refl in
@@ -133,4 +140,14 @@ module _ (s : List ℕ) (f : finiteUp s width ≡ true) where
       let ex = over (w .sn) (at x number.bri) sn bri in
       let rex = over (mul binary64 four (at x number.is)) (at x number.ik) fourfold ik in
       let rsub = over (mul binary64 four (at x number.is)) (at x number.iks) fourfold iks in
-      (sn, (bulk-share, (side-share, (nonideal, (ex, (ss, (sf, (rex, (rsub, tt)))))))))
+      let reverse = times (at x number.ibr) (at x number.mult) (plus-unsigned (at x number.ibr) ibr) mult in
+      (sn, (bulk-share, (side-share, (nonideal, (ex, (ss, (sf, (rex, (rsub, (reverse, tt))))))))))
+
+-- I_Br, which a record of version 1 has not
+ibr-plus : (s : List ℕ) (b : Bool) → finiteUp s (cond b wide narrow) ≡ true → T (plus (at (numbersFor b s) number.ibr))
+ibr-plus s true f = from-least s true f number.ibr zero (omega arith) refl zero-plus
+ibr-plus s false f = rw (each-missing s 0) zero-plus
+
+pub worked-unsigned : (s : List ℕ) → finiteUp s (widthOf s) ≡ true
+    → Each Unsigned (valuesOf (workedOf (parametersOf (judgedNumbers s))))
+worked-unsigned s f = values-unsigned s (isWide s) f (ibr-plus s (isWide s) f)

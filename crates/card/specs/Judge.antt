@@ -1,7 +1,8 @@
 -- What loading says of a record: 1, 6, 7, 8, 9, 10, or the worked card.
-use mathlib.Core.Bool.{Bool, false, not, _&&_, _||_}
-use mathlib.Core.List.{List}
-use Prim.Native.Nat.{ℕ}
+use mathlib.Core.Bool.{Bool, true, false, not, _&&_, _||_}
+use mathlib.Core.List.{List, [], _∷_, _++_}
+use Prim.Native.Nat.{ℕ, suc}
+use lib.Dec.{eqb}
 use lib.ListN.{getD}
 use lib.Ieee.{Float, nan, binary64, ofBits, eq, mul}
 use Rattle.refusal.specs.declared.Refusal.the-variants.{WrongLevel, BadExsub, BadOctave, OutOfReach}
@@ -14,16 +15,31 @@ use Rattle.card.specs.declared.WorkedCard.{WorkedCard}
 use Rattle.card.specs.declared.Judged.{Judged}
 use Rattle.card.specs.declared.Judged.the-variants.{Card, Refused}
 use Rattle.clip.specs.Numbers as number
-use Rattle.clip.specs.Limits.{zero, one, width}
+use Rattle.clip.specs.Limits.{zero, one, wide, narrow}
+use Rattle.clip.specs.Record.{isWide, wordAt}
 use Rattle.clip.specs.Clip.{clippedUp, clipOf}
 use Rattle.working.specs.Work.{workedOf, allFinite}
 use Rattle.card.specs.Octave.{wholePart, octaveGood, secondGood}
+use Rattle.card.specs.Knee.{kneeGood, kneeOf}
+
+-- what the words mean that a record of version 1 has not: I_Br 0, V_Lr 0, no resistors, polarity +1, and nothing spare.
+-- Of the resistors version 2 can say no such thing: each of its own is clipped to 0.001 at least
+abbrev pub missing : List Float
+missing = zero ∷ zero ∷ zero ∷ zero ∷ zero ∷ one ∷ zero ∷ zero ∷ []
+
+-- the clipped numbers that are judged: all of a record of version 2; of version 1 the sixteen, and the missing ones
+abbrev pub numbersFor : Bool → List ℕ → List Float
+numbersFor true s = clippedUp s wide
+numbersFor false s = clippedUp s narrow ++ missing
+
+abbrev pub judgedNumbers : List ℕ → List Float
+judgedNumbers s = numbersFor (isWide s) s
 
 -- number i of the clipped ones
 abbrev pub at : List Float → ℕ → Float
 at x i = getD x i nan
 
--- the ten that are worked
+-- those that are worked
 abbrev pub parametersOf : List Float → Parameters
 parametersOf x = record {
   mult = at x number.mult;
@@ -36,6 +52,7 @@ parametersOf x = record {
   iss = at x number.iss;
   icss = at x number.icss;
   iks = at x number.iks;
+  ibr = at x number.ibr;
 }
 
 abbrev pub mlf : List Float → Float
@@ -53,13 +70,19 @@ octave x = at x number.octave
 abbrev pub level : List Float → Float
 level x = at x number.level
 
+abbrev pub vlr : List Float → Float
+vlr x = at x number.vlr
+
+abbrev pub polarity : List Float → Float
+polarity x = at x number.polarity
+
 -- the product whose whole part is the second octave
 abbrev pub product : List Float → Float
 product x = mul binary64 (mlf x) (octave x)
 
--- a card of nine worked values, each cut to a * 2^b, two octaves and two switches
-abbrev pub cardFrom : Worked → ℕ → ℕ → Bool → Bool → WorkedCard
-cardFrom w o n e z = record {
+-- a card of ten worked values, each cut to a * 2^b, two octaves, V_Lr as it is kept, and two switches
+abbrev pub cardFrom : Worked → ℕ → ℕ → ℕ → Bool → Bool → WorkedCard
+cardFrom w o n v e z = record {
   sn = splitOf (w .sn);
   bulk = splitOf (w .bulk);
   side = splitOf (w .side);
@@ -69,8 +92,10 @@ cardFrom w o n e z = record {
   sf = splitOf (w .sf);
   rex = splitOf (w .rex);
   rsub = splitOf (w .rsub);
+  reverse = splitOf (w .reverse);
   octave = o;
   second = n;
+  knee = v;
   exsub = e;
   «rcbli_zero» = z;
 }
@@ -78,8 +103,8 @@ cardFrom w o n e z = record {
 -- the worked card of clipped numbers
 abbrev pub cardOf : List Float → WorkedCard
 cardOf x =
-    cardFrom (workedOf (parametersOf x)) (wholePart (octave x)) (wholePart (product x)) (eq (exsub x) one)
-    (eq (rcbli x) zero)
+    cardFrom (workedOf (parametersOf x)) (wholePart (octave x)) (wholePart (product x)) (kneeOf (vlr x))
+    (eq (exsub x) one) (eq (rcbli x) zero)
 
 -- what stands where there is no card
 abbrev pub noWorked : WorkedCard
@@ -93,8 +118,10 @@ noWorked = record {
   sf = noSplit;
   rex = noSplit;
   rsub = noSplit;
+  reverse = noSplit;
   octave = 0;
   second = 0;
+  knee = 0;
   exsub = false;
   «rcbli_zero» = false;
 }
@@ -107,23 +134,31 @@ level504 = ofBits binary64 0x407f_8000_0000_0000
 abbrev pub isSwitch : Float → Bool
 isSwitch x = eq x zero || eq x one
 
--- each worked value and the product is finite, and the second octave is not above its limit
+-- both spare words are +0 by their bits, as the record has them before clipping; past its end there are none but zeros
+abbrev pub sparesGood : List ℕ → Bool
+sparesGood s = eqb (wordAt s number.spare) 0 && eqb (wordAt s (suc number.spare)) 0
+
+-- EXSUB is a switch, the polarity is +1, and the spare words are good
+abbrev pub settingsGood : Bool → List Float → Bool
+settingsGood spares x = isSwitch (exsub x) && (eq (polarity x) one && spares)
+
+-- the product and each worked value is finite, the second octave is not above its limit, and V_Lr is not beyond its own
 abbrev pub withinReach : List Float → Bool
-withinReach x = secondGood (product x) && allFinite (workedOf (parametersOf x))
+withinReach x = secondGood (product x) && (kneeGood (vlr x) && allFinite (workedOf (parametersOf x)))
 
 -- of clipped numbers: 10, or else their worked card
 abbrev pub reachOf : List Float → Verdict WorkedCard
 reachOf x = refuseIf (not (withinReach x)) OutOfReach (yes (cardOf x))
 
 -- 7, 8, 9, and then that
-abbrev pub judgeNumbers : List Float → Verdict WorkedCard
-judgeNumbers x =
+abbrev pub judgeNumbers : Bool → List Float → Verdict WorkedCard
+judgeNumbers spares x =
     refuseIf (not (eq (level x) level504)) WrongLevel
-    (refuseIf (not (isSwitch (exsub x))) BadExsub (refuseIf (not (octaveGood (octave x))) BadOctave (reachOf x)))
+    (refuseIf (not (settingsGood spares x)) BadExsub (refuseIf (not (octaveGood (octave x))) BadOctave (reachOf x)))
 
 -- of a record: clipping's 1 and 6 first
 unfoldable pub judgeOf : List ℕ → Verdict WorkedCard
-judgeOf s = andThen (clipOf width s) (λ t. judgeNumbers (clippedUp s width))
+judgeOf s = andThen (clipOf s) (λ t. judgeNumbers (sparesGood s) (judgedNumbers s))
 
 -- what the answer tells
 abbrev pub toldJudged : Judged → Answer WorkedCard

@@ -3,11 +3,14 @@ ghost use mathlib.Core.Path.{_≡_};
 ghost use Rattle.refusal.specs.Order.{tells};
 ghost use mathlib.Core.Bool.{true};
 ghost use Rattle.card.specs.Octave.{octaveGood};
-ghost use Rattle.card.specs.Judge.{parametersOf, octave, cardFrom, isSwitch, reachOf, judgeNumbers, toldJudged};
+ghost use Rattle.card.specs.Judge.{parametersOf, octave, cardFrom, isSwitch, settingsGood, reachOf};
+ghost use Rattle.card.specs.Judge.{judgeNumbers, toldJudged};
 ghost use Rattle.card.specs.inner.Tests.{unlessPassed, firstWrong};
 ghost use Rattle.card.specs.inner.Worked.{GoodMlf};
 use crate::Judged;
 use crate::WorkedCard;
+use crate::knee;
+use crate::missing::both;
 use crate::octaves;
 use crate::octaves::Octave;
 use clip::Answer;
@@ -38,11 +41,12 @@ fn parameters(x: &[f64; WIDTH]) -> Parameters
         iss: x[numbers::ISS],
         icss: x[numbers::ICSS],
         iks: x[numbers::IKS],
+        ibr: x[numbers::IBR],
     }
 }
 
-fn card(w: Worked, octave: u32, second: u32, exsub: bool, joined: bool) -> WorkedCard
-    ensures { λ r. ⌜ r ≡ cardFrom w octave second exsub joined ⌝ }
+fn card(w: Worked, octave: u32, second: u32, knee: u32, exsub: bool, joined: bool) -> WorkedCard
+    ensures { λ r. ⌜ r ≡ cardFrom w octave second knee exsub joined ⌝ }
 {
     WorkedCard {
         sn: float::cut(w.sn),
@@ -54,8 +58,10 @@ fn card(w: Worked, octave: u32, second: u32, exsub: bool, joined: bool) -> Worke
         sf: float::cut(w.sf),
         rex: float::cut(w.rex),
         rsub: float::cut(w.rsub),
+        reverse: float::cut(w.reverse),
         octave,
         second,
+        knee,
         exsub,
         rcbli_zero: joined,
     }
@@ -68,16 +74,24 @@ fn unless(passed: bool, f: Refusal, next: Answer) -> Answer
     if passed { next } else { Answer::Refused(f) }
 }
 
+// What 8 asks: EXSUB a switch, the polarity +1, and good spare words.
+fn settings_good(x: &[f64; WIDTH], spares: bool) -> bool
+    ensures { λ r. ⌜ r ≡ settingsGood spares (now (x .entry)) ⌝ }
+{
+    let upright = x[numbers::POLARITY] == 1.0;
+    both(is_switch(x[numbers::EXSUB]), both(upright, spares))
+}
+
 // 7, 8, then 9.
-fn first_wrong(x: &[f64; WIDTH]) -> Answer
-    ensures { λ r. ⌜ r ≡ firstWrong (now (x .entry)) ⌝ }
+fn first_wrong(x: &[f64; WIDTH], spares: bool) -> Answer
+    ensures { λ r. ⌜ r ≡ firstWrong spares (now (x .entry)) ⌝ }
 {
     let level = x[numbers::LEVEL] == 504.0;
-    let exsub = is_switch(x[numbers::EXSUB]);
+    let good = settings_good(x, spares);
     let octave = octaves::is_octave(x[numbers::OCTAVE]);
     let bad_exsub = Refusal::BadExsub;
     let bad_octave = Refusal::BadOctave;
-    let after = unless(exsub, bad_exsub, unless(octave, bad_octave, Answer::Taken));
+    let after = unless(good, bad_exsub, unless(octave, bad_octave, Answer::Taken));
     unless(level, Refusal::WrongLevel, after)
 }
 
@@ -90,13 +104,18 @@ fn reach(x: &[f64; WIDTH]) -> Judged
     let Octave::Nanovolts(second) = octaves::second_of(x[numbers::MLF] * x[numbers::OCTAVE]) else {
         return Judged::Refused(Refusal::OutOfReach);
     };
+    if !knee::is_knee(x[numbers::VLR]) {
+        return Judged::Refused(Refusal::OutOfReach);
+    }
     let w = working::work(parameters(x));
     if working::all_finite(w) {
         let octave = octaves::nanovolts(x[numbers::OCTAVE]);
+        let raised = knee::microvolts(x[numbers::VLR]);
         Judged::Card(card(
             w,
             octave,
             second,
+            raised,
             x[numbers::EXSUB] == 1.0,
             x[numbers::RCBLI] == 0.0,
         ))
@@ -106,11 +125,11 @@ fn reach(x: &[f64; WIDTH]) -> Judged
 }
 
 // 7 to 10, or the worked card.
-pub(crate) fn judge_numbers(x: &[f64; WIDTH]) -> Judged
+pub(crate) fn judge_numbers(x: &[f64; WIDTH], spares: bool) -> Judged
     requires { ⌜ GoodMlf (now x) ⌝ }
-    ensures { λ r. ⌜ toldJudged r ≡ tells (judgeNumbers (now (x .entry))) ⌝ }
+    ensures { λ r. ⌜ toldJudged r ≡ tells (judgeNumbers spares (now (x .entry))) ⌝ }
 {
-    let wrong = first_wrong(x);
+    let wrong = first_wrong(x, spares);
     match wrong {
         Answer::Taken => reach(x),
         Answer::Refused(f) => Judged::Refused(f),

@@ -4,6 +4,8 @@ ghost use Rattle.refusal.specs.Order.{tells};
 ghost use Rattle.card.specs.Judge.{judgeOf, toldJudged, noWorked};
 
 mod octaves; // octaves.rt: the octave and the second octave
+mod knee; // knee.rt: V_Lr
+mod missing; // missing.rt: the words that not every record has
 mod judging; // judging.rt: the tests of loading, in their order
 
 pub use clip::Answer;
@@ -13,7 +15,7 @@ pub use clip::clip;
 pub use clip::right_length;
 use refusal::Refusal;
 
-// What the branches need of a card: nine values as a * 2^b, the two octaves in nanovolts, and two switches.
+// What the branches need of a card: ten values as a * 2^b, the two octaves in nanovolts, V_Lr, and two switches.
 pub struct WorkedCard {
     pub sn: float::Split,
     pub bulk: float::Split,
@@ -24,8 +26,12 @@ pub struct WorkedCard {
     pub sf: float::Split,
     pub rex: float::Split,
     pub rsub: float::Split,
+    // the eighth branch's own current
+    pub reverse: float::Split,
     pub octave: u32,
     pub second: u32,
+    // V_Lr in whole microvolts, raised by 5 V
+    pub knee: u32,
     // EXSUB is 1
     pub exsub: bool,
     // R_Cbli is 0: C4 and C1 are one node
@@ -52,8 +58,10 @@ pub fn no_card() -> WorkedCard
         sf: none,
         rex: none,
         rsub: none,
+        reverse: none,
         octave: 0,
         second: 0,
+        knee: 0,
         exsub: false,
         rcbli_zero: false,
     }
@@ -66,7 +74,11 @@ pub fn judge(bytes: &[u8]) -> Judged
     let clipping = clip(bytes);
     let answer = clipping.answer;
     match answer {
-        Answer::Taken => judging::judge_numbers(&clipping.numbers),
+        Answer::Taken => {
+            let given = clipping.numbers;
+            let numbers = missing::filled(clip::is_wide(bytes), given);
+            judging::judge_numbers(&numbers, missing::spares_good(bytes))
+        }
         Answer::Refused(f) => Judged::Refused(f),
     }
 }

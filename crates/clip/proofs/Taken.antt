@@ -1,4 +1,4 @@
--- Clipping's verdict on a record of n words, and the clipping that goes with it; back from an answer to what it says.
+-- Which bytes are a record, and of how many words; clipping's verdict on it, and the clipping that goes with that.
 use mathlib.Core.Path.{_≡_}
 use mathlib.Core.Bool.{true, false}
 use mathlib.Core.List.{List}
@@ -8,28 +8,39 @@ use Rattle.refusal.specs.declared.Refusal.{Refusal}
 use Rattle.refusal.specs.declared.Refusal.the-variants.{Malformed, NotFinite}
 use Rattle.refusal.specs.Order.{no, yes}
 use Rattle.clip.specs.declared.Answer.the-variants as answer
-use Rattle.clip.specs.Record.{hasWords, finiteUp}
-use Rattle.clip.specs.Clip.{clippedUp, maskUp, clipOf, Clips}
+use Rattle.clip.specs.Limits.{wide, narrow}
+use Rattle.clip.specs.Record.{isWide, isNarrow, finiteUp}
+use Rattle.clip.specs.Clip.{paddedUp, maskUp, clipOf, Clips}
 use Rattle.clip.specs.inner.Refused.{refusedWith}
+use Rattle.clip.specs.inner.Width.{IsRecord}
 
-module _ (n : ℕ) (s : List ℕ) where
-  pub too-long : hasWords n s ≡ false → clipOf n s ≡ no Malformed
+-- ---- the two lengths
+module _ (s : List ℕ) where
+  pub wide-record : isWide s ≡ true → IsRecord s wide
+  wide-record w = record { long = rw w; width = rw w }
+
+  module _ (w : isWide s ≡ false) where
+    pub narrow-record : isNarrow s ≡ true → IsRecord s narrow
+    narrow-record n = record { long = rw (w, n); width = rw w }
+
+    pub no-record : isNarrow s ≡ false → clipOf s ≡ no Malformed
+    unfolding clipOf
+    no-record n = rw (w, n)
+
+-- ---- the verdict
+module _ {s : List ℕ} {n : ℕ} (p : IsRecord s n) where
+  pub not-number : finiteUp s n ≡ false → clipOf s ≡ no NotFinite
   unfolding clipOf
-  too-long l = rw l
+  not-number f = rw (p .long, p .width, f)
 
-  module _ (l : hasWords n s ≡ true) where
-    pub not-number : finiteUp s n ≡ false → clipOf n s ≡ no NotFinite
-    unfolding clipOf
-    not-number f = rw (l, f)
+  taken : finiteUp s n ≡ true → clipOf s ≡ yes tt
+  unfolding clipOf
+  taken f = rw (p .long, p .width, f)
 
-    taken : finiteUp s n ≡ true → clipOf n s ≡ yes tt
-    unfolding clipOf
-    taken f = rw (l, f)
+  pub clips-taken : finiteUp s n ≡ true → {numbers : List Float} {mask : ℕ} → numbers ≡ paddedUp s n
+      → mask ≡ maskUp s n → Clips s (record { answer = answer.Taken; numbers = numbers; mask = mask })
+  clips-taken f en em =
+      let e = taken f in record { answer = rw e; numbers = rw (e, p .width) en; mask = rw (e, p .width) em }
 
-    pub clips-taken : finiteUp s n ≡ true → {numbers : List Float} {mask : ℕ} → numbers ≡ clippedUp s n
-        → mask ≡ maskUp s n → Clips n s (record { answer = answer.Taken; numbers = numbers; mask = mask })
-    clips-taken f en em =
-        let e = taken f in record { answer = rw e; numbers = rw e en; mask = rw e em }
-
-pub clips-refused : {n : ℕ} {s : List ℕ} {f : Refusal} → clipOf n s ≡ no f → Clips n s (refusedWith n f)
+pub clips-refused : {s : List ℕ} {f : Refusal} → clipOf s ≡ no f → Clips s (refusedWith f)
 clips-refused e = record { answer = rw e; numbers = rw e; mask = rw e }

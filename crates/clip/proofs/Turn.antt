@@ -2,13 +2,13 @@
 use mathlib.Core.Path.{_≡_, refl, sym, ap, ap₂, _∙_}
 use mathlib.Core.Bool.{Bool, true, false, cond, _&&_}
 use mathlib.Core.List.{List, [], _∷_, _++_}
-use Prim.Native.Nat.{ℕ, zero, suc, _+_, _*_, _^_, _≤_, _<_}
+use Prim.Native.Nat.{ℕ, zero, suc, _+_, _-_, _*_, _^_, _≤_, _<_}
 use native.Mathlib.Nat.{pow-suc}
 use native.Mathlib.Numerals.{add-one}
 use native.Mathlib.Omega.{arith}
 use native.Mathlib.Decide.{ℕ-discrete}
-use lib.ListN.{length, take, set, length-set}
-use lib.Seq.{take-all, take-suc-set}
+use lib.ListN.{length, take, drop, set, replicate, length-set, length-replicate, take-append-drop}
+use lib.Seq.{take-suc-set, drop-drop, drop-set-lt}
 use lib.Pow.{pow-mono}
 use lib.Ieee.{Float, ne}
 use lib.Ieee.Scale.{finite}
@@ -19,9 +19,11 @@ use Rattle.bytes_le.specs.Le.{leAt}
 use Rattle.float.specs.Word.{realIf, realOf}
 use Rattle.clip.specs.declared.Answer.the-variants as answer
 use Rattle.clip.specs.declared.limits.Rule.{Rule}
-use Rattle.clip.specs.Record.{hasWords, numberAt, finiteUp}
-use Rattle.clip.specs.Limits.{ruleOf, clipTo}
+use Rattle.clip.specs.Limits as limits
+use Rattle.clip.specs.Limits.{wide, narrow, ruleOf, clipTo}
+use Rattle.clip.specs.Record.{isWide, numberAt, finiteUp}
 use Rattle.clip.specs.Clip.{clippedAt, clippedUp, maskUp, Clips}
+use Rattle.clip.specs.inner.Width.{IsRecord}
 use Rattle.clip.proofs.Taken.{clips-taken}
 
 -- ---- what a word was read as
@@ -88,25 +90,38 @@ not-finite s (suc n) i h e = of (ℕ-discrete i n) (λ l. not-finite s n i l e)
         ∙ and-false (finiteUp s n)
     of (no d) g = finite-more s n ∙ ap (λ (b : Bool). b && finite (numberAt s n)) (g (omega arith))
 
+-- ---- no record has more words than the widest
+at-most-wide : {s : List ℕ} {n : ℕ} → IsRecord s n → n ≤ wide
+at-most-wide {s} {n} p = rw (p .width) at (of (isWide s))
+  where
+    of : (b : Bool) → cond b wide narrow ≤ wide
+    of true = omega arith
+    of false = omega arith
+
 -- ---- the loop's invariant, over a record of n words
 pub record Passed (n : ℕ) (s : List ℕ) (numbers : List Float) (mask bit i : ℕ) : Type 0 where
   pub few : i ≤ n
-  pub long : length numbers ≡ n
+  pub most : n ≤ wide
+  pub long : length numbers ≡ wide
   pub good : finiteUp s i ≡ true
   pub done : take i numbers ≡ clippedUp s i
+  pub left : drop i numbers ≡ replicate (wide - i) limits.zero
   pub bits : mask ≡ maskUp s i
   pub power : bit ≡ 2 ^ i
   pub under : mask < bit
 
-pub at-most : {n : ℕ} {s : List ℕ} {numbers : List Float} {mask bit i : ℕ} → Passed n s numbers mask bit i → bit ≤ 2 ^ n
-at-most p = omega (arith, p .power, pow-mono (p .few))
+pub at-most : {n : ℕ} {s : List ℕ} {numbers : List Float} {mask bit i : ℕ} → Passed n s numbers mask bit i
+    → bit ≤ 2 ^ wide
+at-most {i = i} p = let h : i ≤ wide = omega arith in omega (arith, p .power, pow-mono h)
 
-pub start : (n : ℕ) (s : List ℕ) (numbers : List Float) → length numbers ≡ n → Passed n s numbers 0 1 0
-start n s numbers h = record {
+pub start : {n : ℕ} {s : List ℕ} → IsRecord s n → Passed n s (replicate wide limits.zero) 0 1 0
+start {n} {s} p = record {
   few = omega arith;
-  long = h;
+  most = at-most-wide p;
+  long = length-replicate wide limits.zero;
   good = finite-none s;
   done = sym (numbers-none s);
+  left = refl;
   bits = sym (mask-none s);
   power = refl;
   under = omega arith;
@@ -133,13 +148,21 @@ module _ {n : ℕ} {s : List ℕ} {l : List Float} {mask bit i : ℕ} (p : Passe
       ∙ ap₂ (λ (k : List Float) (v : Float). k ++ (v ∷ [])) (p .done) e
       ∙ sym (numbers-more s i)
 
+  less : (y : Float) → drop (suc i) (set l i y) ≡ replicate (wide - suc i) limits.zero
+  less y =
+      let k : wide - i ≡ suc (wide - suc i) = omega arith in
+      let e : drop i l ≡ replicate (suc (wide - suc i)) limits.zero = rw k at (p .left) in
+      drop-set-lt (suc i) l i y (omega arith) ∙ rw (← (add-one i)) (sym (drop-drop 1 i l)) ∙ ap (drop 1) e
+
   module _ {x y : Float} {w : ℕ} (t : Turned s i bit x y w) where
     more : Passed n s (set l i y) (mask + w) (bit * 2) (suc i)
     more = record {
       few = omega arith;
+      most = p .most;
       long = length-set l i y ∙ p .long;
       good = finite-more s i ∙ ap₂ _&&_ (p .good) (t .good);
       done = further y (t .clipped);
+      left = less y;
       bits = ap₂ _+_ (p .bits) (t .weight ∙ cc (t .number, t .clipped, p .power)) ∙ sym (mask-more s i);
       power = ap (λ (k : ℕ). k * 2) (p .power) ∙ sym (pow-suc 2 i);
       under = omega (arith, small x y bit w (t .weight), p .under);
@@ -149,10 +172,10 @@ module _ {n : ℕ} {s : List ℕ} {l : List Float} {mask bit i : ℕ} (p : Passe
     turn = rw add-one more
 
 -- ---- after the loop
-pub finished : {n : ℕ} {s : List ℕ} {numbers : List Float} {mask bit i : ℕ} → hasWords n s ≡ true
+pub finished : {n : ℕ} {s : List ℕ} {numbers : List Float} {mask bit i : ℕ} → IsRecord s n
     → Passed n s numbers mask bit i → n ≤ i
-    → Clips n s (record { answer = answer.Taken; numbers = numbers; mask = mask })
-finished {n} {s} {numbers} {mask} {bit} {i} l p h =
+    → Clips s (record { answer = answer.Taken; numbers = numbers; mask = mask })
+finished {n} {s} {numbers} {mask} {bit} {i} r p h =
     let e : i ≡ n = omega (arith, p .few) in
     let q : Passed n s numbers mask bit n = rw e at p in
-    clips-taken n s l (q .good) (sym (take-all n numbers (omega (arith, q .long))) ∙ q .done) (q .bits)
+    clips-taken r (q .good) (sym (take-append-drop n numbers) ∙ ap₂ _++_ (q .done) (q .left)) (q .bits)

@@ -1,8 +1,8 @@
--- Clipping alone, of a record of n words: the clipped numbers and the mask, or 1, or 6.
+-- Clipping alone, of a record of either version: the clipped numbers and the mask, or 1, or 6.
 use mathlib.Core.Path.{_≡_}
 use mathlib.Core.Bool.{not, cond}
 use mathlib.Core.List.{List, [], _∷_, _++_}
-use Prim.Native.Nat.{ℕ, zero, suc, _+_, _^_}
+use Prim.Native.Nat.{ℕ, zero, suc, _+_, _-_, _^_}
 use lib.ListN.{replicate}
 use lib.Ieee.{Float, ne}
 use Rattle.refusal.specs.declared.Refusal.the-variants.{Malformed, NotFinite}
@@ -13,8 +13,8 @@ use Rattle.clip.specs.declared.Answer.{Answer}
 use Rattle.clip.specs.declared.Answer.the-variants as answer
 use Rattle.clip.specs.declared.Clipping.{Clipping}
 use Rattle.clip.specs.Limits as limits
-use Rattle.clip.specs.Limits.{ruleOf, clipTo}
-use Rattle.clip.specs.Record.{hasWords, numberAt, finiteUp}
+use Rattle.clip.specs.Limits.{wide, ruleOf, clipTo}
+use Rattle.clip.specs.Record.{rightLength, widthOf, numberAt, finiteUp}
 
 -- number i, clipped by its rule
 unfoldable pub clippedAt : List ℕ → ℕ → Float
@@ -30,9 +30,14 @@ unfoldable pub maskUp : List ℕ → ℕ → ℕ
 maskUp s zero = 0
 maskUp s (suc n) = maskUp s n + cond (ne (numberAt s n) (clippedAt s n)) (2 ^ n) 0
 
--- 1 where the bytes are not those of n words, then 6 where a number is not finite; else the record is taken
-unfoldable pub clipOf : ℕ → List ℕ → Verdict (Unit {0})
-clipOf n s = refuseIf (not (hasWords n s)) Malformed (refuseIf (not (finiteUp s n)) NotFinite (order.yes tt))
+-- the numbers that are given for n words: the clipped ones, and +0 for each word that the record has not
+abbrev pub paddedUp : List ℕ → ℕ → List Float
+paddedUp s n = clippedUp s n ++ replicate (wide - n) limits.zero
+
+-- 1 where the bytes are not those of a record, then 6 where one of its numbers is not finite; else the record is taken
+unfoldable pub clipOf : List ℕ → Verdict (Unit {0})
+clipOf s =
+    refuseIf (not (rightLength s)) Malformed (refuseIf (not (finiteUp s (widthOf s))) NotFinite (order.yes tt))
 
 -- what stands where the record is taken, and what where it is not
 abbrev pub ifTaken : {A : Type 0} → Verdict (Unit {0}) → A → A → A
@@ -40,19 +45,19 @@ ifTaken (order.no f) a none = none
 ifTaken (order.yes t) a none = a
 
 -- the numbers and the mask that are given: all zero where the record is refused
-abbrev pub numbersOf : ℕ → List ℕ → List Float
-numbersOf n s = ifTaken (clipOf n s) (clippedUp s n) (replicate n limits.zero)
+abbrev pub numbersOf : List ℕ → List Float
+numbersOf s = ifTaken (clipOf s) (paddedUp s (widthOf s)) (replicate wide limits.zero)
 
-abbrev pub maskOf : ℕ → List ℕ → ℕ
-maskOf n s = ifTaken (clipOf n s) (maskUp s n) 0
+abbrev pub maskOf : List ℕ → ℕ
+maskOf s = ifTaken (clipOf s) (maskUp s (widthOf s)) 0
 
 -- what the answer tells
 abbrev pub toldAnswer : Answer → order.Answer (Unit {0})
 toldAnswer answer.Taken = order.given tt
 toldAnswer (answer.Refused f) = order.refused (told f)
 
--- clipping s, a record of n words, gives r
-pub record Clips (n : ℕ) (s : List ℕ) (r : Clipping) : Type 0 where
-  pub answer : toldAnswer (r .answer) ≡ tells (clipOf n s)
-  pub numbers : r .numbers ≡ numbersOf n s
-  pub mask : r .mask ≡ maskOf n s
+-- clipping s gives r
+pub record Clips (s : List ℕ) (r : Clipping) : Type 0 where
+  pub answer : toldAnswer (r .answer) ≡ tells (clipOf s)
+  pub numbers : r .numbers ≡ numbersOf s
+  pub mask : r .mask ≡ maskOf s

@@ -25,6 +25,10 @@ tenth-nano = ofBits binary64 0x3ddb_7cdf_d9d7_bdbb
 abbrev pub tenth-milli : Float
 tenth-milli = ofBits binary64 0x3f1a_36e2_eb1c_432d
 
+-- 0.001
+abbrev pub milli : Float
+milli = ofBits binary64 0x3f50_624d_d2f1_a9fc
+
 -- 0.1
 abbrev pub tenth : Float
 tenth = ofBits binary64 0x3fb9_9999_9999_999a
@@ -48,11 +52,22 @@ rules =
     ∷ Between zero one
     ∷ Free
     ∷ Free
+    ∷ AtLeast zero
+    ∷ Free
+    ∷ AtLeast milli
+    ∷ AtLeast milli
+    ∷ AtLeast milli
+    ∷ Free
+    ∷ Free
+    ∷ Free
     ∷ []
 
--- the words of a record are as many
-abbrev pub width : ℕ
-width = length rules
+-- the words of a record of version 2 are as many; one of version 1 has the first sixteen
+abbrev pub wide : ℕ
+wide = length rules
+
+abbrev pub narrow : ℕ
+narrow = 16
 
 abbrev pub ruleOf : ℕ → Rule
 ruleOf i = getD rules i Free

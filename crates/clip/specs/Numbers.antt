@@ -1,4 +1,5 @@
 -- The parameters' numbers: the place of each among a record's words, and in the clip mask.
+-- A record of version 1 has the first sixteen.
 use Prim.Native.Nat.{ℕ}
 
 abbrev pub mult : ℕ
@@ -48,3 +49,25 @@ octave = 14
 
 abbrev pub level : ℕ
 level = 15
+
+abbrev pub ibr : ℕ
+ibr = 16
+
+abbrev pub vlr : ℕ
+vlr = 17
+
+abbrev pub re : ℕ
+re = 18
+
+abbrev pub rbc : ℕ
+rbc = 19
+
+abbrev pub rcc : ℕ
+rcc = 20
+
+abbrev pub polarity : ℕ
+polarity = 21
+
+-- the first of the two spare words
+abbrev pub spare : ℕ
+spare = 22

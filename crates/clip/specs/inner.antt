@@ -1,2 +1,3 @@
 -- Words that inner contracts use.
 pub mod Refused
+pub mod Width

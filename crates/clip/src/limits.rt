@@ -17,12 +17,14 @@ pub(crate) fn rule_of(i: usize) -> Rule
         numbers::MULT..=numbers::IS
         | numbers::IBF
         | numbers::ISS
-        | numbers::RCBLX..=numbers::RCBLI => Rule::AtLeast(0.0),
+        | numbers::RCBLX..=numbers::RCBLI
+        | numbers::IBR => Rule::AtLeast(0.0),
         numbers::IK | numbers::IKS => Rule::AtLeast(1e-12),
         numbers::BF => Rule::AtLeast(1e-4),
         numbers::XIBI | numbers::EXSUB => Rule::Between(0.0, 1.0),
         numbers::MLF => Rule::AtLeast(0.1),
         numbers::BRI => Rule::AtLeast(1e-10),
+        numbers::RE..=numbers::RCC => Rule::AtLeast(0.001),
         _ => Rule::Free,
     }
 }

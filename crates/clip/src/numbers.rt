@@ -1,4 +1,5 @@
 // The parameters' numbers: the place of each among a record's words, and in the clip mask.
+// A record of version 1 has the first sixteen.
 pub const MULT: usize = 0;
 
 pub const IS: usize = 1;
@@ -30,3 +31,18 @@ pub const EXSUB: usize = 13;
 pub const OCTAVE: usize = 14;
 
 pub const LEVEL: usize = 15;
+
+pub const IBR: usize = 16;
+
+pub const VLR: usize = 17;
+
+pub const RE: usize = 18;
+
+pub const RBC: usize = 19;
+
+pub const RCC: usize = 20;
+
+pub const POLARITY: usize = 21;
+
+// The first of the two spare words.
+pub const SPARE: usize = 22;

@@ -1,11 +1,9 @@
 // The numbers of a record read, judged finite and clipped, one after the other.
 ghost use mathlib.Core.Path.{_≡_};
 ghost use mathlib.Core.Bool.{cond};
-ghost use mathlib.Core.Bool.{true};
-ghost use Rattle.clip.specs.Limits.{width};
-ghost use Rattle.clip.specs.Record.{rightLength};
 ghost use Rattle.clip.specs.Clip.{Clips};
 ghost use Rattle.clip.specs.inner.Refused.{refusedWith};
+ghost use Rattle.clip.specs.inner.Width.{IsRecord};
 use crate::Answer;
 use crate::Clipping;
 use crate::WIDTH;
@@ -14,7 +12,7 @@ use float::Number;
 use refusal::Refusal;
 
 pub(crate) fn refused(f: Refusal) -> Clipping
-    ensures { λ r. ⌜ r ≡ refusedWith width f ⌝ }
+    ensures { λ r. ⌜ r ≡ refusedWith f ⌝ }
 {
     Clipping {
         answer: Answer::Refused(f),
@@ -30,16 +28,16 @@ fn weight(set: bool, bit: u32) -> u32
     if set { bit } else { 0 }
 }
 
-// Clipping of bytes that are as many as a record has.
-pub(crate) fn clip_all(bytes: &[u8]) -> Clipping
-    requires { ⌜ rightLength (now bytes) ≡ true ⌝ }
-    ensures { λ r. ⌜ Clips width (now (bytes .entry)) r ⌝ }
+// Clipping of a record of so many words.
+pub(crate) fn clip_all(bytes: &[u8], words: usize) -> Clipping
+    requires { ⌜ IsRecord (now bytes) words ⌝ }
+    ensures { λ r. ⌜ Clips (now (bytes .entry)) r ⌝ }
 {
     let mut numbers = [0.0; WIDTH];
     let mut mask: u32 = 0;
     let mut bit: u32 = 1;
     let mut i: usize = 0;
-    while i < WIDTH {
+    while i < words {
         let Number::Real(x) = float::read(bytes_le::u64_at(bytes, 8 * i)) else {
             return refused(Refusal::NotFinite);
         };

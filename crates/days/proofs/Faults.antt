@@ -15,7 +15,7 @@ use Rattle.terms.specs.Rows.{Role, Row, rowsFor}
 use Rattle.terms.specs.Values.{biasOf}
 use Rattle.rows.specs.declared.Over.{Over}
 use Rattle.rows.specs.declared.Over.the-variants.{Within, Ticks, Injection}
-use Rattle.rows.specs.Outcome.{tickLimit, ratioLimit, someAbove, ticksIn, ratiosIn, overAt, firstOver, isOver, drawnBy}
+use Rattle.rows.specs.Outcome.{ratioLimit, someAbove, overTicks, ratiosIn, overAt, firstOver, isOver, drawnBy}
 use Rattle.rows.specs.Outcome.{outcomeAt, outcomeOf}
 use Rattle.totals.specs.Flow as flow
 use Rattle.totals.specs.Flow.{rolesAt}
@@ -75,7 +75,7 @@ module _ (issue : ℕ) (c : WorkedCard) (v : Role → Role → ℤ) where
   unfolding faultsIn
   from k [] g m = absurd m
   from k (r ∷ rows) g m =
-      from-if (someAbove tickLimit (ticksIn c v r)) k (fault issue k ticks) _ (record { own = refl; on = omega arith })
+      from-if (overTicks c v r (r .divisor)) k (fault issue k ticks) _ (record { own = refl; on = omega arith })
       (from-if (someAbove ratioLimit (ratiosIn c v (r .divisor))) k (fault issue k ratio) _
       (record { own = refl; on = omega arith }) (λ x p. from-later k x (from (suc k) rows x p))) g m
 
@@ -85,7 +85,7 @@ module _ (issue : ℕ) (c : WorkedCard) (v : Role → Role → ℤ) where
   unfolding faultsIn
   rows-told k [] e = clash cc
   rows-told k (r ∷ rows) e =
-      go (someAbove tickLimit (ticksIn c v r)) (someAbove ratioLimit (ratiosIn c v (r .divisor))) e
+      go (overTicks c v r (r .divisor)) (someAbove ratioLimit (ratiosIn c v (r .divisor))) e
       (λ q. rows-told (suc k) rows q) (from (suc k) rows)
     where
       go : (t u : Bool) → isOver (overAt t u k (firstOver c v (suc k) rows)) ≡ true →
@@ -117,7 +117,7 @@ module _ (issue : ℕ) (c : WorkedCard) (v : Role → Role → ℤ) where
   unfolding faultsIn
   rows-none k [] e = refl
   rows-none k (r ∷ rows) e =
-      go (someAbove tickLimit (ticksIn c v r)) (someAbove ratioLimit (ratiosIn c v (r .divisor))) e
+      go (overTicks c v r (r .divisor)) (someAbove ratioLimit (ratiosIn c v (r .divisor))) e
       (λ q. rows-none (suc k) rows q)
     where
       go : (t u : Bool) → isOver (overAt t u k (firstOver c v (suc k) rows)) ≡ false →

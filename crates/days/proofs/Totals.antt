@@ -185,7 +185,7 @@ same-standing-same-totals {b} {c} r s p e =
 
 -- ---- and stay small
 
-pub totals-are-small : {b : Board} → Reached b → (n : ℕ) → n < nodesMost → natAbs (getD (b .totals) n (pos 0)) < 2 ^ 62
+pub totals-are-small : {b : Board} → Reached b → (n : ℕ) → n < nodesMost → natAbs (getD (b .totals) n (pos 0)) ≤ 2 ^ 62
 totals-are-small {b} r n h =
     let s = totals-room (cardsOf b) (transistorsOf b) (voltsOf b) (invariant r .holds .transistors-long) .within n in
     rw (invariant r .holds .balanced) (omega arith)

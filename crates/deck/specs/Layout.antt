@@ -16,13 +16,13 @@ cardsMost = 16
 
 -- how many of each array's numbers a place has
 abbrev pub numbersEach : ℕ
-numbersEach = 19
+numbersEach = 25
 
 abbrev pub powersEach : ℕ
-powersEach = 9
+powersEach = 10
 
 abbrev pub ticksEach : ℕ
-ticksEach = 8
+ticksEach = 12
 
 abbrev pub switchesEach : ℕ
 switchesEach = 2
@@ -32,17 +32,19 @@ switchesEach = 2
 abbrev pub numbersOf : Ready → List ℕ
 numbersOf r =
     r .card .sn .a ∷ r .card .bulk .a ∷ r .card .side .a ∷ r .card .nonideal .a ∷ r .card .ex .a ∷ r .card .sub .a
-    ∷ r .card .sf .a ∷ r .card .rex .a ∷ r .card .rsub .a ∷ r .card .octave ∷ r .card .second ∷ r .plain .w
-    ∷ r .plain .high ∷ r .plain .low ∷ r .plain .base ∷ r .second .w ∷ r .second .high ∷ r .second .low
-    ∷ r .second .base ∷ []
+    ∷ r .card .sf .a ∷ r .card .rex .a ∷ r .card .rsub .a ∷ r .card .reverse .a ∷ r .card .octave ∷ r .card .second
+    ∷ r .card .knee ∷ r .plain .w ∷ r .plain .high ∷ r .plain .low ∷ r .plain .base ∷ r .second .w ∷ r .second .high
+    ∷ r .second .low ∷ r .second .base ∷ r .doubled .w ∷ r .doubled .high ∷ r .doubled .low ∷ r .doubled .base ∷ []
 
 abbrev pub powersOf : WorkedCard → List ℕ
 powersOf c =
     c .sn .down ∷ c .bulk .down ∷ c .side .down ∷ c .nonideal .down ∷ c .ex .down ∷ c .sub .down ∷ c .sf .down
-    ∷ c .rex .down ∷ c .rsub .down ∷ []
+    ∷ c .rex .down ∷ c .rsub .down ∷ c .reverse .down ∷ []
 
 abbrev pub ticksOf : Ready → List ℕ
-ticksOf r = r .plain .add ∷ r .second .add ∷ r .bulk ∷ r .side ∷ r .nonideal ∷ r .ex ∷ r .sub ∷ r .sf ∷ []
+ticksOf r =
+    r .plain .add ∷ r .second .add ∷ r .doubled .add ∷ r .knee .m ∷ r .knee .n ∷ r .bulk ∷ r .side ∷ r .nonideal ∷ r .ex
+    ∷ r .sub ∷ r .sf ∷ r .reverse ∷ []
 
 abbrev pub switchesOf : WorkedCard → List Bool
 switchesOf c = c .exsub ∷ c .«rcbli_zero» ∷ []
@@ -64,8 +66,10 @@ workedFrom numbers powers switches =
       sf = splitFrom numbers powers 6;
       rex = splitFrom numbers powers 7;
       rsub = splitFrom numbers powers 8;
-      octave = getD numbers 9 0;
-      second = getD numbers 10 0;
+      reverse = splitFrom numbers powers 9;
+      octave = getD numbers 10 0;
+      second = getD numbers 11 0;
+      knee = getD numbers 12 0;
       exsub = getD switches 0 false;
       «rcbli_zero» = getD switches 1 false;
     }
@@ -84,14 +88,17 @@ abbrev pub readyFrom : List ℕ → List ℕ → List ℕ → List Bool → Read
 readyFrom numbers powers ticks switches =
     record {
       card = workedFrom numbers powers switches;
-      plain = reciprocalFrom numbers ticks 11 0;
-      second = reciprocalFrom numbers ticks 15 1;
-      bulk = getD ticks 2 0;
-      side = getD ticks 3 0;
-      nonideal = getD ticks 4 0;
-      ex = getD ticks 5 0;
-      sub = getD ticks 6 0;
-      sf = getD ticks 7 0;
+      plain = reciprocalFrom numbers ticks 13 0;
+      second = reciprocalFrom numbers ticks 17 1;
+      doubled = reciprocalFrom numbers ticks 21 2;
+      knee = record { m = getD ticks 3 0; n = getD ticks 4 0 };
+      bulk = getD ticks 5 0;
+      side = getD ticks 6 0;
+      nonideal = getD ticks 7 0;
+      ex = getD ticks 8 0;
+      sub = getD ticks 9 0;
+      sf = getD ticks 10 0;
+      reverse = getD ticks 11 0;
     }
 
 -- ---- the stretches of place i, and the card there

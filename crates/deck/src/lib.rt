@@ -9,6 +9,7 @@ ghost use Rattle.deck.specs.Layout.{numbersAt, powersAt, ticksAt, switch
 ghost use Rattle.deck.specs.Layout.{splitFrom, reciprocalFrom, workedFrom, readyAt, Laid};
 use card::WorkedCard;
 use float::Split;
+use octave::Exponential;
 use octave::Reciprocal;
 use terms::Ready;
 
@@ -16,11 +17,11 @@ use terms::Ready;
 pub const CARDS: usize = 16;
 
 // How much of each array a place has, and how long the arrays are.
-pub const NUMBERS: usize = 19;
+pub const NUMBERS: usize = 25;
 
-pub const POWERS: usize = 9;
+pub const POWERS: usize = 10;
 
-pub const TICKS: usize = 8;
+pub const TICKS: usize = 12;
 
 pub const SWITCHES: usize = 2;
 
@@ -86,8 +87,10 @@ fn worked_at(
         sf: split_at(numbers, powers, i, 6),
         rex: split_at(numbers, powers, i, 7),
         rsub: split_at(numbers, powers, i, 8),
-        octave: numbers[NUMBERS * i + 9],
-        second: numbers[NUMBERS * i + 10],
+        reverse: split_at(numbers, powers, i, 9),
+        octave: numbers[NUMBERS * i + 10],
+        second: numbers[NUMBERS * i + 11],
+        knee: numbers[NUMBERS * i + 12],
         exsub: switches[SWITCHES * i],
         rcbli_zero: switches[SWITCHES * i + 1],
     }
@@ -106,14 +109,20 @@ pub fn ready_at(
     let l = TICKS * i;
     Ready {
         card: worked_at(numbers, powers, switches, i),
-        plain: reciprocal_at(numbers, ticks, i, 11, 0),
-        second: reciprocal_at(numbers, ticks, i, 15, 1),
-        bulk: ticks[l + 2],
-        side: ticks[l + 3],
-        nonideal: ticks[l + 4],
-        ex: ticks[l + 5],
-        sub: ticks[l + 6],
-        sf: ticks[l + 7],
+        plain: reciprocal_at(numbers, ticks, i, 13, 0),
+        second: reciprocal_at(numbers, ticks, i, 17, 1),
+        doubled: reciprocal_at(numbers, ticks, i, 21, 2),
+        knee: Exponential {
+            m: ticks[l + 3],
+            n: ticks[l + 4],
+        },
+        bulk: ticks[l + 5],
+        side: ticks[l + 6],
+        nonideal: ticks[l + 7],
+        ex: ticks[l + 8],
+        sub: ticks[l + 9],
+        sf: ticks[l + 10],
+        reverse: ticks[l + 11],
     }
 }
 
@@ -163,6 +172,7 @@ fn numbers_of(r: Ready) -> [u32; NUMBERS]
     let c = r.card;
     let p = r.plain;
     let q = r.second;
+    let d = r.doubled;
     [
         c.sn.a,
         c.bulk.a,
@@ -173,8 +183,10 @@ fn numbers_of(r: Ready) -> [u32; NUMBERS]
         c.sf.a,
         c.rex.a,
         c.rsub.a,
+        c.reverse.a,
         c.octave,
         c.second,
+        c.knee,
         p.w,
         p.high,
         p.low,
@@ -183,6 +195,10 @@ fn numbers_of(r: Ready) -> [u32; NUMBERS]
         q.high,
         q.low,
         q.base,
+        d.w,
+        d.high,
+        d.low,
+        d.base,
     ]
 }
 
@@ -199,6 +215,7 @@ fn powers_of(c: WorkedCard) -> [u16; POWERS]
         c.sf.down,
         c.rex.down,
         c.rsub.down,
+        c.reverse.down,
     ]
 }
 
@@ -207,7 +224,22 @@ fn ticks_of(r: Ready) -> [u64; TICKS]
 {
     let p = r.plain;
     let q = r.second;
-    [p.add, q.add, r.bulk, r.side, r.nonideal, r.ex, r.sub, r.sf]
+    let d = r.doubled;
+    let g = r.knee;
+    [
+        p.add,
+        q.add,
+        d.add,
+        g.m,
+        g.n,
+        r.bulk,
+        r.side,
+        r.nonideal,
+        r.ex,
+        r.sub,
+        r.sf,
+        r.reverse,
+    ]
 }
 
 fn switches_of(c: WorkedCard) -> [bool; SWITCHES]

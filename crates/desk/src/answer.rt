@@ -38,9 +38,38 @@ pub fn put_unreadable(path: &[u8], out: &mut [u8; ROOM], at: &mut usize) {
     puts(part(&text, 0, n), out, at);
 }
 
-pub fn put_clipping(clipping: Clipping, out: &mut [u8; ROOM], at: &mut usize) {
+// The numbers that a record of version 1 has.
+fn narrowed(x: &[f64; clip::WIDTH]) -> [f64; clip::NARROW] {
+    [
+        x[0],
+        x[1],
+        x[2],
+        x[3],
+        x[4],
+        x[5],
+        x[6],
+        x[7],
+        x[8],
+        x[9],
+        x[10],
+        x[11],
+        x[12],
+        x[13],
+        x[14],
+        x[15],
+    ]
+}
+
+// A clipped record: as many numbers as it has words.
+pub fn put_clipping(clipping: Clipping, wide: bool, out: &mut [u8; ROOM], at: &mut usize) {
     let numbers = clipping.numbers;
     let mut text = [0u8; ANSWER_ROOM];
-    let n = answers::clip_line(clipping.mask, &numbers, &mut text);
-    put_part(&text, n, out, at);
+    if wide {
+        let n = answers::clip_line(clipping.mask, true, &numbers, &mut text);
+        put_part(&text, n, out, at);
+    } else {
+        let first = narrowed(&numbers);
+        let n = answers::clip_line(clipping.mask, false, &first, &mut text);
+        put_part(&text, n, out, at);
+    }
 }

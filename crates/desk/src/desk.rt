@@ -31,7 +31,7 @@ fn keep_library(
 ) {
     let bytes = part(read, 0, n);
     match shelf::judge(bytes) {
-        Reading::Cards(cards) => {
+        Reading::Cards(cards, _) => {
             shelf::keep(bytes, held);
             put_answer(Answer::Library(cards), out, at);
         }
@@ -58,7 +58,7 @@ fn clip_record(bytes: &[u8], out: &mut [u8; ROOM], at: &mut usize) {
     let clipping = card::clip(bytes);
     let answer = clipping.answer;
     match answer {
-        card::Answer::Taken => put_clipping(clipping, out, at),
+        card::Answer::Taken => put_clipping(clipping, clip::is_wide(bytes), out, at),
         card::Answer::Refused(f) => put_refused(f, out, at),
     }
 }

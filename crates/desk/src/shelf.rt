@@ -3,7 +3,7 @@ use crate::out::part;
 use library::Reading;
 
 // One byte more than the longest library.
-pub const MOST: usize = 36881;
+pub const MOST: usize = 53265;
 
 pub enum File {
     Bytes(usize),
@@ -12,7 +12,7 @@ pub enum File {
 
 // Puts the library without cards on the shelf.
 pub fn clear(shelf: &mut [u8; MOST]) {
-    library::write(b"", &[0u64; 0], shelf);
+    library::write(1, b"", &[0u64; 0], shelf);
 }
 
 pub fn held(shelf: &[u8]) -> &[u8] {
@@ -59,7 +59,7 @@ pub fn read_file(path: &[u8], bytes: &mut [u8; MOST]) -> File {
 // How many cards a library has, or why it is none.
 pub fn judge(bytes: &[u8]) -> Reading {
     let mut names = [0u8; 4096];
-    let mut words = [0u64; 4096];
+    let mut words = [0u64; 6144];
     library::read(bytes, &mut names, &mut words)
 }
 

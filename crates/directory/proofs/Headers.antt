@@ -2,6 +2,7 @@
 use mathlib.Core.Path.{_≡_, refl, sym, _∙_, ap}
 use mathlib.Core.Bool.{Bool, true, false, cond, _&&_}
 use mathlib.Core.List.{List}
+use mathlib.Core.Logic.{_⊎_, inl, inr}
 use Prim.Native.Nat.{ℕ, _*_, _-_, _<_, _≤_}
 use native.Mathlib.Nat.{mul-le-mul}
 use native.Mathlib.Omega.{arith}
@@ -10,7 +11,7 @@ use lib.Dec.{eqb, leb, ltb}
 use lib.ListN.{length, take, drop}
 use Rattle.roll.specs.Directory.{nameBytes}
 use Rattle.name.proofs.Laws.{and-true, and-false}
-use Rattle.directory.specs.Format.{headerBytes, mostCards, wordsOf, writtenVersion, recordsAt, wholeOf}
+use Rattle.directory.specs.Format.{headerBytes, mostCards, wordsOf, recordsAt, wholeOf}
 use Rattle.directory.specs.Format.{version, count, directoryOffset, recordsOffset, wholeLength}
 use Rattle.directory.specs.Format.{agree, headed, directory}
 use Rattle.roll.proofs.Names.{never}
@@ -19,20 +20,30 @@ use Rattle.directory.specs.Format.{mostWords}
 -- no record is wider than that, so the words of all cards are few
 pub narrow : (v : ℕ) → wordsOf v ≤ mostWords
 unfolding wordsOf
-narrow v = by-test (eqb v writtenVersion)
+narrow v = by-tests (eqb v 1) (eqb v 2)
   where
-    by-test : (t : Bool) → cond t (wordsOf writtenVersion) 0 ≤ mostWords
-    by-test true = omega arith
-    by-test false = omega arith
+    by-tests : (p q : Bool) → cond p (wordsOf 1) (cond q (wordsOf 2) 0) ≤ mostWords
+    by-tests true q = omega arith
+    by-tests false true = omega arith
+    by-tests false false = omega arith
 
--- the version that is written is the only one that is known
-pub only-version : (v : ℕ) → 0 < wordsOf v → v ≡ writtenVersion
+-- two versions are known
+pub known-version : (v : ℕ) → 0 < wordsOf v → (v ≡ 1) ⊎ (v ≡ 2)
 unfolding wordsOf
-only-version v h = by-test (eqb v writtenVersion) refl h
+known-version v h = by-tests (eqb v 1) (eqb v 2) refl refl h
   where
-    by-test : (t : Bool) → eqb v writtenVersion ≡ t → 0 < cond t (wordsOf writtenVersion) 0 → v ≡ writtenVersion
-    by-test true e g = eqb-true v writtenVersion e
-    by-test false e g = absurd (omega arith)
+    by-tests : (p q : Bool) → eqb v 1 ≡ p → eqb v 2 ≡ q → 0 < cond p (wordsOf 1) (cond q (wordsOf 2) 0)
+        → (v ≡ 1) ⊎ (v ≡ 2)
+    by-tests true q e f g = inl (eqb-true v 1 e)
+    by-tests false true e f g = inr (eqb-true v 2 f)
+    by-tests false false e f g = absurd (omega arith)
+
+-- and no other
+pub other-version : (v : ℕ) → (v ≡ 1 → ⊥) → (v ≡ 2 → ⊥) → wordsOf v ≡ 0
+unfolding wordsOf
+other-version v f g =
+    ap (λ (t : Bool). cond t (wordsOf 1) (cond (eqb v 2) (wordsOf 2) 0)) (ne-eqb v 1 f)
+    ∙ ap (λ (t : Bool). cond t (wordsOf 2) 0) (ne-eqb v 2 g)
 
 pub few : {k n : ℕ} → k ≤ mostWords → n ≤ mostCards → k * n ≤ mostWords * mostCards
 few hk hn = mul-le-mul hk hn

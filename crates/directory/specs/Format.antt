@@ -16,21 +16,13 @@ headerBytes = 16
 abbrev pub mostCards : ℕ
 mostCards = 256
 
--- the words of a record of each version: sixteen in version 1; no other is known
+-- the words of a record of each version: sixteen in version 1, twenty-four in version 2; no other is known
 unfoldable pub wordsOf : ℕ → ℕ
-wordsOf v = cond (eqb v 1) 16 0
+wordsOf v = cond (eqb v 1) 16 (cond (eqb v 2) 24 0)
 
 -- no version's record has more words than this, so that every length fits
 abbrev pub mostWords : ℕ
 mostWords = 24
-
--- the version that is written
-abbrev pub writtenVersion : ℕ
-writtenVersion = 1
-
--- the bytes of a record of it
-abbrev pub recordBytes : ℕ
-recordBytes = wordBytes * wordsOf writtenVersion
 
 -- where the records of n cards start, and where those of k words each end
 abbrev pub recordsAt : ℕ → ℕ

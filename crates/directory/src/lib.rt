@@ -27,6 +27,7 @@ pub fn width(version: u16) -> usize
 {
     match version {
         1 => 16,
+        2 => 24,
         _ => 0,
     }
 }

@@ -17,7 +17,7 @@ use Rattle.library.specs.Answers.{Reads, left, read, verdictRead}
 use Rattle.directory.specs.Judged.{libraryJudged}
 use Rattle.roll.specs.Directory.{nameBytes}
 use Rattle.roll.proofs.Names.{or-false}
-use Rattle.directory.specs.Format.{directory, records, recordsAt, wordsIn}
+use Rattle.directory.specs.Format.{version, directory, records, recordsAt, wordsIn}
 use Rattle.directory.proofs.Headers.{directory-part, directoryPart}
 use Rattle.directory.proofs.Inspections.{Inspected}
 use Rattle.bytes_le.specs.Le.{wordBytes}
@@ -47,13 +47,13 @@ words-room {s} {n} {k} v w e = rw e (by-test (leb (k * n) w) refl)
     by-test false g = omega arith
 
 module _ (s ns ws : List ℕ) where
-  reads-by : (v : Verdict ℕ) → read s (length ns) (length ws) ≡ v → (r : Reading) → verdictRead r ≡ v
+  reads-by : (v : Verdict (ℕ × ℕ)) → read s (length ns) (length ws) ≡ v → (r : Reading) → verdictRead r ≡ v
       → Reads s ns ws r (left v (directory s) ns) (left v (wordsIn (records s)) ws)
   reads-by v e r g =
       record {
         answer = ap tells (g ∙ sym e);
-        names = ap (λ (w : Verdict ℕ). left w (directory s) ns) (sym e);
-        words = ap (λ (w : Verdict ℕ). left w (wordsIn (records s)) ws) (sym e);
+        names = ap (λ (w : Verdict (ℕ × ℕ)). left w (directory s) ns) (sym e);
+        words = ap (λ (w : Verdict (ℕ × ℕ)). left w (wordsIn (records s)) ws) (sym e);
       }
 
   pub read-refused : {f : Refusal} → libraryJudged s ≡ no f → Reads s ns ws (Refused f) ns ws
@@ -62,15 +62,16 @@ module _ (s ns ws : List ℕ) where
 
   module _ {n k : ℕ} (v : Inspected s n k) where
     to-five : {t : Bool} → (ltb (length ns) (nameBytes * n) || ltb (length ws) (k * n)) ≡ t
-        → read s (length ns) (length ws) ≡ refuseIf t ShortOutput (yes n)
+        → read s (length ns) (length ws) ≡ refuseIf t ShortOutput (yes (n, version s))
     unfolding read
-    to-five e = rw (v .judged) (ap (λ (b : Bool). refuseIf b ShortOutput (yes n)) e)
+    to-five e = rw (v .judged) (ap (λ (b : Bool). refuseIf b ShortOutput (yes (n, version s))) e)
 
     pub read-short : (ltb (length ns) (nameBytes * n) || ltb (length ws) (k * n)) ≡ true
         → Reads s ns ws (Refused ShortOutput) ns ws
     read-short e = reads-by (no ShortOutput) (to-five e) (Refused ShortOutput) refl
 
-    pub read-yes : nameBytes * n ≤ length ns → k * n ≤ length ws → read s (length ns) (length ws) ≡ yes n
+    pub read-yes : nameBytes * n ≤ length ns → k * n ≤ length ws
+        → read s (length ns) (length ws) ≡ yes (n, version s)
     read-yes hn hw = to-five (or-false (le-ltb (length ns) (nameBytes * n) hn) ∙ le-ltb (length ws) (k * n) hw)
 
     -- d and q are what was handed on of the directory's part and of the records' part, and d′ and q′ what that left in
@@ -79,10 +80,10 @@ module _ (s ns ws : List ℕ) where
         (ed : d ≡ cond (leb (k * n) (length ws)) (directoryPart s n) [])
         (eq : q ≡ cond (leb (k * n) (length ws)) (recordsPart s n) [])
         (ed′ : d′ ≡ over d ns) (eq′ : q′ ≡ over (wordsIn q) ws) where
-      pub read-cards : leb (k * n) (length ws) ≡ true → Reads s ns ws (Cards n) d′ q′
-      read-cards h =
-          rw (ed′, eq′, ed, eq, h, directory-part s (v .is-count), records-part v)
-          (reads-by (yes n) (read-yes hn (leb-true (k * n) (length ws) h)) (Cards n) refl)
+      pub read-cards : leb (k * n) (length ws) ≡ true → {u : ℕ} → u ≡ version s → Reads s ns ws (Cards n u) d′ q′
+      read-cards h eu =
+          rw (ed′, eq′, ed, eq, h, directory-part s (v .is-count), records-part v, eu)
+          (reads-by (yes (n, version s)) (read-yes hn (leb-true (k * n) (length ws) h)) (Cards n (version s)) refl)
 
       pub read-none : leb (k * n) (length ws) ≡ false → Reads s ns ws (Refused ShortOutput) d′ q′
       read-none h =

@@ -14,7 +14,7 @@ use Rattle.library.specs.declared.Writing.{Writing}
 use Rattle.library.specs.declared.Writing.the-variants as writing
 use Rattle.roll.specs.Directory.{nameBytes}
 use Rattle.directory.specs.Judged.{libraryJudged, offerJudged}
-use Rattle.directory.specs.Format.{wholeOf, directory, records, wordsIn, libraryOf}
+use Rattle.directory.specs.Format.{wholeOf, version, directory, records, wordsIn, libraryOf}
 
 -- ---- what is left of a lent buffer
 
@@ -25,19 +25,19 @@ left (yes a) new old = over new old
 
 -- ---- what reading answers
 
-abbrev pub verdictRead : Reading → Verdict ℕ
-verdictRead (reading.Cards n) = yes n
+abbrev pub verdictRead : Reading → Verdict (ℕ × ℕ)
+verdictRead (reading.Cards n v) = yes (n, v)
 verdictRead (reading.Refused f) = no f
 
-abbrev pub toldRead : Reading → Answer ℕ
+abbrev pub toldRead : Reading → Answer (ℕ × ℕ)
 toldRead r = tells (verdictRead r)
 
 -- 1, 2, 3, then 5 where one of the outputs, a bytes and b words, is shorter than what it must hold; else the count of
--- cards
-unfoldable pub read : List ℕ → ℕ → ℕ → Verdict ℕ
+-- cards and the version
+unfoldable pub read : List ℕ → ℕ → ℕ → Verdict (ℕ × ℕ)
 read s a b =
     andThen (libraryJudged s)
-    (λ (p : ℕ × ℕ). refuseIf (ltb a (nameBytes * p .0) || ltb b (p .1 * p .0)) ShortOutput (yes (p .0)))
+    (λ (p : ℕ × ℕ). refuseIf (ltb a (nameBytes * p .0) || ltb b (p .1 * p .0)) ShortOutput (yes (p .0, version s)))
 
 -- reading s into ns and ws: the answer r, and what stands in both buffers after it
 pub record Reads (s ns ws : List ℕ) (r : Reading) (ns′ ws′ : List ℕ) : Type 0 where

@@ -13,16 +13,16 @@ use Rattle.library.specs.Answers.{toldRead, read, Reads, toldWritten, wr
 
 -- the answer that a verdict is: one whatever tells it
 
-abbrev pub asReading : Verdict ℕ → Reading
-asReading (yes n) = reading.Cards n
+abbrev pub asReading : Verdict (ℕ × ℕ) → Reading
+asReading (yes p) = reading.Cards (p .0) (p .1)
 asReading (no f) = reading.Refused f
 
 abbrev pub asWriting : Verdict ℕ → Writing
 asWriting (yes n) = writing.Bytes n
 asWriting (no f) = writing.Refused f
 
-pub reading-told : (r : Reading) (v : Verdict ℕ) → toldRead r ≡ tells v → r ≡ asReading v
-reading-told (reading.Cards n) v e = ap asReading (tells-one (yes n) v e)
+pub reading-told : (r : Reading) (v : Verdict (ℕ × ℕ)) → toldRead r ≡ tells v → r ≡ asReading v
+reading-told (reading.Cards n k) v e = ap asReading (tells-one (yes (n, k)) v e)
 reading-told (reading.Refused f) v e = ap asReading (tells-one (no f) v e)
 
 pub writing-told : (r : Writing) (v : Verdict ℕ) → toldWritten r ≡ tells v → r ≡ asWriting v

@@ -7,7 +7,7 @@ ghost use Prim.Native.Nat.{_+_, _*_, _/_, _≤_};
 ghost use lib.ListN.{length, take, drop};
 ghost use Rattle.bytes_le.specs.Le.{wordBytes, bytesOf};
 ghost use Rattle.bytes_le.specs.Buffer.{over};
-ghost use Rattle.directory.specs.Format.{mostCards, writtenVersion, wordsIn, bytesOfAll, headerOf};
+ghost use Rattle.directory.specs.Format.{mostCards, wordsIn, bytesOfAll, headerOf};
 ghost use Rattle.library.specs.Answers.{Reads, Writes};
 use bytes_le::WORD_BYTES;
 use directory::HEADER_BYTES;
@@ -18,12 +18,9 @@ pub use finding::find;
 pub use finding::locate;
 pub use finding::record_at;
 
-// The version that is written.
-const WRITTEN_VERSION: u16 = 1;
-
-// What reading answers: the count of cards, or why not.
+// What reading answers: the count of cards and the version, or why not.
 pub enum Reading {
-    Cards(u32),
+    Cards(u32, u16),
     Refused(Refusal),
 }
 
@@ -83,7 +80,8 @@ pub fn read(library: &[u8], names: &mut [u8], words: &mut [u64]) -> Reading
             copy(where_room(room, &library[HEADER_BYTES..e]), names);
             load(where_room(room, &library[e..]), words);
             if room {
-                return Reading::Cards(n);
+                let version = bytes_le::u16_at(library, 0);
+                return Reading::Cards(n, version);
             }
             Reading::Refused(Refusal::ShortOutput)
         }
@@ -142,8 +140,8 @@ fn header(version: u16, count: usize) -> [u8; HEADER_BYTES]
     h
 }
 
-// Writes names and words as a library of a version.
-fn write_as(version: u16, names: &[u8], words: &[u64], library: &mut [u8]) -> Writing
+// Writes names and words as a library of a version: it goes to the start of the buffer, and a refusal changes nothing.
+pub fn write(version: u16, names: &[u8], words: &[u64], library: &mut [u8]) -> Writing
     ensures { λ r. ⌜ Writes version (now (names .entry)) (now (words .entry)) (now (library .entry)) r (now (library .exit)) ⌝ }
 {
     match directory::offer(version, names, words) {
@@ -162,11 +160,4 @@ fn write_as(version: u16, names: &[u8], words: &[u64], library: &mut [u8]) -> Wr
             Writing::Bytes(n)
         }
     }
-}
-
-// Writes a library of the present version: it goes to the start of the buffer, and a refusal changes nothing.
-pub fn write(names: &[u8], words: &[u64], library: &mut [u8]) -> Writing
-    ensures { λ r. ⌜ Writes writtenVersion (now (names .entry)) (now (words .entry)) (now (library .entry)) r (now (library .exit)) ⌝ }
-{
-    write_as(WRITTEN_VERSION, names, words, library)
 }

@@ -2,6 +2,7 @@
 -- refuses; of a sound library the part handed out for a card is its record, and what finding its name gives.
 use mathlib.Core.Path.{_≡_, sym, _∙_, ap}
 use mathlib.Core.List.{List, []}
+use mathlib.Core.Logic.{_⊎_}
 use Prim.Native.Nat.{ℕ, zero, suc, _+_, _*_, _<_, _≤_}
 use native.Mathlib.Nat.{mul-suc, mul-zero}
 use native.Mathlib.Omega.{arith}
@@ -10,24 +11,24 @@ use lib.Seq.{length-take-le, drop-drop}
 use denote.Ref.{RefT, ptr, now}
 use Rattle.finding.specs.declared.Located.{Located}
 use Rattle.finding.specs.declared.Located.the-variants.{Record, Refused}
-use Rattle.directory.specs.Format.{wordsOf, version, count, directory, records, recordsAt, recordBytes}
+use Rattle.directory.specs.Format.{wordsOf, version, count, directory, records, recordsAt}
 use Rattle.roll.specs.Directory.{namesIn, pieces, placeOf}
 use Rattle.finding.specs.Answers.{locating, handed, standing, Finds, toldLocated, recordAt, HandsOut}
 use Rattle.directory.specs.Judged.{Sound}
-use Rattle.directory.proofs.Headers.{only-version}
+use Rattle.directory.proofs.Headers.{known-version}
 use Rattle.finding.proofs.Locating.{located-placed, located-within}
 use Rattle.finding.proofs.HandingOut.{record-sound}
 use Rattle.refusal.specs.Order.{Verdict, no, tells, tells-one, yes}
 use Rattle.bytes_le.specs.Le.{wordBytes}
 use Rattle.name.specs.Name.{padded}
 
--- the part p is the size bytes of l from the place at on, and they are one record
+-- the part p is the size bytes of l from the place at on, and they are one record of the library's version
 pub record Part (l : RefT (List ℕ)) (at size : ℕ) (p : RefT (List ℕ)) : Type 0 where
   pub bytes : now p ≡ take size (drop at (now l))
   pub place : ptr p ≡ (ptr l .0, at + ptr l .1)
   pub long : length (now p) ≡ size
   pub width : size ≡ wordBytes * wordsOf (version (now l))
-  pub written : size ≡ recordBytes
+  pub known : (version (now l) ≡ 1) ⊎ (version (now l) ≡ 2)
 
 -- what an answer of locating says of the part that is found
 abbrev pub Agree : RefT (List ℕ) → Located → RefT (List ℕ) → Type 0
@@ -46,7 +47,7 @@ find-agrees {l} {x} {p} (Record at size) f e =
       place = f .place ∙ ap (λ (v : Verdict (ℕ × ℕ)). standing v l) (sym g);
       long = ap length b ∙ length-take-le size (drop at (now l)) m;
       width = w .wide;
-      written = w .wide ∙ ap (λ (v : ℕ). wordBytes * wordsOf v) (only-version (version (now l)) (w .known));
+      known = known-version (version (now l)) (w .known);
     }
 find-agrees {l} {x} (Refused g) f e =
     f .bytes ∙ ap (λ (v : Verdict (ℕ × ℕ)). handed v (now l)) (sym (tells-one (no g) (locating (now l) x) e))

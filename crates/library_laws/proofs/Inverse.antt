@@ -1,7 +1,8 @@
--- Reading gives back what was written, and writing gives back what was read, for every width of a record.
+-- Reading gives back what was written, and writing gives back what was read, in every version that is known.
 use mathlib.Core.Path.{_≡_, refl, sym, _∙_, ap, ap₂}
 use mathlib.Core.Bool.{true, _||_, not}
 use mathlib.Core.List.{List, [], _∷_, _++_}
+use mathlib.Core.Logic.{_⊎_, inl, inr}
 use Prim.Native.Nat.{ℕ, zero, suc, _+_, _*_, _^_, _<_, _≤_}
 use native.Mathlib.Omega.{arith}
 use borrow.Author.Tests.{lt-ltb, le-leb, eq-eqb}
@@ -23,7 +24,7 @@ use Rattle.directory.specs.Judged.{libraryJudged, numbersOf, offerJudged}
 use Rattle.library.specs.Unique.{reading-told, asReading, writing-told, asWriting}
 use Rattle.directory.proofs.Verdicts.{SoundLibrary, library-pass, library-yes, names-pass, names-yes}
 use Rattle.directory.proofs.Verdicts.{passed, refuse-yes, then-yes}
-use Rattle.directory.proofs.Headers.{Agreed, agreed, only-version}
+use Rattle.directory.proofs.Headers.{Agreed, agreed, known-version}
 use Rattle.library.proofs.WordsRead.{words-none, words-more, words-length}
 use Rattle.library.proofs.BytesWritten.{length-all}
 use Rattle.directory.proofs.Inspections.{Inspected, inspected}
@@ -68,13 +69,18 @@ bytes-back (suc m) s e b =
 
 -- ---- the library that names and words make
 
+-- a version that is known has room in its two bytes
+version-fits : {v : ℕ} → (v ≡ 1) ⊎ (v ≡ 2) → v < byteValues ^ 2
+version-fits (inl e) = omega arith
+version-fits (inr e) = omega arith
+
 module _ {v : ℕ} {ns ws : List ℕ} {n k : ℕ} (o : Offered v ns ws n k) where
   s : List ℕ
   s = libraryOf v ns ws
 
   is-version : version s ≡ v
   unfolding s headerOf
-  is-version = let e = only-version v (o .known) in le-bytes 2 v (omega arith)
+  is-version = le-bytes 2 v (version-fits (known-version v (o .known)))
 
   is-count : count s ≡ n
   unfolding s headerOf
@@ -87,6 +93,10 @@ module _ {v : ℕ} {ns ws : List ℕ} {n k : ℕ} (o : Offered v ns ws n k) wher
   whole : length s ≡ wholeOf k n
   unfolding s headerOf
   whole = let a = length-append ns (bytesOfAll ws) in omega (arith, a, length-all ws, o .names-long, o .words-long)
+
+  pub version-back : version (libraryOf v ns ws) ≡ v
+  unfolding s
+  version-back = is-version
 
   pub names-back : directory (libraryOf v ns ws) ≡ ns
   unfolding s
@@ -158,11 +168,12 @@ written-yes v ns ws a e =
     same : {x y : ℕ} → yes x ≡ yes y → x ≡ y
     same e = cc
 
--- what was written into any buffer and is read into any buffers that are long enough comes back, at the start of each
+-- what was written into any buffer and is read into any buffers that are long enough comes back, at the start of each,
+-- and the version told is the one that was written
 pub read-after-write : {v : ℕ} {ns ws l l′ : List ℕ} {m : ℕ} {n₀ w₀ n₁ w₁ : List ℕ} {r : Reading}
     → Writes v ns ws l (Bytes m) l′ → Below (2 ^ 64) ws → Reads (take m l′) n₀ w₀ r n₁ w₁
     → length ns ≤ length n₀ → length ws ≤ length w₀
-    → (r ≡ Cards (namesHeld ns)) × (n₁ ≡ over ns n₀) × (w₁ ≡ over ws w₀)
+    → (r ≡ Cards (namesHeld ns) v) × (n₁ ≡ over ns n₀) × (w₁ ≡ over ws w₀)
 read-after-write {v} {ns} {ws} {l} {l′} {m} {n₀} {w₀} {r = r} w b d hn hw =
     let answer : yes m ≡ written v ns ws (length l) = tells-one (yes m) (written v ns ws (length l)) (w .answer) in
     let t = written-yes v ns ws (length l) (sym answer) in
@@ -172,12 +183,15 @@ read-after-write {v} {ns} {ws} {l} {l′} {m} {n₀} {w₀} {r = r} w b d hn hw 
     let back : take m l′ ≡ s =
     ap (take m) (w .library ∙ ap (λ (a : Verdict ℕ). left a s l) (sym answer)) ∙ take-at s (drop (length s) l) m long
     in
-    let e : read (take m l′) (length n₀) (length w₀) ≡ yes (namesHeld ns) =
-    rw back (read-yes s n₀ w₀ (made o) (rw (o .names-long) at hn) (rw (o .words-long) at hw)) in (
+    let e : read (take m l′) (length n₀) (length w₀) ≡ yes (namesHeld ns, v) =
+    rw back
+    (read-yes s n₀ w₀ (made o) (rw (o .names-long) at hn) (rw (o .words-long) at hw)
+    ∙ ap (λ (u : ℕ). yes (namesHeld ns, u)) (version-back o)) in (
       reading-told r (read (take m l′) (length n₀) (length w₀)) (d .answer) ∙ ap asReading e,
-      d .names ∙ ap (λ (a : Verdict ℕ). left a (directory (take m l′)) n₀) e ∙ ap (λ (x : List ℕ). over x n₀)
+      d .names ∙ ap (λ (a : Verdict (ℕ × ℕ)). left a (directory (take m l′)) n₀) e ∙ ap (λ (x : List ℕ). over x n₀)
           (ap directory back ∙ names-back o),
-      d .words ∙ ap (λ (a : Verdict ℕ). left a (wordsIn (records (take m l′))) w₀) e ∙ ap (λ (x : List ℕ). over x w₀)
+      d .words ∙ ap (λ (a : Verdict (ℕ × ℕ)). left a (wordsIn (records (take m l′))) w₀) e ∙ ap
+          (λ (x : List ℕ). over x w₀)
           (ap (λ (y : List ℕ). wordsIn (records y)) back ∙ words-back o b),
     )
 
@@ -254,45 +268,53 @@ module _ {s : List ℕ} (g : SoundLibrary s) (b : Below byteValues s) where
       (passed (ap not meets-one) Malformed _ ∙ names-pass (g .names) _ ∙ ap (λ (n : ℕ). yes (n, wordsOf (version s)))
       cards)
 
--- what a verdict of reading that gives a count says
-read-yes-of : (s : List ℕ) (p q : ℕ) {n : ℕ} → read s p q ≡ yes n → SoundLibrary s × (n ≡ count s)
+-- what a verdict of reading that gives a count and a version says
+read-yes-of : (s : List ℕ) (p q : ℕ) {n v : ℕ} → read s p q ≡ yes (n, v)
+    → SoundLibrary s × (n ≡ count s) × (v ≡ version s)
 unfolding read
 read-yes-of s p q e =
     let g = then-yes (libraryJudged s) _ e in
     let b = library-yes s (g .first) in
     let r = refuse-yes (ltb p (nameBytes * g .value .0) || ltb q (g .value .1 * g .value .0)) ShortOutput (g .after) in
-    (b .0, sym (ap (λ (w : ℕ × ℕ). w .0) (b .1) ∙ same (r .1)))
+    let t = same (r .1) in (
+      b .0,
+      sym (ap (λ (w : ℕ × ℕ). w .0) (b .1) ∙ ap (λ (w : ℕ × ℕ). w .0) t),
+      sym (ap (λ (w : ℕ × ℕ). w .1) t),
+    )
   where
-    same : {x y : ℕ} → yes x ≡ yes y → x ≡ y
+    same : {x y : ℕ × ℕ} → yes x ≡ yes y → x ≡ y
     same e = cc
 
--- a library that was read into any buffers and is written from their starts into any buffer that is long enough comes
--- back
-pub write-after-read : {s ns ws ns′ ws′ : List ℕ} {n : ℕ} {l l′ : List ℕ} {r : Writing}
-    → Reads s ns ws (Cards n) ns′ ws′ → Below byteValues s
-    → Writes (version s) (take (nameBytes * n) ns′) (take (wordsOf (version s) * n) ws′) l r l′ → length s ≤ length l
+-- a library that was read into any buffers and is written from their starts, in the version that reading told, into any
+-- buffer that is long enough comes back
+pub write-after-read : {s ns ws ns′ ws′ : List ℕ} {n v : ℕ} {l l′ : List ℕ} {r : Writing}
+    → Reads s ns ws (Cards n v) ns′ ws′ → Below byteValues s
+    → Writes v (take (nameBytes * n) ns′) (take (wordsOf v * n) ws′) l r l′ → length s ≤ length l
     → (r ≡ Bytes (length s)) × (l′ ≡ over s l)
-write-after-read {s} {ns} {ws} {ns′} {ws′} {n} {l} {l′} {r} d b w h =
-    let answer : yes n ≡ read s (length ns) (length ws) =
-    tells-one (yes n) (read s (length ns) (length ws)) (d .answer) in
+write-after-read {s} {ns} {ws} {ns′} {ws′} {n} {v} {l} {l′} {r} d b w h =
+    let answer : yes (n, v) ≡ read s (length ns) (length ws) =
+    tells-one (yes (n, v)) (read s (length ns) (length ws)) (d .answer) in
     let t = read-yes-of s (length ns) (length ws) (sym answer) in
     let g = t .0 in
-    let v : ℕ = version s in
+    let en : n ≡ count s = t .1 in
+    let ev : v ≡ version s = t .2 in
     let dir : take (nameBytes * n) ns′ ≡ directory s =
-    ap (take (nameBytes * n)) (d .names ∙ ap (λ (x : Verdict ℕ). left x (directory s) ns) (sym answer))
+    ap (take (nameBytes * n)) (d .names ∙ ap (λ (x : Verdict (ℕ × ℕ)). left x (directory s) ns) (sym answer))
     ∙ take-at (directory s) (drop (length (directory s)) ns) (nameBytes * n)
-    (names-long g b ∙ ap (λ (m : ℕ). nameBytes * m) (sym (t .1))) in
+    (names-long g b ∙ ap (λ (m : ℕ). nameBytes * m) (sym en)) in
     let wds : take (wordsOf v * n) ws′ ≡ wordsIn (records s) =
-    ap (take (wordsOf v * n)) (d .words ∙ ap (λ (x : Verdict ℕ). left x (wordsIn (records s)) ws) (sym answer))
+    ap (take (wordsOf v * n)) (d .words ∙ ap (λ (x : Verdict (ℕ × ℕ)). left x (wordsIn (records s)) ws) (sym answer))
     ∙ take-at (wordsIn (records s)) (drop (length (wordsIn (records s))) ws) (wordsOf v * n)
-    (words-long g b ∙ ap (λ (m : ℕ). wordsOf v * m) (sym (t .1))) in
-    let long : length s ≡ wholeOf (wordsOf v) (count s) = a g b .long in
+    (words-long g b ∙ ap₂ (λ (u m : ℕ). wordsOf u * m) (sym ev) (sym en)) in
+    let long : length s ≡ wholeOf (wordsOf (version s)) (count s) = a g b .long in
     let e : written v (take (nameBytes * n) ns′) (take (wordsOf v * n) ws′) (length l) ≡ yes (length s) =
-    rw (dir, wds)
-    (write-yes v (directory s) (wordsIn (records s)) l (is-offered g b) (rw long at h) ∙ ap yes (sym long)) in (
+    rw (dir, wds, ev)
+    (write-yes (version s) (directory s) (wordsIn (records s)) l (is-offered g b) (rw long at h) ∙ ap yes (sym long)) in
+    let same : libraryOf v (directory s) (wordsIn (records s)) ≡ s =
+    ap (λ (u : ℕ). libraryOf u (directory s) (wordsIn (records s))) ev ∙ written-back g b in (
       writing-told r (written v (take (nameBytes * n) ns′) (take (wordsOf v * n) ws′) (length l)) (w .answer) ∙ ap
           asWriting e,
       w .library ∙ ap
           (λ (x : Verdict ℕ). left x (libraryOf v (take (nameBytes * n) ns′) (take (wordsOf v * n) ws′)) l) e
-          ∙ ap (λ (x : List ℕ). over x l) (ap₂ (libraryOf v) dir wds ∙ written-back g b),
+          ∙ ap (λ (x : List ℕ). over x l) (ap₂ (libraryOf v) dir wds ∙ same),
     )

@@ -1,10 +1,11 @@
--- Sound libraries: those that reading refuses with none of 1, 2, 3; and one of every size.
+-- Sound libraries: those that reading refuses with none of 1, 2, 3; and one of every size in each version.
 use mathlib.Core.Path.{_≡_, refl, sym, _∙_, ap}
 use mathlib.Core.Bool.{Bool, true, false, not}
 use mathlib.Core.List.{List, [], _∷_, _++_}
+use mathlib.Core.Logic.{_⊎_}
 use Prim.Native.Nat.{ℕ, zero, suc, _+_, _*_, _/_, _%_, _<_, _≤_, _-_}
 use native.Mathlib.Omega.{arith}
-use borrow.Author.Tests.{le-leb, eq-eqb}
+use borrow.Author.Tests.{lt-ltb, le-leb, eq-eqb}
 use lib.Dec.{lit<}
 use lib.ListN.{length, getD, replicate, length-replicate, length-append}
 use Rattle.name.specs.Name.{mark, wellFormed}
@@ -12,18 +13,17 @@ use Rattle.name.proofs.Laws.{and-true, same-not}
 use Rattle.library.specs.declared.Reading.{Reading}
 use Rattle.library.specs.declared.Reading.the-variants.{Cards}
 use Rattle.roll.specs.Directory.{allNamed, among, twice, nameBytes, namesHeld, namesIn}
-use Rattle.directory.specs.Format.{wordsOf, version, count, headed, directory, libraryOf, offered}
-use Rattle.directory.specs.Format.{mostCards, writtenVersion}
+use Rattle.directory.specs.Format.{wordsOf, version, count, headed, directory, libraryOf, offered, mostCards}
 use Rattle.library.specs.Answers.{read, Reads}
 use Rattle.directory.specs.Judged.{Sound, libraryJudged, namesJudged, numbersOf, offerJudged}
 use Rattle.library.specs.Unique.{reading-told, asReading}
 use Rattle.directory.proofs.Verdicts.{SoundNames, library-pass, library-yes, names-pass, passed}
 use Rattle.roll.proofs.Names.{or-false, cut-none, cut-more}
-use Rattle.directory.proofs.Headers.{known-width, only-version}
+use Rattle.directory.proofs.Headers.{known-width, known-version}
 use Rattle.directory.proofs.Inspections.{inspected}
 use Rattle.library.proofs.Outcomes.{read-yes}
 use Rattle.directory.proofs.Offers.{Offered, offers}
-use Rattle.library_laws.proofs.Inverse.{is-sound, made}
+use Rattle.library_laws.proofs.Inverse.{is-sound, made, version-back}
 use Rattle.refusal.specs.Order.{Verdict, andThen, no, refuseIf, yes}
 use Rattle.refusal.specs.declared.Refusal.the-variants.{BadName, Malformed, NameTwice}
 
@@ -45,18 +45,18 @@ not-refused s a b h₁ h₂ h₃ =
     none-draws (not (headed s)) (not (allNamed (namesIn (directory s)))) (twice (namesIn (directory s))) _
     (numbersOf s) h₁ h₂ h₃
 
--- a sound library is read wherever the buffers are long enough
+-- a sound library is read wherever the buffers are long enough, and reading tells its version
 pub sound-read : {s ns ws ns′ ws′ : List ℕ} {r : Reading}
     → Sound s → nameBytes * count s ≤ length ns → wordsOf (version s) * count s ≤ length ws
-    → Reads s ns ws r ns′ ws′ → r ≡ Cards (count s)
+    → Reads s ns ws r ns′ ws′ → r ≡ Cards (count s) (version s)
 sound-read {s} {ns} {ws} {r = r} g hn hw d =
     reading-told r (read s (length ns) (length ws)) (d .answer) ∙ ap asReading (read-yes s ns ws (inspected s g) hn hw)
 
--- and its version is the one that is written
-pub sound-version : (s : List ℕ) → Sound s → version s ≡ writtenVersion
-sound-version s g = only-version (version s) (known-width s (library-yes s g .0 .header))
+-- which is one of the two
+pub sound-version : (s : List ℕ) → Sound s → (version s ≡ 1) ⊎ (version s ≡ 2)
+sound-version s g = known-version (version s) (known-width s (library-yes s g .0 .header))
 
--- ---- one of every size
+-- ---- one of every size in each version
 
 -- the digits of a number are to this base
 abbrev digits : ℕ
@@ -109,35 +109,46 @@ single : (n : ℕ) → twice (namesIn (namesOf n)) ≡ false
 single zero = ap twice (cut-none nameBytes [] (lit< tt))
 single (suc n) = ap twice (names-more n) ∙ or-false (new n n (omega arith)) ∙ single n
 
-meets-one : (n : ℕ) → n ≤ mostCards
-    → offered writtenVersion (namesOf n) (replicate (wordsOf writtenVersion * n) 0) ≡ true
-unfolding offered wordsOf
-meets-one n h =
-    let l = names-long n in
-    let m : namesHeld (namesOf n) ≡ n = omega arith in
-    and-true (eq-eqb (length (namesOf n)) (nameBytes * (namesHeld (namesOf n))) (omega arith)) ∙ and-true
-    (le-leb (namesHeld (namesOf n)) mostCards (omega arith))
-    ∙ eq-eqb _ _ (length-replicate (wordsOf writtenVersion * n) 0 ∙ ap (λ (k : ℕ). nameBytes * k) (sym m))
-
--- a sound library of n cards
-pub record SoundOf (n : ℕ) : Type 0 where
+-- a sound library of n cards in version v
+pub record SoundOf (v n : ℕ) : Type 0 where
   pub library : List ℕ
   pub sound : Sound library
+  pub of-version : version library ≡ v
   pub cards : count library ≡ n
 
-pub sound-of-every-size : (n : ℕ) → n ≤ mostCards → SoundOf n
-unfolding offerJudged
-sound-of-every-size n h =
-    let ns : List ℕ = namesOf n in
-    let ws : List ℕ = replicate (wordsOf writtenVersion * n) 0 in
-    let names : SoundNames ns = record { valid = all-well n h; single = single n } in
-    let m : namesHeld ns ≡ n = let l = names-long n in omega arith in
-    let o : Offered writtenVersion ns ws n (wordsOf writtenVersion) =
-    offers writtenVersion ns ws
-    (passed (ap not (meets-one n h)) Malformed _ ∙ names-pass names _ ∙ ap
-    (λ (k : ℕ). yes (k, wordsOf writtenVersion)) m) in
-    record {
-      library = libraryOf writtenVersion ns ws;
-      sound = library-pass (is-sound o);
-      cards = sym (made o .is-count);
-    }
+module _ (v : ℕ) (known : 0 < wordsOf v) (n : ℕ) (h : n ≤ mostCards) where
+  zeros : List ℕ
+  zeros = replicate (wordsOf v * n) 0
+
+  held : namesHeld (namesOf n) ≡ n
+  held = let l = names-long n in omega arith
+
+  meets-one : offered v (namesOf n) zeros ≡ true
+  unfolding zeros offered
+  meets-one =
+      let l = names-long n in
+      let m = held in
+      and-true (lt-ltb 0 (wordsOf v) known)
+      ∙ and-true (eq-eqb (length (namesOf n)) (nameBytes * (namesHeld (namesOf n))) (omega arith))
+      ∙ and-true (le-leb (namesHeld (namesOf n)) mostCards (omega arith))
+      ∙ eq-eqb _ _ (length-replicate (wordsOf v * n) 0 ∙ ap (λ (k : ℕ). wordsOf v * k) (sym m))
+
+  is-offered : Offered v (namesOf n) zeros n (wordsOf v)
+  unfolding offerJudged
+  is-offered =
+      let names : SoundNames (namesOf n) = record { valid = all-well n h; single = single n } in
+      offers v (namesOf n) zeros
+      (passed (ap not meets-one) Malformed _ ∙ names-pass names _ ∙ ap (λ (k : ℕ). yes (k, wordsOf v)) held)
+
+  sound-of : SoundOf v n
+  sound-of =
+      record {
+        library = libraryOf v (namesOf n) zeros;
+        sound = library-pass (is-sound is-offered);
+        of-version = version-back is-offered;
+        cards = sym (made is-offered .is-count);
+      }
+
+pub sound-of-every-size : (n : ℕ) → n ≤ mostCards → SoundOf 1 n × SoundOf 2 n
+unfolding wordsOf
+sound-of-every-size n h = (sound-of 1 (lit< tt) n h, sound-of 2 (lit< tt) n h)

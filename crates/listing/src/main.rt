@@ -37,9 +37,9 @@ fn list_cards(library: &[u8], names: &[u8], n: u32) {
 // The library is judged once, in reading it.
 fn list(library: &[u8]) {
     let mut names = [0u8; 4096];
-    let mut words = [0u64; 4096];
+    let mut words = [0u64; 6144];
     match library::read(library, &mut names, &mut words) {
-        Reading::Cards(n) => {
+        Reading::Cards(n, _) => {
             show(sheet::label_line(b"cards", n as u64));
             list_cards(library, &names, n);
         }
@@ -51,7 +51,7 @@ fn list(library: &[u8]) {
 
 // At most one byte more than the longest library is read.
 fn list_input(fd: i32) {
-    let mut bytes = [0u8; 36881];
+    let mut bytes = [0u8; 53265];
     let n = io::read_full(fd, &mut bytes);
     list(&bytes[..n]);
 }

@@ -11,7 +11,7 @@ use Rattle.refusal.specs.Order.{Verdict, no}
 use Rattle.card.specs.declared.WorkedCard.{WorkedCard}
 use Rattle.terms.specs.Rows.{Role, Row, rowsFor}
 use Rattle.terms.specs.Values.{biasOf}
-use Rattle.rows.specs.Outcome.{tickLimit, ratioLimit, someAbove, ticksIn, ratiosIn}
+use Rattle.rows.specs.Outcome.{ratioLimit, someAbove, overTicks, ratiosIn}
 use Rattle.totals.specs.Flow.{rolesAt}
 
 -- a T above its limit, or a ratio above its own
@@ -69,7 +69,7 @@ faultIf false f l = l
 unfoldable pub faultsIn : ℕ → WorkedCard → (Role → Role → ℤ) → ℕ → List Row → List Fault
 faultsIn issue c v k [] = []
 faultsIn issue c v k (r ∷ rows) =
-    faultIf (someAbove tickLimit (ticksIn c v r)) (record { issue = issue; branch = k; kind = ticks })
+    faultIf (overTicks c v r (r .divisor)) (record { issue = issue; branch = k; kind = ticks })
     (faultIf (someAbove ratioLimit (ratiosIn c v (r .divisor))) (record { issue = issue; branch = k; kind = ratio })
     (faultsIn issue c v (suc k) rows))
 

@@ -6,7 +6,7 @@ use Prim.Native.Nat.{ℕ}
 use lib.Dec.{leb}
 use lib.ListN.{take, replicate}
 use lib.IntN.{ℤ, pos, negsuc}
-use lib.Ieee.{ofBits, toBits, lt, eq, ne, le, whole, mul, div, sub, toUnsigned, size}
+use lib.Ieee.{ofBits, toBits, lt, eq, ne, le, whole, mul, div, sub, toUnsigned, toSigned, neg, size}
 use Rattle.refusal.specs.Order.{Verdict, yes}
 use Rattle.name.specs.Name.{asked, padded}
 use Rattle.whole.specs.Root.{rootBits, rootOf}
@@ -58,10 +58,10 @@ abbrev ratio : Split
 ratio = record { a = 1073741824; down = keptPower (negsuc 67) }
 
 abbrev worked : WorkedCard
-worked = record { sn = current; bulk = current; side = none; nonideal = none; ex = current; sub = none; sf = none; rex = ratio; rsub = ratio; octave = 16000000; second = 16000000; exsub = false; «rcbli_zero» = true }
+worked = record { sn = current; bulk = current; side = none; nonideal = none; ex = current; sub = none; sf = none; rex = ratio; rsub = ratio; reverse = none; octave = 16000000; second = 16000000; knee = 5000000; exsub = false; «rcbli_zero» = true }
 
 card-is : judgeOf (recordOf theCard) ≡ yes worked
-unfolding recordOf judgeOf clipOf finiteUp clippedUp clippedAt ofBits lt eq ne le whole mul div sub toUnsigned size
+unfolding recordOf judgeOf clipOf finiteUp clippedUp clippedAt ofBits lt eq ne le whole mul div sub toUnsigned toSigned neg size
 card-is = refl
 
 abbrev a1 : List ℕ
@@ -120,7 +120,7 @@ tail [] = []
 tail (c ∷ rest) = rest
 
 other-rows : map (λ (c : Case). c .worked) (tail (tail cases)) ≡ map (λ (c : Case). c .paper) (tail (tail cases))
-unfolding cases entries finiteUp clippedUp clippedAt maskUp ofBits toBits lt eq ne le whole mul div sub toUnsigned size expOf rootFor rootOf rootBits
+unfolding cases entries finiteUp clippedUp clippedAt maskUp ofBits toBits lt eq ne le whole mul div sub toUnsigned toSigned neg size expOf rootFor rootOf rootBits
 other-rows = refl
 
 abbrev first-then : List ℤ → List (List ℤ) → List (List ℤ)

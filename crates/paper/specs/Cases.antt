@@ -11,7 +11,6 @@ use Rattle.octave.specs.Table.{entryOf}
 use Rattle.float.specs.declared.Split.{Split}
 use Rattle.float.specs.Split.{keptPower}
 use Rattle.card.specs.declared.WorkedCard.{WorkedCard}
-use Rattle.clip.specs.Limits.{width}
 use Rattle.clip.specs.Clip.{clipOf, numbersOf, maskOf}
 use Rattle.card.specs.Judge.{judgeOf}
 use Rattle.rows.specs.declared.Over.{Over}
@@ -70,13 +69,13 @@ withSn s (no f) = []
 withSn s (yes c) =
     overNumbers
     (outcomeOf
-    (record { sn = s; bulk = c .bulk; side = c .side; nonideal = c .nonideal; ex = c .ex; sub = c .sub; sf = c .sf; rex = c .rex; rsub = c .rsub; octave = c .octave; second = c .second; exsub = c .exsub; «rcbli_zero» = c .«rcbli_zero» })
+    (record { sn = s; bulk = c .bulk; side = c .side; nonideal = c .nonideal; ex = c .ex; sub = c .sub; sf = c .sf; rex = c .rex; rsub = c .rsub; reverse = c .reverse; octave = c .octave; second = c .second; knee = c .knee; exsub = c .exsub; «rcbli_zero» = c .«rcbli_zero» })
     (replicate roles (pos 0))
     .over)
 
 -- the mask of a record's clipping, and the bits of its number i
 abbrev pub clipShows : ℕ → List ℕ → List ℤ
-clipShows i s = pos (maskOf width s) ∷ pos (toBits binary64 (getD (numbersOf width s) i nan)) ∷ []
+clipShows i s = pos (maskOf s) ∷ pos (toBits binary64 (getD (numbersOf s) i nan)) ∷ []
 
 -- the paper's board: the card loaded as a1, one transistor placed, nodes 1 and 2 moved to 16,000 microvolts
 unfoldable pub theBoard : Board

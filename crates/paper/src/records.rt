@@ -1,13 +1,13 @@
 // The cards of the worked cases, as bytes of their records.
 
 // The bytes of a record.
-pub(crate) const RECORD: usize = 8 * card::WIDTH;
+pub(crate) const RECORD: usize = 8 * clip::NARROW;
 
 // The bits of 1 as f64.
 const ONE: u64 = 0x3ff0000000000000;
 
 // The words of a record, their lowest bytes first.
-fn bytes(words: [u64; card::WIDTH]) -> [u8; RECORD] {
+fn bytes(words: [u64; clip::NARROW]) -> [u8; RECORD] {
     let mut b = [0u8; RECORD];
     for i in 0..RECORD {
         let w = words[i / 8];

@@ -1,23 +1,27 @@
 -- What callers may count on: as many ticks as branches, and none above the limit in size.
 use mathlib.Core.Path.{_≡_, refl}
-use mathlib.Core.Bool.{false}
+use mathlib.Core.Bool.{Bool, true, false, cond, _&&_}
 use mathlib.Core.List.{List, [], _∷_, map}
 use Prim.Native.Nat.{ℕ, zero, suc, _+_, _^_, _≤_, zero-le}
 use native.Mathlib.Nat.{le-trans, le-refl}
 use native.Mathlib.Omega.{arith}
 use lib.ListN.{getD, length, replicate, length-replicate}
-use lib.IntN.{ℤ, pos, natAbs}
+use lib.Dec.{eqb, ltb}
+use lib.IntN.{ℤ, pos, natAbs, subℕ}
+use borrow.Author.Tests.{ltb-false}
+use Rattle.reverse.specs.Sum.{sumLimit, overSum, sumOver}
 use Rattle.whole.specs.Quotient.{quotient-small}
 use Rattle.card.specs.declared.WorkedCard.{WorkedCard}
 use Rattle.card.specs.inner.Worked.{Each}
-use Rattle.terms.specs.Rows.{Role, Summand, unit, root, Divisor, undivided, sumOf, Row, rowsFor, branches}
-use Rattle.terms.specs.Values.{biasOf, tickOf, ratioOf}
+use Rattle.terms.specs.Rows.{Role, Summand, unit, root, Divisor, undivided, sumOf, exps, Row, rowsFor}
+use Rattle.terms.specs.Rows.{branches}
+use Rattle.terms.specs.Values.{valueOf, biasOf, tickOf, ratioOf, sumAt}
 use Rattle.rows.specs.declared.Over.{Over}
 use Rattle.rows.specs.declared.Over.the-variants.{Within, Ticks, Injection}
 use Rattle.rows.specs.Ticks.{summandOf, dividedBy, rowTicks}
-use Rattle.rows.specs.Outcome.{tickLimit, ratioLimit, someAbove, ticksIn, ratiosIn, firstOver, outcomeAt}
-use Rattle.rows.specs.Outcome.{outcomeOf}
-use Rattle.rows.proofs.Tests.{passes, both-within}
+use Rattle.rows.specs.Outcome.{tickLimit, ratioLimit, someAbove, ticksIn, ratiosIn, overTicks, firstOver}
+use Rattle.rows.specs.Outcome.{outcomeAt, outcomeOf}
+use Rattle.rows.proofs.Tests.{neither, passes, both-within}
 use Rattle.rows.proofs.Roots.{root-sized, difference-small}
 
 -- ---- as many ticks as branches
@@ -52,30 +56,43 @@ module _ (c : WorkedCard) (v : Role → Role → ℤ) where
   summand-least unit h = le-refl _
   summand-least (root x p q) h = root-sized (ratioOf c v (root x p q)) h .least
 
-  divided-small : (d : Divisor) (n : ℤ) → someAbove ratioLimit (ratiosIn c v d) ≡ false →
-      natAbs (dividedBy c v d n) ≤ natAbs n
-  divided-small undivided n e = le-refl _
-  divided-small (sumOf s t) n e =
+  over-roots-small : (s t : Summand) (n : ℤ) → someAbove ratioLimit (ratiosIn c v (sumOf s t)) ≡ false →
+      natAbs (dividedBy c v (sumOf s t) n) ≤ natAbs n
+  over-roots-small s t n e =
       let b = both-within ratioLimit (ratioOf c v s) (ratioOf c v t) e in
       let p = summand-least s (b .first) in
       let q = summand-least t (b .second) in
       quotient-small n 21 (summandOf c v s + summandOf c v t) (omega arith)
 
-  row-small : (r : Row) → someAbove tickLimit (ticksIn c v r) ≡ false →
-      someAbove ratioLimit (ratiosIn c v (r .divisor)) ≡ false → Sizes tickLimit (rowTicks c v r)
-  row-small r e g =
+  -- over a sum of exponentials the result itself is judged
+  over-sum-small : (t : Bool) (n : ℤ) (y : ℕ) → t && sumOver n y ≡ false →
+      natAbs (cond t (overSum n y) (pos 0)) ≤ tickLimit
+  over-sum-small true n y e =
+      let a = neither (eqb y 0) _ e in
+      let b = neither (ltb sumLimit y) _ (a .1) in ltb-false tickLimit (natAbs (overSum n y)) (b .1)
+  over-sum-small false n y e = zero-le
+
+  row-small : (r : Row) (d : Divisor) → overTicks c v r d ≡ false → someAbove ratioLimit (ratiosIn c v d) ≡ false →
+      Sizes tickLimit (dividedBy c v d (subℕ (tickOf c v (r .plus)) (tickOf c v (r .minus))))
+  row-small r undivided e g =
       let b = both-within tickLimit (tickOf c v (r .plus)) (tickOf c v (r .minus)) e in
-      le-trans (divided-small (r .divisor) _ g) (difference-small _ _ tickLimit (b .first) (b .second))
+      difference-small _ _ tickLimit (b .first) (b .second)
+  row-small r (sumOf s t) e g =
+      let b = both-within tickLimit (tickOf c v (r .plus)) (tickOf c v (r .minus)) e in
+      le-trans (over-roots-small s t (subℕ (tickOf c v (r .plus)) (tickOf c v (r .minus))) g) (difference-small _ _ tickLimit (b .first) (b .second))
+  row-small r (exps x p q) e g =
+      over-sum-small (ltb 0 (valueOf c x .digits)) (subℕ (tickOf c v (r .plus)) (tickOf c v (r .minus))) (sumAt c v p q)
+      (neither (someAbove tickLimit (ticksIn c v r)) _ e .1)
 
   -- rows of any kind
   rows-small : (rows : List Row) (k : ℕ) → firstOver c v k rows ≡ Within →
       Each (Sizes tickLimit) (map (rowTicks c v) rows)
   rows-small [] k e = tt
   rows-small (r ∷ rs) k e =
-      let t = someAbove tickLimit (ticksIn c v r) in
+      let t = overTicks c v r (r .divisor) in
       let d = someAbove ratioLimit (ratiosIn c v (r .divisor)) in
       let f = passes t d k (firstOver c v (suc k) rs) e in
-      (row-small r (f .ticks) (f .ratio), rows-small rs (suc k) (f .later))
+      (row-small r (r .divisor) (f .ticks) (f .ratio), rows-small rs (suc k) (f .later))
 
   outcome-small : (rows : List Row) (o : Over) → firstOver c v 1 rows ≡ o →
       Each (Sizes tickLimit) (outcomeAt o (map (rowTicks c v) rows) .ticks)

@@ -1,6 +1,6 @@
 -- From the code's terms to the outcome, over rows of any kind: the same row overloads first, and where none does
 -- the ticks are the rows' own.
-use mathlib.Core.Path.{_≡_, refl, ap₂}
+use mathlib.Core.Path.{_≡_, refl, ap₂, _∙_}
 use mathlib.Core.Bool.{Bool, false, _||_}
 use mathlib.Core.List.{List, [], _∷_, map}
 use Prim.Native.Nat.{ℕ, zero, suc, _+_, _^_, _≤_, _<_}
@@ -15,12 +15,12 @@ use Rattle.card.specs.declared.WorkedCard.{WorkedCard}
 use Rattle.rows.specs.declared.Over.{Over}
 use Rattle.rows.specs.declared.Over.the-variants.{Within, Ticks, Injection}
 use Rattle.terms.specs.declared.Terms.{Terms}
-use Rattle.terms.specs.Rows.{Role, Summand, unit, root, Divisor, undivided, sumOf, Row, rowsFor, branches}
-use Rattle.terms.specs.Values.{tickOf, ratioOf}
+use Rattle.terms.specs.Rows.{Role, Summand, unit, root, Divisor, undivided, sumOf, exps, Row, rowsFor, branches}
+use Rattle.terms.specs.Values.{ratioOf}
 use Rattle.scaling.specs.inner.Shifts.{UpTo}
-use Rattle.terms.specs.inner.Terms.{leftOf, rightOf, RowTerms, RowsAt, none, more, TermsOf}
+use Rattle.terms.specs.inner.Terms.{leftOf, rightOf, ticksOf, Counted, RowTerms, RowsAt, none, more, TermsOf}
 use Rattle.rows.specs.Ticks.{rootFor, summandOf, dividedBy, rowTicks}
-use Rattle.rows.specs.Outcome.{tickLimit, ratioLimit, someAbove, ratiosIn, firstOver}
+use Rattle.rows.specs.Outcome.{tickLimit, ratioLimit, someAbove, ratiosIn, overTicks, firstOver}
 use Rattle.rows.specs.Outcome.{outcomeAt}
 use Rattle.rows.specs.inner.FromTerms.{Small, Below, Most, overUp, dividedOf, ticksAt, listUp, NotOver, Fine}
 use Rattle.rows.specs.inner.FromTerms.{outcomeFrom}
@@ -38,13 +38,29 @@ module _ (c : WorkedCard) (v : Role → Role → ℤ) where
       someAbove ratioLimit (l ∷ g ∷ []) ≡ someAbove ratioLimit (ratiosIn c v d)
   same-ratios undivided a b = same-test a b
   same-ratios (sumOf s t) a b = same-test a b
+  same-ratios (exps x p q) a b = same-test a b
+
+  module _ (r : Row) (p m : ℕ) where
+    counted-over : (d : Divisor) → Counted c v r d p m → someAbove tickLimit (p ∷ m ∷ []) ≡ overTicks c v r d
+    counted-over undivided t = same-test (t .0) (t .1)
+    counted-over (sumOf s u) t = same-test (t .0) (t .1)
+    counted-over (exps x a b) t = t .over
+
+    counted-small : (d : Divisor) → Counted c v r d p m → (p < 2 ^ 62) × (m < 2 ^ 62)
+    counted-small undivided t = (t .0 .small, t .1 .small)
+    counted-small (sumOf s u) t = (t .0 .small, t .1 .small)
+    counted-small (exps x a b) t = (t .plus-small, t .minus-small)
 
   pub over-is : {x : Terms} {k : ℕ} {rows : List Row} → RowsAt c v x k rows
       → overUp x (length rows) k ≡ firstOver c v (suc k) rows
   unfolding overUp
   over-is none = refl
   over-is (more {k = k} {r = r} t rest) =
-      rw (same-test (t .plus) (t .minus), same-ratios (r .divisor) (t .left) (t .right), over-is rest)
+      rw (
+        counted-over r _ _ (r .divisor) (t .counted),
+        same-ratios (r .divisor) (t .left) (t .right),
+        over-is rest,
+      )
 
   -- ---- where no row overloads
 
@@ -52,20 +68,25 @@ module _ (c : WorkedCard) (v : Role → Role → ℤ) where
   summand-root unit = root-unit
   summand-root (root x p q) = refl
 
-  divided-is : (d : Divisor) (p m : ℕ) → dividedOf p m (leftOf c v d) (rightOf c v d) ≡ dividedBy c v d (subℕ p m)
+  over-roots : (s t : Summand) (p m : ℕ) →
+      dividedOf p m (ratioOf c v s) (ratioOf c v t) ≡ dividedBy c v (sumOf s t) (subℕ p m)
   unfolding dividedOf
-  divided-is undivided p m = divided-plain p m
-  divided-is (sumOf s t) p m =
-      ap₂ (λ (a b : ℕ). quotientOf (subℕ p m) 21 (a + b)) (summand-root s) (summand-root t)
+  over-roots s t p m = ap₂ (λ (a b : ℕ). quotientOf (subℕ p m) 21 (a + b)) (summand-root s) (summand-root t)
+
+  divided-is : (r : Row) (d : Divisor) {p m l g : ℕ} → Counted c v r d p m → UpTo ratioLimit l (leftOf c v d) →
+      UpTo ratioLimit g (rightOf c v d) → BothWithin tickLimit p m → BothWithin ratioLimit l g →
+      dividedOf p m l g ≡ dividedBy c v d (ticksOf c v r)
+  divided-is r undivided {p} {m} t e f a b =
+      rw (t .0 .same (a .first), t .1 .same (a .second), e .same (b .first), f .same (b .second)) (divided-plain _ _)
+  divided-is r (sumOf s u) {p} {m} t e f a b =
+      rw (t .0 .same (a .first), t .1 .same (a .second), e .same (b .first), f .same (b .second)) (over-roots s u _ _)
+  divided-is r (exps x i j) {p} {m} t e f a b =
+      rw (e .same (b .first), f .same (b .second))
+      (divided-plain p m ∙ t .ticks (none-above tickLimit p m (a .first) (a .second)))
 
   row-is : {r : Row} {p m l g : ℕ} → RowTerms c v r p m l g → BothWithin tickLimit p m → BothWithin ratioLimit l g →
       dividedOf p m l g ≡ rowTicks c v r
-  row-is {r} {p} {m} {l} {g} t a b =
-      let e1 = t .plus .same (a .first) in
-      let e2 = t .minus .same (a .second) in
-      let e3 = t .left .same (b .first) in
-      let e4 = t .right .same (b .second) in
-      rw (e1, e2, e3, e4) (divided-is (r .divisor) (tickOf c v (r .plus)) (tickOf c v (r .minus)))
+  row-is {r} t a b = divided-is r (r .divisor) (t .counted) (t .left) (t .right) a b
 
   pub ticks-are : {x : Terms} {k : ℕ} {rows : List Row} → RowsAt c v x k rows → overUp x (length rows) k ≡ Within →
       listUp (ticksAt x) (length rows) k ≡ map (rowTicks c v) rows
@@ -87,7 +108,7 @@ module _ (c : WorkedCard) (v : Role → Role → ℤ) where
       go : (k < i) ⊎ (i ≤ k) → (k < i → (getD (x .plus) i 0 < 2 ^ 62) × (getD (x .minus) i 0 < 2 ^ 62)) →
           (getD (x .plus) i 0 < 2 ^ 62) × (getD (x .minus) i 0 < 2 ^ 62)
       go (inl h) later = later h
-      go (inr h) later = let e : k ≡ i = omega arith in rw (← e) (t .plus .small, t .minus .small)
+      go (inr h) later = let e : k ≡ i = omega arith in rw (← e) (counted-small r _ _ (r .divisor) (t .counted))
 
   pub terms-small : {x : Terms} → TermsOf c v x → Small x
   terms-small t =

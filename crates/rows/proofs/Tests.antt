@@ -25,6 +25,11 @@ passes true b k n e = let z : _≡_ {A = ℕ} 0 1 = cc in absurd (omega arith)
 passes false true k n e = let z : _≡_ {A = ℕ} 0 1 = cc in absurd (omega arith)
 passes false false k n e = record { ticks = refl; ratio = refl; later = e }
 
+-- two tests that are both false
+pub neither : (a b : Bool) → a || b ≡ false → (a ≡ false) × (b ≡ false)
+neither true b e = never e
+neither false b e = (refl, e)
+
 -- neither of two is above the limit
 pub record BothWithin (limit x y : ℕ) : Type 0 where
   pub first : x ≤ limit

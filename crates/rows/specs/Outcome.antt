@@ -4,15 +4,15 @@ use mathlib.Core.List.{List, [], _∷_, map}
 use Prim.Native.Nat.{ℕ, suc}
 use lib.Dec.{ltb}
 use lib.ListN.{replicate, length}
-use lib.IntN.{ℤ, pos}
+use lib.IntN.{ℤ, pos, subℕ}
 use Rattle.refusal.specs.declared.Refusal.{Refusal}
 use Rattle.refusal.specs.declared.Refusal.the-variants as refusal
 use Rattle.card.specs.declared.WorkedCard.{WorkedCard}
 use Rattle.rows.specs.declared.Over.{Over}
 use Rattle.rows.specs.declared.Over.the-variants.{Within, Ticks, Injection}
 use Rattle.rows.specs.declared.Outcome.{Outcome}
-use Rattle.terms.specs.Rows.{Role, Divisor, undivided, sumOf, Row, rowsFor}
-use Rattle.terms.specs.Values.{tickOf, ratioOf, biasOf}
+use Rattle.terms.specs.Rows.{Role, Divisor, undivided, sumOf, exps, Row, rowsFor}
+use Rattle.terms.specs.Values.{tickOf, ratioOf, biasOf, expsOver}
 pub use Rattle.scaling.specs.Scaled.{tickLimit, ratioLimit}
 use Rattle.rows.specs.Ticks.{rowTicks}
 
@@ -28,6 +28,15 @@ ticksIn c v r = tickOf c v (r .plus) ∷ tickOf c v (r .minus) ∷ []
 abbrev pub ratiosIn : WorkedCard → (Role → Role → ℤ) → Divisor → List ℕ
 ratiosIn c v undivided = []
 ratiosIn c v (sumOf s t) = ratioOf c v s ∷ ratioOf c v t ∷ []
+ratiosIn c v (exps x p q) = []
+
+-- a T is above its limit, or for a row over a sum of exponentials that sum is none or too large, or what comes of it is
+abbrev pub overTicks : WorkedCard → (Role → Role → ℤ) → Row → Divisor → Bool
+overTicks c v r undivided = someAbove tickLimit (ticksIn c v r)
+overTicks c v r (sumOf s t) = someAbove tickLimit (ticksIn c v r)
+overTicks c v r (exps x p q) =
+    someAbove tickLimit (ticksIn c v r)
+    || expsOver c v x p q (subℕ (tickOf c v (r .plus)) (tickOf c v (r .minus)))
 
 -- whether row k overloads: a T goes before a ratio; and if neither, what comes after it
 abbrev pub injectionAt : Bool → ℕ → Over → Over
@@ -42,7 +51,7 @@ overAt false j k next = injectionAt j k next
 abbrev pub firstOver : WorkedCard → (Role → Role → ℤ) → ℕ → List Row → Over
 firstOver c v k [] = Within
 firstOver c v k (r ∷ rs) =
-    overAt (someAbove tickLimit (ticksIn c v r)) (someAbove ratioLimit (ratiosIn c v (r .divisor))) k
+    overAt (overTicks c v r (r .divisor)) (someAbove ratioLimit (ratiosIn c v (r .divisor))) k
     (firstOver c v (suc k) rs)
 
 -- whether a row overloads, whichever and however

@@ -4,9 +4,9 @@ use lib.IntN.{ℤ, subℕ}
 use Rattle.whole.specs.Root.{rootOf}
 use Rattle.whole.specs.Quotient.{quotientOf}
 use Rattle.card.specs.declared.WorkedCard.{WorkedCard}
-use Rattle.terms.specs.Rows.{Role, Summand, unit, root, Divisor, undivided, sumOf, Row}
+use Rattle.terms.specs.Rows.{Role, Summand, unit, root, Divisor, undivided, sumOf, exps, Row}
 use Rattle.scaling.specs.Scaled.{partPlaces}
-use Rattle.terms.specs.Values.{tickOf, ratioOf}
+use Rattle.terms.specs.Values.{tickOf, ratioOf, expsTicks}
 
 -- 1 in the parts of 2^-20 that ratios count
 abbrev pub oneUnit : ℕ
@@ -25,10 +25,11 @@ summandOf c v (root x p q) = rootFor (ratioOf c v (root x p q))
 abbrev pub quotientShift : ℕ
 quotientShift = suc partPlaces
 
--- Q(N, D) = N * 2^21 / D, where there is something to divide by
+-- Q(N, D) = N * 2^21 / D, where there is something to divide by; or N * 2^20 / Y over a sum of exponentials
 abbrev pub dividedBy : WorkedCard → (Role → Role → ℤ) → Divisor → ℤ → ℤ
 dividedBy c v undivided n = n
 dividedBy c v (sumOf s t) n = quotientOf n quotientShift (summandOf c v s + summandOf c v t)
+dividedBy c v (exps x p q) n = expsTicks c v x p q n
 
 -- the ticks of a row
 abbrev pub rowTicks : WorkedCard → (Role → Role → ℤ) → Row → ℤ

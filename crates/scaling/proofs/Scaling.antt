@@ -31,7 +31,7 @@ pub upto-zero : {limit : ℕ} → UpTo limit 0 0
 upto-zero = upto-equal refl (lit< tt)
 
 -- both above
-upto-above : {limit x t : ℕ} → limit < x → limit < t → x < 2 ^ 62 → UpTo limit x t
+pub upto-above : {limit x t : ℕ} → limit < x → limit < t → x < 2 ^ 62 → UpTo limit x t
 upto-above {limit} {x} {t} h k l =
     record { above = lt-ltb limit x h ∙ sym (lt-ltb limit t k); same = λ q. absurd (omega arith); small = l }
 

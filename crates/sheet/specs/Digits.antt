@@ -6,9 +6,10 @@ use lib.Dec.{ltb}
 use lib.IntN.{ℤ, natAbs}
 use Rattle.current.specs.Current.{decimals, belowZero, picoOf}
 
--- how many hexadecimal digits a clip mask has, and a word of 64 bits
-abbrev pub maskDigits : ℕ
-maskDigits = 4
+-- how many hexadecimal digits a clip mask has, by whether its record is of version 2, and a word of 64 bits
+abbrev pub maskDigits : Bool → ℕ
+maskDigits true = 6
+maskDigits false = 4
 
 abbrev pub wordDigits : ℕ
 wordDigits = 16

@@ -3,7 +3,7 @@ use mathlib.Core.List.{List, [], _∷_, _++_}
 use Prim.Native.Nat.{ℕ}
 use lib.IntN.{ℤ}
 use Rattle.refusal.specs.Order.{numberTold}
-use Rattle.clip.specs.Limits.{width}
+use Rattle.clip.specs.Record.{isWide}
 use Rattle.clip.specs.Clip.{maskOf}
 use Rattle.card.specs.Judge.{judgeOf}
 use Rattle.spelling.specs.Bytes.{space, newline, bytes}
@@ -23,14 +23,14 @@ labelLine label n = label ++ numbersLine (n ∷ [])
 unfoldable pub toldLine : List ℕ → List ℕ
 toldLine told = bytes "refused" ++ numbersLine told
 
--- a card's name, which has no padding, its mask and its number
-abbrev pub cardLine : List ℕ → ℕ → ℕ → List ℕ
-cardLine name mask number =
-    name ++ (space ∷ (hexDigits maskDigits (listedMask number mask) ++ (space ∷ (decimalOf number ++ newline ∷ []))))
+-- a card's name, which has no padding, its mask in so many digits and its number
+abbrev pub cardLine : List ℕ → ℕ → ℕ → ℕ → List ℕ
+cardLine name digits mask number =
+    name ++ (space ∷ (hexDigits digits (listedMask number mask) ++ (space ∷ (decimalOf number ++ newline ∷ []))))
 
 -- the listing of a card: the mask that clipping its record gives, and 0 or the number by which loading refuses it
 unfoldable pub listingLine : List ℕ → List ℕ → List ℕ
-listingLine name bytes = cardLine name (maskOf width bytes) (numberTold (judgeOf bytes))
+listingLine name bytes = cardLine name (maskDigits (isWide bytes)) (maskOf bytes) (numberTold (judgeOf bytes))
 
 -- a node's number, its microvolts and its ticks
 unfoldable pub readingOf : ℕ → ℤ → ℤ → List ℕ

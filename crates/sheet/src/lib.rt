@@ -10,8 +10,10 @@ mod gather; // gather.rt: bytes gathered one after the other
 mod digits; // digits.rt: numbers in digits
 mod lines; // lines.rt: what a line is made of
 
-// How many hexadecimal digits a clip mask has, and a word of 64 bits.
+// How many hexadecimal digits a clip mask has, that of version 2 too, and a word of 64 bits.
 const MASK_DIGITS: usize = 4;
+
+const WIDE_DIGITS: usize = 6;
 
 const WORD_DIGITS: usize = 16;
 
@@ -44,11 +46,17 @@ pub fn told_line(number: u32, issue: u32, branch: u32) -> Text
     gather::push(placed, b'\n')
 }
 
-// A clip mask in hex digits.
-pub fn mask_digits(mask: u32) -> Text
-    ensures { λ r. ⌜ r ≡ textOf (hexDigits maskDigits mask) ⌝ }
+fn mask_width(wide: bool) -> usize
+    ensures { λ r. ⌜ r ≡ maskDigits wide ⌝ }
 {
-    digits::hex(gather::empty(), mask as u64, MASK_DIGITS)
+    if wide { WIDE_DIGITS } else { MASK_DIGITS }
+}
+
+// A clip mask in hex digits, by whether its record is of version 2.
+pub fn mask_digits(mask: u32, wide: bool) -> Text
+    ensures { λ r. ⌜ r ≡ textOf (hexDigits (maskDigits wide) mask) ⌝ }
+{
+    digits::hex(gather::empty(), mask as u64, mask_width(wide))
 }
 
 // A word of 64 bits in hex digits.
@@ -64,9 +72,10 @@ pub fn listing_line(name: &[u8], bytes: &[u8]) -> Text
 {
     let number = lines::judged(bytes);
     let mask = listed::listed_mask(number, card::clip(bytes).mask);
+    let width = mask_width(clip::is_wide(bytes));
     let named = gather::append(gather::empty(), name);
     let spaced = gather::push(named, b' ');
-    let masked = digits::hex(spaced, mask as u64, MASK_DIGITS);
+    let masked = digits::hex(spaced, mask as u64, width);
     let parted = gather::push(masked, b' ');
     let numbered = digits::decimal(parted, number as u64);
     gather::push(numbered, b'\n')

@@ -1,2 +1,3 @@
 pub mod Readied
+pub mod Eighth
 pub mod Laws

@@ -17,6 +17,7 @@ pub data Value : Type 0 where
   sf : Value
   rEx : Value
   rSub : Value
+  reverse : Value
 
 -- the octave, and the second octave
 pub data Span : Type 0 where
@@ -33,10 +34,12 @@ pub data Summand : Type 0 where
   unit : Summand
   root : Value → Role → Role → Summand
 
--- what a branch is divided by: nothing, or the sum of two
+-- what a branch is divided by: nothing, or the sum of two; or the sum of two exponentials, that of a junction's voltage
+-- and that of V_Lr, which counts only where a value is not 0
 pub data Divisor : Type 0 where
   undivided : Divisor
   sumOf : Summand → Summand → Divisor
+  exps : Value → Role → Role → Divisor
 
 -- a branch: T(plus) - T(minus), and where there is a divisor, Q of that over it
 pub record Row : Type 0 where
@@ -94,9 +97,14 @@ row6 exsub =
 abbrev pub row7 : Row
 row7 = record { from = S; to = C1; plus = across sf plain S C1; minus = alone sf; divisor = undivided }
 
+-- the reverse non-ideal base current, (4.61)
+abbrev pub row8 : Row
+row8 =
+    record { from = B1; to = C4; plus = across reverse plain B1 C4; minus = alone reverse; divisor = exps reverse B1 C4 }
+
 -- the branches of a card with this EXSUB, in order
 abbrev pub rowsFor : Bool → List Row
-rowsFor exsub = row1 ∷ row2 ∷ row3 ∷ row4 ∷ row5 ∷ row6 exsub ∷ row7 ∷ []
+rowsFor exsub = row1 ∷ row2 ∷ row3 ∷ row4 ∷ row5 ∷ row6 exsub ∷ row7 ∷ row8 ∷ []
 
 -- how many there are
 abbrev pub branches : ℕ

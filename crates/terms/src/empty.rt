@@ -12,11 +12,14 @@ pub fn no_ready() -> Ready
         card,
         plain: none,
         second: none,
+        doubled: none,
+        knee: octave::Exponential { m: 0, n: 0 },
         bulk: 0,
         side: 0,
         nonideal: 0,
         ex: 0,
         sub: 0,
         sf: 0,
+        reverse: 0,
     }
 }

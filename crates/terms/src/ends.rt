@@ -29,6 +29,7 @@ pub fn from_roles() -> [u8; BRANCHES]
         B1 as u8,
         B1 as u8,
         S as u8,
+        B1 as u8,
     ]
 }
 
@@ -44,5 +45,6 @@ pub fn to_roles() -> [u8; BRANCHES]
         C4 as u8,
         S as u8,
         C1 as u8,
+        C4 as u8,
     ]
 }

@@ -13,28 +13,32 @@ pub use ends::C1;
 pub use ends::C4;
 pub use ends::from_roles;
 pub use ends::to_roles;
+use octave::Exponential;
 use octave::Reciprocal;
 pub use scaling::PART_PLACES;
 pub use scaling::ROLES;
 pub use scaling::TICKS_MOST;
 pub use values::all_terms;
 
-pub const BRANCHES: usize = 7;
+pub const BRANCHES: usize = 8;
 
-// A card with what depends on it alone: the octaves' reciprocals, and each T without an exponential.
+// A card with what depends on it alone: the octaves' reciprocals, the exponential of V_Lr, and each T without an exponential.
 pub struct Ready {
     pub card: WorkedCard,
     pub plain: Reciprocal,
     pub second: Reciprocal,
+    pub doubled: Reciprocal,
+    pub knee: Exponential,
     pub bulk: u64,
     pub side: u64,
     pub nonideal: u64,
     pub ex: u64,
     pub sub: u64,
     pub sf: u64,
+    pub reverse: u64,
 }
 
-// The T's that each row adds and takes away, and the floors of the two ratios in its divisor: 0 where it has none, whose root is 2^20.
+// The T's that each row adds and takes away, and the floors of the two ratios in its divisor: 0 where it has none, whose root is 2^20. Row 8 is worked whole: one of its two numbers is its size, or too much where it overloads.
 pub struct Terms {
     pub plus: [u64; BRANCHES],
     pub minus: [u64; BRANCHES],
@@ -49,15 +53,21 @@ pub fn prepare(c: WorkedCard) -> Ready
 {
     let plain = octave::reciprocal_of(c.octave as u64);
     let second = octave::reciprocal_of(c.second as u64);
+    let doubled = octave::reciprocal_of(2 * c.octave as u64);
+    let table = octave::table();
+    let knee = octave::exponential_at(&table, c.knee as u64, doubled);
     Ready {
         card: c,
         plain: plain,
         second: second,
+        doubled: doubled,
+        knee: knee,
         bulk: scaling::alone(c.bulk),
         side: scaling::alone(c.side),
         nonideal: scaling::alone(c.nonideal),
         ex: scaling::alone(c.ex),
         sub: scaling::alone(c.sub),
         sf: scaling::alone(c.sf),
+        reverse: scaling::alone(c.reverse),
     }
 }

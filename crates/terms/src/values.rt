@@ -3,10 +3,11 @@ ghost use mathlib.Core.List.{map};
 ghost use Rattle.volts.specs.Volts.{givenBack};
 ghost use Rattle.scaling.specs.Scaled.{tickLimit};
 ghost use Rattle.scaling.specs.inner.Shifts.{UpTo};
-ghost use Rattle.terms.specs.Rows.{termX};
+ghost use Rattle.terms.specs.Rows.{termX, reverse, row8};
+ghost use Rattle.terms.specs.Rows as rows;
 ghost use Rattle.terms.specs.Values.{biasOf, tickOf};
 ghost use Rattle.terms.specs.inner.Ready.{Askable};
-ghost use Rattle.terms.specs.inner.Terms.{TermsOf};
+ghost use Rattle.terms.specs.inner.Terms.{Whole, TermsOf};
 use crate::ROLES;
 use crate::Ready;
 use crate::Terms;
@@ -18,6 +19,7 @@ use crate::ends::C4;
 use crate::ends::E1;
 use crate::ends::S;
 use octave::Table;
+use reverse::Pair;
 use scaling::PARTS;
 use scaling::exponential;
 use scaling::faint;
@@ -34,6 +36,23 @@ fn term_x(t: &Table, r: Ready, v: &[u32; ROLES]) -> u64
     } else {
         r.sub
     }
+}
+
+// Row 8, worked whole: nothing where its value is 0.
+fn term_8(t: &Table, r: Ready, v: &[u32; ROLES]) -> Pair
+    requires { ⌜ Askable (now t) r (now v) ⌝ }
+    ensures { λ x. ⌜ Whole (r .card) (biasOf (map givenBack (now (v .entry)))) row8 reverse rows.B1 rows.C4 (x .plus) (x .minus) ⌝ }
+{
+    let c = r.card;
+    let s = c.reverse;
+    if s.a == 0 {
+        return Pair { plus: 0, minus: 0 };
+    }
+    let plain = exponential(t, v, B1, C4, r.plain);
+    let doubled = exponential(t, v, B1, C4, r.doubled);
+    let plus = faint(s, plain, 0);
+    let sum = reverse::sum_of(doubled, r.knee);
+    reverse::over_sum(plus, r.reverse, sum)
 }
 
 // The T's and ratios of all rows: each exponential is worked once. These four arrays are the rows as the code has them.
@@ -61,10 +80,20 @@ pub fn all_terms(t: &Table, r: Ready, v: &[u32; ROLES]) -> Terms
     let knee = scaled(c.rex, b2e1, PARTS);
     let back = faint(c.rex, b2c2, PARTS);
     let x = term_x(t, r, v);
+    let eighth = term_8(t, r, v);
     Terms {
-        plus: [forward, bulk, side, nonideal, ex, sub, sf],
-        minus: [reverse, r.bulk, r.side, r.nonideal, r.ex, x, r.sf],
-        left: [knee, 0, 0, 0, 0, 0, 0],
-        right: [back, 0, 0, 0, exratio, subratio, 0],
+        plus: [forward, bulk, side, nonideal, ex, sub, sf, eighth.plus],
+        minus: [
+            reverse,
+            r.bulk,
+            r.side,
+            r.nonideal,
+            r.ex,
+            x,
+            r.sf,
+            eighth.minus,
+        ],
+        left: [knee, 0, 0, 0, 0, 0, 0, 0],
+        right: [back, 0, 0, 0, exratio, subratio, 0, 0],
     }
 }

@@ -7,10 +7,14 @@ use libc::STDIN_FILENO;
 use libc::STDOUT_FILENO;
 use refusal::Refusal;
 
-// The bytes of a record, and where after it a row has what overloads first and its currents; the row's bytes.
-const RECORD: usize = 8 * card::WIDTH;
+// Where a row has its record, after how many bytes it has; the most that there are; where after them the row has its voltages, what overloads first and its currents; the row's bytes.
+const RECORD_AT: usize = 4;
 
-const OVER_AT: usize = RECORD + 4 * ROLES;
+const RECORD_MOST: usize = 8 * card::WIDTH;
+
+const VOLTS_AT: usize = RECORD_AT + RECORD_MOST;
+
+const OVER_AT: usize = VOLTS_AT + 4 * ROLES;
 
 const TICKS_AT: usize = OVER_AT + 4;
 
@@ -26,7 +30,7 @@ const COUNTED: u64 = ROWS as u64 + 1;
 
 // The voltage of role k as the row keeps it.
 fn kept(row: &[u8], k: usize) -> u32 {
-    bytes_le::u32_at(row, RECORD + 4 * (k % ROLES))
+    bytes_le::u32_at(row, VOLTS_AT + 4 * (k % ROLES))
 }
 
 // Those of all roles, in microvolts.
@@ -100,10 +104,14 @@ fn same_reply(row: &[u8], bytes: &[u8]) -> bool {
 }
 
 fn agrees(row: &[u8]) -> bool {
-    if row.len() < RECORD {
+    let n = bytes_le::u32_at(row, 0) as usize;
+    if RECORD_MOST < n {
         return false;
     }
-    same_reply(row, &row[0..RECORD])
+    if row.len() < RECORD_AT + n {
+        return false;
+    }
+    same_reply(row, &row[RECORD_AT..RECORD_AT + n])
 }
 
 fn report(n: u64, what: &[u8]) {

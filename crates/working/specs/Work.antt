@@ -1,4 +1,4 @@
--- 'Working a card': nine values in f64, one rounding per operation, in the order written.
+-- 'Working a card': ten values in f64, one rounding per operation, in the order written.
 use mathlib.Core.Bool.{Bool, true, cond, _&&_}
 use mathlib.Core.List.{List, [], _∷_}
 use Prim.Native.Nat.{ℕ}
@@ -28,22 +28,23 @@ workedOf p =
       sf = sfOf (p .icss) (p .mult) ss;
       rex = div binary64 (mul binary64 four (p .is)) (p .ik);
       rsub = div binary64 (mul binary64 four (p .is)) (p .iks);
+      reverse = mul binary64 (p .ibr) (p .mult);
     }
 
 -- how many values are worked
 abbrev pub valueCount : ℕ
-valueCount = 9
+valueCount = 10
 
--- the nine in a row
+-- the ten in a row
 abbrev pub valuesOf : Worked → List Float
 valuesOf w =
-    w .sn ∷ w .bulk ∷ w .side ∷ w .nonideal ∷ w .ex ∷ w .sub ∷ w .sf ∷ w .rex ∷ w .rsub ∷ []
+    w .sn ∷ w .bulk ∷ w .side ∷ w .nonideal ∷ w .ex ∷ w .sub ∷ w .sf ∷ w .rex ∷ w .rsub ∷ w .reverse ∷ []
 
 -- whether a test passes each number
 abbrev pub all : (Float → Bool) → List Float → Bool
 all p [] = true
 all p (x ∷ l) = p x && all p l
 
--- each of the nine is finite
+-- each of the ten is finite
 abbrev pub allFinite : Worked → Bool
 allFinite w = all finite (valuesOf w)

@@ -1,10 +1,10 @@
-// The nine worked values of a card, in f64 with one rounding per operation.
+// The ten worked values of a card, in f64 with one rounding per operation.
 ghost use mathlib.Core.Path.{_≡_};
 ghost use lib.Ieee.Scale.{finite};
 ghost use Rattle.working.specs.Work.{workedOf, sfOf, valuesOf, all, allFinite};
 
 // How many values are worked.
-const VALUES: usize = 9;
+const VALUES: usize = 10;
 
 // Clipped parameters, under the names that document 003 gives them.
 pub struct Parameters {
@@ -18,6 +18,7 @@ pub struct Parameters {
     pub iss: f64,
     pub icss: f64,
     pub iks: f64,
+    pub ibr: f64,
 }
 
 pub struct Worked {
@@ -30,6 +31,7 @@ pub struct Worked {
     pub sf: f64,
     pub rex: f64,
     pub rsub: f64,
+    pub reverse: f64,
 }
 
 // A negative I_CSs stands for the substrate current itself.
@@ -55,6 +57,7 @@ pub fn work(p: Parameters) -> Worked
         sf,
         rex: (4.0 * p.is) / p.ik,
         rsub: (4.0 * p.is) / p.iks,
+        reverse: p.ibr * p.mult,
     }
 }
 
@@ -72,6 +75,7 @@ fn values(w: Worked) -> [f64; VALUES]
         w.sf,
         w.rex,
         w.rsub,
+        w.reverse,
     ]
 }
 
@@ -89,7 +93,7 @@ fn each_finite(x: [f64; VALUES]) -> bool
     true
 }
 
-// Whether all nine are finite.
+// Whether all ten are finite.
 pub fn all_finite(w: Worked) -> bool
     ensures { λ r. ⌜ r ≡ allFinite w ⌝ }
 {

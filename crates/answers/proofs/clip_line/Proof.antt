@@ -2,7 +2,7 @@
 use native.Mathlib.Omega.{arith}
 use borrow.Author.Needs.{needs}
 use Rattle.sheet.specs.Digits.{maskDigits}
-use Rattle.sheet.specs.laws.LinesFit.{hex-whole}
+use Rattle.sheet.specs.laws.LinesFit.{hex-whole, mask-short}
 use Rattle.answers.specs.Answers.{clipLine}
 use Rattle.answers.proofs.Pages.{then}
 use Rattle.answers.proofs.Written.{text-short, text-written}
@@ -16,9 +16,11 @@ returns : tie.Need-returns
 unfolding clipLine
 returns c =
     let m = masked c in
+    let p = m .before .before .before .before in
+    let w = p .before .before .before .args .wide in
     then (m .before .before .before .put .ensures)
     (then
-    (text-written (m .before .before .mask-digits .ensures) (hex-whole maskDigits _ (omega arith))
+    (text-written (m .before .before .mask-digits .ensures) (hex-whole (maskDigits w) _ (let k = mask-short w in omega arith))
     (m .put-text .ensures))
     (c .put-words .ensures))
 

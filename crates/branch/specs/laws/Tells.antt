@@ -1,6 +1,6 @@
 -- The number told of currents, that of the first test that fails or 0 where none does; and one reply to one request.
 use mathlib.Core.Path.{_≡_, refl, ap, ap₂, _∙_}
-use mathlib.Core.Bool.{not}
+use mathlib.Core.Bool.{Bool, not}
 use mathlib.Core.List.{List}
 use Prim.Native.Nat.{ℕ}
 use lib.Ieee.{Float, eq}
@@ -11,11 +11,9 @@ use Rattle.refusal.specs.Order.{then-if}
 use Rattle.refusal.specs.Unique.{unique-by-equation}
 use Rattle.volts.specs.Volts.{someOff}
 use Rattle.card.specs.declared.WorkedCard.{WorkedCard}
-use Rattle.clip.specs.Limits.{width}
-use Rattle.clip.specs.Record.{hasWords, finiteUp}
-use Rattle.clip.specs.Clip.{clippedUp}
+use Rattle.clip.specs.Record.{rightLength, widthOf, finiteUp}
 use Rattle.card.specs.Octave.{octaveGood}
-use Rattle.card.specs.Judge.{level, level504, exsub, octave, isSwitch, withinReach, cardOf}
+use Rattle.card.specs.Judge.{judgedNumbers, level, level504, octave, sparesGood, settingsGood, withinReach, cardOf}
 use Rattle.card.specs.laws.Tells.{judge-order}
 use Rattle.branch.specs.declared.Admission.{Admission}
 use Rattle.branch.specs.declared.Admission.the-variants.{Given, Refused}
@@ -38,15 +36,16 @@ abbrev pub voltsNumber : WorkedCard → List ℤ → ℕ
 voltsNumber c volts = numberIf (someOff volts) 13 (overNumber (outcomeOf c volts .over))
 
 -- on clipped numbers, then from the bytes: loading's tests go first
-abbrev pub numbersNumber : List Float → List ℤ → ℕ
-numbersNumber x volts =
+abbrev pub numbersNumber : Bool → List Float → List ℤ → ℕ
+numbersNumber spares x volts =
     numberIf (not (eq (level x) level504)) 7
-    (numberIf (not (isSwitch (exsub x))) 8
+    (numberIf (not (settingsGood spares x)) 8
     (numberIf (not (octaveGood (octave x))) 9 (numberIf (not (withinReach x)) 10 (voltsNumber (cardOf x) volts))))
 
 abbrev pub currentsNumber : List ℕ → List ℤ → ℕ
 currentsNumber s volts =
-    numberIf (not (hasWords width s)) 1 (numberIf (not (finiteUp s width)) 6 (numbersNumber (clippedUp s width) volts))
+    numberIf (not (rightLength s)) 1
+    (numberIf (not (finiteUp s (widthOf s))) 6 (numbersNumber (sparesGood s) (judgedNumbers s) volts))
 
 drawn-number : (o : Over) → numberIf (isOver o) (numberOf (drawnBy 0 o)) 0 ≡ overNumber o
 drawn-number Within = refl

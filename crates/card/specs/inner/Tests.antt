@@ -7,7 +7,7 @@ use Rattle.refusal.specs.declared.Refusal.the-variants.{WrongLevel, BadExsub, B
 use Rattle.clip.specs.declared.Answer.{Answer}
 use Rattle.clip.specs.declared.Answer.the-variants as answer
 use Rattle.card.specs.Octave.{octaveGood}
-use Rattle.card.specs.Judge.{level, level504, exsub, isSwitch, octave}
+use Rattle.card.specs.Judge.{level, level504, settingsGood, octave}
 
 -- what comes after a test that passes, or the refusal that it draws
 abbrev pub unlessPassed : Bool → Refusal → Answer → Answer
@@ -15,7 +15,7 @@ unlessPassed true f next = next
 unlessPassed false f next = answer.Refused f
 
 -- 7, 8, 9
-abbrev pub firstWrong : List Float → Answer
-firstWrong x =
+abbrev pub firstWrong : Bool → List Float → Answer
+firstWrong spares x =
     unlessPassed (eq (level x) level504) WrongLevel
-    (unlessPassed (isSwitch (exsub x)) BadExsub (unlessPassed (octaveGood (octave x)) BadOctave answer.Taken))
+    (unlessPassed (settingsGood spares x) BadExsub (unlessPassed (octaveGood (octave x)) BadOctave answer.Taken))

@@ -9,6 +9,7 @@ use Rattle.float.specs.Split.{IsSplit}
 use Rattle.card.specs.declared.WorkedCard.{WorkedCard}
 use Rattle.clip.specs.Limits.{tenth}
 use Rattle.card.specs.Octave.{octaveLeast, octaveMost, secondMost}
+use Rattle.card.specs.Knee.{kneeMost}
 use Rattle.card.specs.Judge.{mlf}
 
 -- a thing that holds of every element of a list
@@ -21,10 +22,10 @@ pub record GoodMlf (x : List Float) : Type 0 where
   pub number : T (finite (mlf x))
   pub least : T (le tenth (mlf x))
 
--- the nine splits in a row
+-- the ten splits in a row
 abbrev pub splitsOf : WorkedCard → List Split
 splitsOf c =
-    c .sn ∷ c .bulk ∷ c .side ∷ c .nonideal ∷ c .ex ∷ c .sub ∷ c .sf ∷ c .rex ∷ c .rsub ∷ []
+    c .sn ∷ c .bulk ∷ c .side ∷ c .nonideal ∷ c .ex ∷ c .sub ∷ c .sf ∷ c .rex ∷ c .rsub ∷ c .reverse ∷ []
 
 -- the least that a tenth of an octave can be
 abbrev pub secondLeast : ℕ
@@ -37,3 +38,4 @@ pub record IsWorked (c : WorkedCard) : Type 0 where
   pub octave-most : c .octave ≤ octaveMost
   pub second-least : secondLeast ≤ c .second
   pub second-most : c .second ≤ secondMost
+  pub knee-most : c .knee ≤ kneeMost

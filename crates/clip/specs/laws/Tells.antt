@@ -4,12 +4,12 @@ use mathlib.Core.Bool.{not}
 use mathlib.Core.List.{List}
 use Prim.Native.Nat.{ℕ}
 use Rattle.refusal.specs.Order.{numberTold, numberIf, number-first}
-use Rattle.clip.specs.Record.{hasWords, finiteUp}
+use Rattle.clip.specs.Record.{rightLength, widthOf, finiteUp}
 use Rattle.clip.specs.Clip.{clipOf}
 
-abbrev pub clipNumber : ℕ → List ℕ → ℕ
-clipNumber n s = numberIf (not (hasWords n s)) 1 (numberIf (not (finiteUp s n)) 6 0)
+abbrev pub clipNumber : List ℕ → ℕ
+clipNumber s = numberIf (not (rightLength s)) 1 (numberIf (not (finiteUp s (widthOf s))) 6 0)
 
-pub clip-tells : (n : ℕ) (s : List ℕ) → numberTold (clipOf n s) ≡ clipNumber n s
+pub clip-tells : (s : List ℕ) → numberTold (clipOf s) ≡ clipNumber s
 unfolding clipOf
-clip-tells n s = simp number-first
+clip-tells s = simp number-first

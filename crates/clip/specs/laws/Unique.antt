@@ -35,10 +35,10 @@ clipping-same r r′ a n m =
     ap (λ (x : Answer). record { answer = x; numbers = r .numbers; mask = r .mask }) a
     ∙ ap₂ (λ (l : List Float) (k : ℕ). record { answer = r′ .answer; numbers = l; mask = k }) n m
 
-pub unique-clip : (n : ℕ) (s : List ℕ) (r r′ : Clipping) → Clips n s r → Clips n s r′ → r ≡ r′
-unique-clip n s r r′ p q =
+pub unique-clip : (s : List ℕ) (r r′ : Clipping) → Clips s r → Clips s r′ → r ≡ r′
+unique-clip s r r′ p q =
     clipping-same r r′
-    (unique-by-equation (answer-from (r .answer) (clipOf n s) (p .answer))
-    (answer-from (r′ .answer) (clipOf n s) (q .answer)))
+    (unique-by-equation (answer-from (r .answer) (clipOf s) (p .answer))
+    (answer-from (r′ .answer) (clipOf s) (q .answer)))
     (unique-by-equation (p .numbers) (q .numbers))
     (unique-by-equation (p .mask) (q .mask))

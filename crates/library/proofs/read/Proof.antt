@@ -58,10 +58,11 @@ else1-before c = (copy-before c) .before .before .before .before
 
 returns-2 : tie.Need-returns-2
 returns-2 c =
-    let d = c .before in
+    let t = c .before in
+    let d = t .before in
     read-cards _ _ _ (seen ((else1-before d) .before .before)) ((else1-before d) .if1 .left)
     ((copy-before d) .before .before .where-room .ensures .0) ((load-before d) .before .before .where-room2 .ensures .0)
-    ((copy-before d) .copy .ensures) ((load-before d) .load .ensures) (c .if2 .taken)
+    ((copy-before d) .copy .ensures) ((load-before d) .load .ensures) (t .if2 .taken) (c .u16-at .ensures)
 
 returns-3 : tie.Need-returns-3
 returns-3 c = read-refused _ _ _ (sym (c .before .before .before .inspect .ensures) ∙ ap found (c .before .f .given .1))
@@ -95,6 +96,7 @@ read-spec =
     (λ c. search needs)
     (λ c κs. search needs)
     load-requires
+    (λ c κs. search needs)
     (λ c. search needs)
     (λ c. search needs)
     returns-2

@@ -4,13 +4,13 @@ use mathlib.Core.Bool.{Bool, true, false, cond, _&&_}
 use mathlib.Core.List.{List, [], _∷_, _++_}
 use Prim.Native.Nat.{ℕ, zero, suc, _+_, _-_, _*_, _/_, _%_, _^_, _≤_}
 use native.Mathlib.Omega.{arith}
-use lib.Dec.{ltb}
+use lib.Dec.{ltb, lit≤}
 use lib.IntN.{ℤ, natAbs}
 use lib.ListN.{length, take, replicate, length-append}
 use lib.Seq.{take-all, take-append-seam}
 use Rattle.refusal.specs.Order.{numberTold}
 use Rattle.name.specs.Name.{nameLength}
-use Rattle.clip.specs.Limits.{width}
+use Rattle.clip.specs.Record.{isWide}
 use Rattle.clip.specs.Clip.{maskOf}
 use Rattle.card.specs.Judge.{judgeOf}
 use Rattle.spelling.specs.Bytes.{newline}
@@ -90,12 +90,17 @@ told-long l h = let k = numbers-long l in rw length-append (omega arith)
 pub told-whole : (l : List ℕ) → length l ≤ 3 → shown (textOf (toldLine l)) ≡ toldLine l
 told-whole l h = let k = told-long l h in text-whole (toldLine l) (omega arith)
 
+pub mask-short : (wide : Bool) → maskDigits wide ≤ 6
+mask-short true = lit≤ tt
+mask-short false = lit≤ tt
+
 pub listing-whole : (name bytes : List ℕ) → length name ≤ nameLength
     → shown (textOf (listingLine name bytes)) ≡ listingLine name bytes
 unfolding listingLine
 listing-whole name bytes h =
     let number = numberTold (judgeOf bytes) in
-    let b = digits-long 16 maskDigits (listedMask number (maskOf width bytes)) in
+    let b = digits-long 16 (maskDigits (isWide bytes)) (listedMask number (maskOf bytes)) in
+    let m = mask-short (isWide bytes) in
     let d = plain-long mostDigits number in
     text-whole (listingLine name bytes) (simp length-append (omega arith))
 

@@ -5,6 +5,7 @@ use Prim.Native.Nat.{ℕ}
 use lib.ListN.{length}
 use Rattle.volts.specs.Volts.{AllNear}
 use Rattle.octave.specs.Table.{entries}
+use Rattle.octave.specs.Exponential.{exponentialOf}
 use Rattle.octave.specs.inner.Reciprocal.{reciprocalOf, noReciprocal}
 use Rattle.card.specs.declared.WorkedCard.{WorkedCard}
 use Rattle.card.specs.Judge.{noWorked}
@@ -12,6 +13,7 @@ use Rattle.card.specs.inner.Worked.{IsWorked}
 use Rattle.scaling.specs.inner.Shifts.{aloneOf}
 use Rattle.terms.specs.declared.Ready.{Ready}
 use Rattle.terms.specs.Rows.{roles}
+use Rattle.terms.specs.Values.{doubledOctave, kneeVolts}
 
 unfoldable pub readyOf : WorkedCard → Ready
 readyOf c =
@@ -19,12 +21,15 @@ readyOf c =
       card = c;
       plain = reciprocalOf (c .octave);
       second = reciprocalOf (c .second);
+      doubled = reciprocalOf (doubledOctave c);
+      knee = exponentialOf (kneeVolts c) (doubledOctave c);
       bulk = aloneOf (c .bulk);
       side = aloneOf (c .side);
       nonideal = aloneOf (c .nonideal);
       ex = aloneOf (c .ex);
       sub = aloneOf (c .sub);
       sf = aloneOf (c .sf);
+      reverse = aloneOf (c .reverse);
     }
 
 -- what stands where there is no card
@@ -34,12 +39,15 @@ noReady =
       card = noWorked;
       plain = noReciprocal;
       second = noReciprocal;
+      doubled = noReciprocal;
+      knee = record { m = 0; n = 0 };
       bulk = 0;
       side = 0;
       nonideal = 0;
       ex = 0;
       sub = 0;
       sf = 0;
+      reverse = 0;
     }
 
 -- a card made ready

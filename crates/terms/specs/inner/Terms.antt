@@ -1,28 +1,50 @@
 -- The rows' T's and ratios as the code has them: right up to their limits, and above them only known to be above.
+use mathlib.Core.Path.{_≡_}
+use mathlib.Core.Bool.{false, _||_}
 use mathlib.Core.List.{List, [], _∷_}
-use Prim.Native.Nat.{ℕ, suc}
+use Prim.Native.Nat.{ℕ, suc, _^_, _<_}
 use lib.ListN.{getD}
-use lib.IntN.{ℤ}
+use lib.IntN.{ℤ, subℕ}
 use Rattle.scaling.specs.Scaled.{tickLimit, ratioLimit}
 use Rattle.scaling.specs.inner.Shifts.{UpTo}
 use Rattle.card.specs.declared.WorkedCard.{WorkedCard}
 use Rattle.terms.specs.declared.Terms.{Terms}
-use Rattle.terms.specs.Rows.{Role, Divisor, undivided, sumOf, Row, rowsFor}
-use Rattle.terms.specs.Values.{tickOf, ratioOf}
+use Rattle.reverse.specs.inner.Pairs.{eitherOver}
+use Rattle.terms.specs.Rows.{Role, Value, Divisor, undivided, sumOf, exps, Row, rowsFor}
+use Rattle.terms.specs.Values.{tickOf, ratioOf, expsTicks, expsOver}
 
 -- the floors of the two ratios of a divisor; 0 where there is none
 abbrev pub leftOf : WorkedCard → (Role → Role → ℤ) → Divisor → ℕ
 leftOf c v undivided = 0
 leftOf c v (sumOf s t) = ratioOf c v s
+leftOf c v (exps x p q) = 0
 
 abbrev pub rightOf : WorkedCard → (Role → Role → ℤ) → Divisor → ℕ
 rightOf c v undivided = 0
 rightOf c v (sumOf s t) = ratioOf c v t
+rightOf c v (exps x p q) = 0
+
+-- the difference of a row's T's
+abbrev pub ticksOf : WorkedCard → (Role → Role → ℤ) → Row → ℤ
+ticksOf c v r = subℕ (tickOf c v (r .plus)) (tickOf c v (r .minus))
+
+-- a row over a sum, worked whole: p and m overload where it does, and else their difference is its ticks
+pub record Whole (c : WorkedCard) (v : Role → Role → ℤ) (r : Row) (x : Value) (a b : Role) (p m : ℕ) : Type 0 where
+  pub over :
+      eitherOver p m ≡ eitherOver (tickOf c v (r .plus)) (tickOf c v (r .minus)) || expsOver c v x a b (ticksOf c v r)
+  pub ticks : eitherOver p m ≡ false → subℕ p m ≡ expsTicks c v x a b (ticksOf c v r)
+  pub plus-small : p < 2 ^ 62
+  pub minus-small : m < 2 ^ 62
+
+-- what a row adds and takes away: its T's, or for a row over a sum what comes of them
+abbrev pub Counted : WorkedCard → (Role → Role → ℤ) → Row → Divisor → ℕ → ℕ → Type 0
+Counted c v r undivided p m = UpTo tickLimit p (tickOf c v (r .plus)) × UpTo tickLimit m (tickOf c v (r .minus))
+Counted c v r (sumOf s t) p m = UpTo tickLimit p (tickOf c v (r .plus)) × UpTo tickLimit m (tickOf c v (r .minus))
+Counted c v r (exps x a b) p m = Whole c v r x a b p m
 
 -- the code's terms of a row
 pub record RowTerms (c : WorkedCard) (v : Role → Role → ℤ) (r : Row) (p m l g : ℕ) : Type 0 where
-  pub plus : UpTo tickLimit p (tickOf c v (r .plus))
-  pub minus : UpTo tickLimit m (tickOf c v (r .minus))
+  pub counted : Counted c v r (r .divisor) p m
   pub left : UpTo ratioLimit l (leftOf c v (r .divisor))
   pub right : UpTo ratioLimit g (rightOf c v (r .divisor))
 

@@ -19,13 +19,14 @@ module _ (c : tie.After-enum-told) where
   abbrev x : List Float
   x = start .args .x .now
 
-  none : (judgeNumbers x ≡ reachOf x) × (octaveGood (octave x) ≡ true)
-  none = goes-on x (c .before .before .first-wrong .ensures) (c .enum-told .given .1)
+  none : (judgeNumbers (start .args .spares) x ≡ reachOf x) × (octaveGood (octave x) ≡ true)
+  none = goes-on (start .args .spares) x (c .before .before .first-wrong .ensures) (c .enum-told .given .1)
 
 returns-2 : tie.Need-returns-2
 returns-2 c =
     let told = c .before .before .before in
-    sym (ap tells (stops (told .before .args .x .now) (told .first-wrong .ensures) _ (c .before .wrong .given .1)))
+    let args = told .before .args in
+    sym (ap tells (stops (args .spares) (args .x .now) (told .first-wrong .ensures) _ (c .before .wrong .given .1)))
 
 pub judge-numbers-spec : {M : Type 1} → statement M
 judge-numbers-spec =

@@ -1,10 +1,9 @@
 -- `clip::words::clip_all` meets its contract: each turn reads, clips and marks one number.
-use mathlib.Core.Path.{refl, sym, subst}
+use mathlib.Core.Path.{sym, subst}
 use Prim.Native.Nat.{_-_}
 use native.Mathlib.Omega.{arith}
 use borrow.Author.Needs.{needs}
 use Rattle.clip.specs.declared.Clipping.{Clipping}
-use Rattle.clip.specs.Limits.{width}
 use Rattle.clip.specs.Clip.{Clips}
 use Rattle.clip.proofs.Taken.{not-number, clips-refused}
 use Rattle.clip.proofs.Turn.{Passed, at-most, start, small, turn, finished, is-real, is-nothing, not-finite}
@@ -13,10 +12,10 @@ use Rattle.clip.proofs.words.clip_all.Statement.{statement}
 use Rattle.clip.proofs.words.clip_all.Tie as tie
 
 abbrev Inv-loop : tie.InvT-loop
-Inv-loop bytes numbers₀ mask₀ bit₀ i₀ numbers mask bit i = Passed width bytes numbers mask bit i
+Inv-loop bytes words numbers₀ mask₀ bit₀ i₀ numbers mask bit i = Passed words bytes numbers mask bit i
 
 abbrev μ-loop : tie.MeasureT-loop
-μ-loop bytes numbers₀ mask₀ bit₀ i₀ numbers mask bit i = width - i
+μ-loop bytes words numbers₀ mask₀ bit₀ i₀ numbers mask bit i = words - i
 
 returns : tie.Need-returns Inv-loop μ-loop
 returns c =
@@ -27,8 +26,8 @@ returns c =
     let s = entry .args .bytes .now in
     let none = is-nothing s (loop .loop .i) _ _ (got .u64-at .ensures .value) (told .before .before .read .ensures)
     (told .enum-told .given .1) in
-    let e = not-number width s (entry .pre) (not-finite s width (loop .loop .i) (got .before .loop-test .taken) none) in
-    subst (λ (r : Clipping). Clips width s r) (sym (c .refused .ensures)) (clips-refused e)
+    let few = not-finite s (entry .args .words) (loop .loop .i) (got .before .loop-test .taken) none in
+    subst (λ (r : Clipping). Clips s r) (sym (c .refused .ensures)) (clips-refused (not-number (entry .pre) few))
 
 -- the turn's own place, behind the weight
 abbrev In-turn : tie.After-weight Inv-loop μ-loop → tie.In-loop Inv-loop μ-loop
@@ -57,7 +56,7 @@ clip-all-spec =
     (tie.spec
     Inv-loop
     μ-loop
-    (λ c. start width _ _ refl)
+    (λ c. start (c .before .pre))
     (λ c. search needs)
     (λ c κs. search needs)
     (λ c κs. search needs)

@@ -5,10 +5,10 @@ use Rattle.desk.proofs.shelf.read_whole.Statement.{statement}
 use Rattle.desk.proofs.shelf.read_whole.Tie as tie
 
 abbrev Inv-loop : tie.InvT-loop
-Inv-loop fd bytes₀ n₀ bytes n = n ≤ 36881
+Inv-loop fd bytes₀ n₀ bytes n = n ≤ 53265
 
 abbrev μ-loop : tie.MeasureT-loop
-μ-loop fd bytes₀ n₀ bytes n = 36881 - n
+μ-loop fd bytes₀ n₀ bytes n = 53265 - n
 
 loop-holds : tie.Need-loop-holds Inv-loop μ-loop
 loop-holds c = search needs

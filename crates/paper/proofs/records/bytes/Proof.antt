@@ -3,13 +3,13 @@ use mathlib.Core.Path.{_≡_}
 use Prim.Native.Nat.{ℕ, _≤_, _-_, _*_}
 use lib.ListN.{length}
 use borrow.Author.Needs.{needs}
-use Rattle.clip.specs.Limits.{width}
+use Rattle.clip.specs.Limits.{narrow}
 use Rattle.paper.proofs.records.bytes.Statement.{statement}
 use Rattle.paper.proofs.records.bytes.Tie as tie
 
 -- the bytes of a record
 abbrev bytesMost : ℕ
-bytesMost = 8 * width
+bytesMost = 8 * narrow
 
 abbrev Inv-loop : tie.InvT-loop
 Inv-loop words b₀ i₀ b i = (i ≤ bytesMost) × (length b ≡ bytesMost)

@@ -1,6 +1,7 @@
 -- `values::all_terms` meets its contract: each term with the exponential that it names, worked once; row by row.
 use lib.Dec.{lit<, lit≤}
 use borrow.Author.Needs.{needs}
+use Rattle.terms.specs.Rows.{row1, row2, row3, row4, row5, row6, row7, row8}
 use Rattle.terms.specs.inner.Terms.{none, more}
 use Rattle.scaling.proofs.Scaling.{upto-zero}
 use Rattle.terms.proofs.Readied.{Splits, splits, plain-octave, second-octave}
@@ -124,9 +125,13 @@ faint-requires-7 c κs =
 term-x-requires : tie.Need-term-x-requires
 term-x-requires c κs = start (emitter (three (all (c .before .before)))) .pre
 
+term-8-requires : tie.Need-term-8-requires
+term-8-requires c κs = let b = c .before in start (emitter (three (all (b .before .before)))) .pre
+
 returns : tie.Need-returns
 returns c =
-    let w = c .before .before .before in
+    let x = c .before in
+    let w = x .before .before .before in
     let u = all w in
     let e = three u in
     let at = emitter e in
@@ -148,18 +153,19 @@ returns c =
     let subratio = parts-at (s .rsub) j5 (plain-octave h) (w .before .before .faint4 .ensures) in
     let sf = ticks-at (s .sf) j6 (plain-octave h) (w .before .faint5 .ensures) in
     let reverse = ticks-at (s .sn) j2 (plain-octave h) (w .faint6 .ensures) in
-    let knee = parts-at (s .rex) j1 (plain-octave h) (c .before .before .scaled5 .ensures) in
-    let back = parts-at (s .rex) j2 (plain-octave h) (c .before .faint7 .ensures) in
+    let knee = parts-at (s .rex) j1 (plain-octave h) (x .before .before .scaled5 .ensures) in
+    let back = parts-at (s .rex) j2 (plain-octave h) (x .before .faint7 .ensures) in
     record {
       rows =
-          more (record { plus = forward; minus = reverse; left = knee; right = back })
-          (more (record { plus = bulk; minus = own-bulk h; left = upto-zero; right = upto-zero })
-          (more (record { plus = side; minus = own-side h; left = upto-zero; right = upto-zero })
-          (more (record { plus = nonideal; minus = own-nonideal h; left = upto-zero; right = upto-zero })
-          (more (record { plus = ex; minus = own-ex h; left = upto-zero; right = exratio })
-          (more (record { plus = sub; minus = c .term-x .ensures; left = upto-zero; right = subratio })
-          (more (record { plus = sf; minus = own-sf h; left = upto-zero; right = upto-zero })
-          none))))));
+          more {r = row1} (record { counted = (forward, reverse); left = knee; right = back })
+          (more {r = row2} (record { counted = (bulk, own-bulk h); left = upto-zero; right = upto-zero })
+          (more {r = row3} (record { counted = (side, own-side h); left = upto-zero; right = upto-zero })
+          (more {r = row4} (record { counted = (nonideal, own-nonideal h); left = upto-zero; right = upto-zero })
+          (more {r = row5} (record { counted = (ex, own-ex h); left = upto-zero; right = exratio })
+          (more {r = row6 (start at .args .r .card .exsub)} (record { counted = (sub, x .term-x .ensures); left = upto-zero; right = subratio })
+          (more {r = row7} (record { counted = (sf, own-sf h); left = upto-zero; right = upto-zero })
+          (more {r = row8} (record { counted = c .term-8 .ensures; left = upto-zero; right = upto-zero })
+          none)))))));
     }
 
 pub all-terms-spec : {M : Type 1} → statement M
@@ -185,4 +191,5 @@ all-terms-spec =
     scaled-requires-5
     faint-requires-7
     term-x-requires
+    term-8-requires
     returns)

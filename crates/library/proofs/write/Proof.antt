@@ -1,4 +1,4 @@
--- `library::write_as` meets its contract: 1, 2, 3 as judged, then 5, and else the header, the names and the words.
+-- `library::write` meets its contract: 1, 2, 3 as judged, then 5, and else the header, the names and the words.
 use mathlib.Core.Path.{sym, ap, _∙_}
 use mathlib.Core.List.{List}
 use Prim.Native.Nat.{ℕ}
@@ -8,8 +8,8 @@ use Rattle.bytes_le.proofs.Laws.{rest}
 use Rattle.directory.proofs.Offers.{Offered, offers}
 use Rattle.library.proofs.Writings.{write-short, write-bytes, write-refused}
 use borrow.Author.Needs.{needs}
-use Rattle.library.proofs.write_as.Statement.{statement}
-use Rattle.library.proofs.write_as.Tie as tie
+use Rattle.library.proofs.write.Statement.{statement}
+use Rattle.library.proofs.write.Tie as tie
 use Rattle.directory.specs.Judged.{found}
 use Rattle.bytes_le.specs.Buffer.{over}
 
@@ -107,8 +107,8 @@ returns-3 c =
     ((header-before-slice-known4 c) .header .ensures)) _ ((copy2-before-slice-known4 c) .copy2 .ensures) _
     (c .before .before .store .ensures)
 
-pub write-as-spec : {M : Type 1} → statement M
-write-as-spec =
+pub write-spec : {M : Type 1} → statement M
+write-spec =
     tie.close
     (tie.spec
     (λ c κs. search needs)

@@ -1,0 +1,15 @@
+-- `card::judging::settings_good` meets its contract: the tests are the definition's.
+use borrow.Author.Needs.{needs}
+use Rattle.card.proofs.judging.settings_good.Statement.{statement}
+use Rattle.card.proofs.judging.settings_good.Tie as tie
+
+pub settings-good-spec : {M : Type 1} → statement M
+settings-good-spec =
+    tie.close
+    (tie.spec
+    (λ c. search needs)
+    (λ c. search needs)
+    (λ c κs. search needs)
+    (λ c κs. search needs)
+    (λ c κs. search needs)
+    (λ c. cc))

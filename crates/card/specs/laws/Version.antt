@@ -1,0 +1,51 @@
+-- A record of version 2 that says no more than one of version 1, V_Lr apart.
+use mathlib.Core.Path.{_≡_}
+use mathlib.Core.Bool.{true}
+use mathlib.Core.List.{List}
+use Prim.Native.Nat.{ℕ, _≤_, _<_}
+use lib.Ieee.{eq}
+use lib.Ieee.Scale.{finite}
+use Rattle.refusal.specs.Order.{Verdict, no, yes}
+use Rattle.card.specs.declared.WorkedCard.{WorkedCard}
+use Rattle.clip.specs.Numbers as number
+use Rattle.clip.specs.Limits.{zero, one, wide, narrow}
+use Rattle.clip.specs.Record.{isWide, isNarrow, wordAt, numberAt}
+use Rattle.clip.specs.Clip.{clippedAt}
+use Rattle.card.specs.Knee.{kneeGood}
+use Rattle.card.specs.Judge.{sparesGood}
+
+-- s is of version 1 and t of version 2, with the same sixteen words; of its own words t has numbers, I_Br is 0 when
+-- clipped, the polarity is +1, the spare words are good, and V_Lr is within 5 V
+pub record SaysNoMore (s t : List ℕ) : Type 0 where
+  pub first : isNarrow s ≡ true
+  pub second : isWide t ≡ true
+  pub same : (i : ℕ) → i < narrow → wordAt t i ≡ wordAt s i
+  pub numbers : (i : ℕ) → narrow ≤ i → i < wide → finite (numberAt t i) ≡ true
+  pub ibr : clippedAt t number.ibr ≡ zero
+  pub polarity : eq (clippedAt t number.polarity) one ≡ true
+  pub spares : sparesGood t ≡ true
+  pub vlr : kneeGood (clippedAt t number.vlr) ≡ true
+
+-- a card with another V_Lr
+abbrev pub atKnee : ℕ → WorkedCard → WorkedCard
+atKnee v c = record {
+  sn = c .sn;
+  bulk = c .bulk;
+  side = c .side;
+  nonideal = c .nonideal;
+  ex = c .ex;
+  sub = c .sub;
+  sf = c .sf;
+  rex = c .rex;
+  rsub = c .rsub;
+  reverse = c .reverse;
+  octave = c .octave;
+  second = c .second;
+  knee = v;
+  exsub = c .exsub;
+  «rcbli_zero» = c .«rcbli_zero»;
+}
+
+abbrev pub judgedAtKnee : ℕ → Verdict WorkedCard → Verdict WorkedCard
+judgedAtKnee v (no f) = no f
+judgedAtKnee v (yes c) = yes (atKnee v c)

@@ -1,0 +1,2 @@
+-- Words of inner contracts: a branch's two numbers.
+pub mod Pairs
