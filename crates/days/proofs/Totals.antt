@@ -15,7 +15,8 @@ use Rattle.card.specs.declared.WorkedCard.{WorkedCard}
 use Rattle.rows.specs.declared.Over.{Over}
 use Rattle.rows.specs.declared.Over.the-variants.{Within, Ticks, Injection}
 use Rattle.terms.specs.Rows.{Row, rowsFor, roleIndex}
-use Rattle.rows.specs.Outcome.{outcomeOf, isOver}
+use Rattle.rows.specs.Outcome.{isOver}
+use Rattle.polarity.specs.Polarity.{outcomeOf}
 use Rattle.places.specs.Gathered.{Card, Transistor}
 use Rattle.model.specs.Board.{Board}
 use Rattle.model.specs.Model.{cardsOf, transistorsOf, transistorAt}

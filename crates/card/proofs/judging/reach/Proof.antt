@@ -70,7 +70,7 @@ microvolts-requires c κs = near (tested (passed (c .before) .before))
 
 returns-3 : tie.Need-returns-3
 returns-3 c =
-    let cut = c .before .before .before in
+    let cut = c .before .before .before .before in
     let n = cut .before .before in
     let all = passed n .before in
     let k = known all in
@@ -103,6 +103,7 @@ reach-spec =
     nanovolts-requires
     (λ c. search needs)
     microvolts-requires
+    (λ c. search needs)
     (λ c. search needs)
     (λ c. search needs)
     (λ c κs. search needs)
