@@ -129,7 +129,9 @@ fn reach(x: &[f64; WIDTH]) -> Judged
     let w = working::work(parameters(x));
     if working::all_finite(w) {
         let octave = octaves::nanovolts(x[numbers::OCTAVE]);
-        let raised = knee::microvolts(x[numbers::VLR]);
+        let polarity = x[numbers::POLARITY];
+        let vlr = x[numbers::VLR];
+        let raised = knee::microvolts(vlr);
         Judged::Card(card(
             w,
             octave,
@@ -137,7 +139,7 @@ fn reach(x: &[f64; WIDTH]) -> Judged
             raised,
             x[numbers::EXSUB] == 1.0,
             x[numbers::RCBLI] == 0.0,
-            x[numbers::POLARITY] == PNP,
+            polarity == PNP,
         ))
     } else {
         Judged::Refused(Refusal::OutOfReach)

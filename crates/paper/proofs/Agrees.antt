@@ -23,6 +23,7 @@ use Rattle.card.proofs.WorkedCards.{judged-is-worked}
 use Rattle.terms.specs.Rows.{roles}
 use Rattle.scaling.specs.Scaled.{expOf}
 use Rattle.rows.specs.Ticks.{rootFor}
+use Rattle.rows.specs.Outcome.{outcomeAcross}
 use Rattle.polarity.specs.Polarity.{outcomeOf}
 use Rattle.terms.specs.inner.Ready.{readyOf, Askable}
 use Rattle.terms.proofs.Laws.{askable}

@@ -16,6 +16,7 @@ use Rattle.card.specs.Judge.{judgeOf}
 use Rattle.rows.specs.declared.Over.{Over}
 use Rattle.rows.specs.declared.Over.the-variants.{Within, Ticks, Injection}
 use Rattle.terms.specs.Rows.{roles}
+use Rattle.rows.specs.Outcome.{outcomeAcross}
 use Rattle.polarity.specs.Polarity.{outcomeOf}
 use Rattle.model.specs.declared.Answer.{Answer}
 use Rattle.model.specs.declared.Answer.the-variants.{Issue, Done, Node, Refused}

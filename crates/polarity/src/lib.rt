@@ -26,7 +26,7 @@ fn turn_volts(pnp: bool, v: [u32; ROLES]) -> [u32; ROLES]
     if !pnp {
         return v;
     }
-    let mut over = [0u32; ROLES];
+    let mut over = v;
     for k in 0..ROLES {
         over[k] = SPAN - v[k];
     }
@@ -41,7 +41,7 @@ fn turn_ticks(pnp: bool, ticks: [i64; BRANCHES]) -> [i64; BRANCHES]
     if !pnp {
         return ticks;
     }
-    let mut over = [0i64; BRANCHES];
+    let mut over = ticks;
     for k in 0..BRANCHES {
         let t = 0 - ticks[k];
         over[k] = t;
