@@ -14,9 +14,9 @@ ghost use Rattle.totals.specs.inner.Sizes.{roomMost};
 ghost use Rattle.flows.specs.Back.{backFlow};
 ghost use Rattle.flows.specs.inner.Workable.{rolesOf, deckOf, cardOf, Workable};
 use octave::Table;
-use refusal::Refusal;
 use polarity::Outcome;
 use polarity::Over;
+use refusal::Refusal;
 use terms::ROLES;
 use totals::NODES;
 
