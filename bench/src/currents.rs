@@ -41,11 +41,17 @@ fn shared(n: i64, f: i64, g: i64) -> i64 {
     quotient(n, share(f) + share(g))
 }
 
+/// A number as it is where `turn` is 0, with its sign turned over where it is -1.
+#[inline]
+fn turned(x: i64, turn: i64) -> i64 {
+    (x ^ turn) - turn
+}
+
 /// The currents, or nothing where the transistor overloads. Each exponential is worked once for the rows that share it,
 /// and judged by its position alone.
 #[inline(always)]
 pub fn currents(curve: &Curve, c: &Card, v: &Volts) -> Option<Currents> {
-    let [e1, b1, b2, c1, c2, c4, s] = *v;
+    let [e1, b1, b2, c1, c2, c4, s] = v.map(|x| turned(x, c.turn));
     let b2e1 = gain(curve, b2 - e1, c.octave);
     let b2c2 = gain(curve, b2 - c2, c.octave);
     let b1e1 = gain(curve, b1 - e1, c.octave);
@@ -76,7 +82,7 @@ pub fn currents(curve: &Curve, c: &Card, v: &Volts) -> Option<Currents> {
             over_sum(r.s.floor(b1c4) - r.alone, y)?
         }
     };
-    Some([
+    let upright = [
         shared(
             c.sn.floor(b2e1) - c.sn.floor(b2c2),
             c.rex.floor(b2e1),
@@ -89,13 +95,14 @@ pub fn currents(curve: &Curve, c: &Card, v: &Volts) -> Option<Currents> {
         shared(c.sub.floor(b1c4) - minus, 0, c.rsub.floor(b1c4)),
         c.sf.floor(sc1) - c.alone.sf,
         i8,
-    ])
+    ];
+    Some(upright.map(|x| turned(x, c.turn)))
 }
 
 /// Of a transistor that overloads, the first branch that does, and by what: 15 for a T, 18 for a ratio.
 #[cold]
 pub fn overload(curve: &Curve, c: &Card, v: &Volts) -> Option<(u32, u32)> {
-    let [e1, b1, b2, c1, c2, c4, s] = *v;
+    let [e1, b1, b2, c1, c2, c4, s] = v.map(|x| turned(x, c.turn));
     let at = |x: Scaled, volts: i64| x.within(gain(curve, volts, c.octave));
     let alone = |x: Scaled| x.alone().is_some();
     let x = if c.exsub {

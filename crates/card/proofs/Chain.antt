@@ -22,7 +22,7 @@ use Rattle.working.specs.Work.{workedOf, allFinite}
 use Rattle.card.specs.Octave.{ten-million, fifty-million, wholePart, octaveGood, secondGood}
 use Rattle.card.specs.Knee.{kneeGood, kneeOf}
 use Rattle.card.specs.Judge.{parametersOf, exsub, rcbli, octave, level, vlr, mlf, product, cardFrom, cardOf}
-use Rattle.card.specs.Judge.{level504, settingsGood, withinReach, reachOf, judgeNumbers}
+use Rattle.card.specs.Judge.{polarity, minusOne, level504, settingsGood, withinReach, reachOf, judgeNumbers}
 use Rattle.card.specs.inner.Octaves.{secondIf, secondOf}
 use Rattle.card.specs.inner.Tests.{unlessPassed, firstWrong}
 use Rattle.card.specs.inner.Worked.{GoodMlf}
@@ -123,7 +123,7 @@ module _ (x : List Float) where
       not-all a = out-of-reach (reach ∙ a)
 
       pub taken : (n v : ℕ) (c : WorkedCard) → n ≡ wholePart (octave x) → v ≡ kneeOf (vlr x)
-          → c ≡ cardFrom w n k v (eq (exsub x) one) (eq (rcbli x) zero) → allFinite w ≡ true
+          → c ≡ cardFrom w n k v (eq (exsub x) one) (eq (rcbli x) zero) (eq (polarity x) minusOne) → allFinite w ≡ true
           → given c ≡ tells (reachOf x)
       taken n v c en ev ec a =
           let card : c ≡ cardOf x = ec ∙ rw (en, told-second (secondGood (product x)) _ k p .1, ev, ew) in

@@ -58,10 +58,6 @@ refuse-at v true j = refl
 refuse-at v false j = refl
 
 -- ---- what version 1 means passes
-one-is-one : eq one one ≡ true
-unfolding ofBits eq
-one-is-one = refl
-
 zero-is-near : kneeGood limits.zero ≡ true
 unfolding ofBits neg le
 zero-is-near = refl
@@ -121,12 +117,13 @@ module _ {s t : List ℕ} (p : SaysNoMore s t) where
       cc
 
   -- ---- the tests, and the card
+  polarity-same : polarity y ≡ polarity x
+  polarity-same = own number.polarity (omega arith) ∙ p .polarity ∙ sym (each-missing s 5)
+
   settings-same : settingsGood true y ≡ settingsGood true x
   settings-same =
-      let upright : eq (polarity y) one ≡ true = ap (λ (f : Float). eq f one) (own number.polarity (omega arith))
-      ∙ p .polarity in
-      let meant : eq (polarity x) one ≡ true = ap (λ (f : Float). eq f one) (each-missing s 5) ∙ one-is-one in
-      rw (at-same number.exsub (omega arith), upright, meant)
+      let polarity = polarity-same in
+      rw (at-same number.exsub (omega arith), polarity)
 
   near : kneeGood (vlr y) ≡ true
   near = ap kneeGood (own number.vlr (omega arith)) ∙ p .vlr
@@ -148,6 +145,7 @@ module _ {s t : List ℕ} (p : SaysNoMore s t) where
       let octave = at-same number.octave (omega arith) in
       let exsub = at-same number.exsub (omega arith) in
       let rcbli = at-same number.rcbli (omega arith) in
+      let polarity = polarity-same in
       let parameters = parameters-same in
       cc
 

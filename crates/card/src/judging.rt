@@ -3,7 +3,7 @@ ghost use mathlib.Core.Path.{_≡_};
 ghost use Rattle.refusal.specs.Order.{tells};
 ghost use mathlib.Core.Bool.{true};
 ghost use Rattle.card.specs.Octave.{octaveGood};
-ghost use Rattle.card.specs.Judge.{parametersOf, octave, cardFrom, isSwitch, settingsGood, reachOf};
+ghost use Rattle.card.specs.Judge.{parametersOf, octave, cardFrom, isSwitch, isPolarity, settingsGood, reachOf};
 ghost use Rattle.card.specs.Judge.{judgeNumbers, toldJudged};
 ghost use Rattle.card.specs.inner.Tests.{unlessPassed, firstWrong};
 ghost use Rattle.card.specs.inner.Worked.{GoodMlf};
@@ -20,11 +20,21 @@ use refusal::Refusal;
 use working::Parameters;
 use working::Worked;
 
+// The polarity of a PNP.
+const PNP: f64 = -1.0;
+
 // Whether a number is 0 or 1.
 fn is_switch(x: f64) -> bool
     ensures { λ r. ⌜ r ≡ isSwitch x ⌝ }
 {
     if x == 0.0 { true } else { x == 1.0 }
+}
+
+// Whether a number is +1 or -1.
+fn is_polarity(x: f64) -> bool
+    ensures { λ r. ⌜ r ≡ isPolarity x ⌝ }
+{
+    if x == 1.0 { true } else { x == PNP }
 }
 
 fn parameters(x: &[f64; WIDTH]) -> Parameters
@@ -45,8 +55,16 @@ fn parameters(x: &[f64; WIDTH]) -> Parameters
     }
 }
 
-fn card(w: Worked, octave: u32, second: u32, knee: u32, exsub: bool, joined: bool) -> WorkedCard
-    ensures { λ r. ⌜ r ≡ cardFrom w octave second knee exsub joined ⌝ }
+fn card(
+    w: Worked,
+    octave: u32,
+    second: u32,
+    knee: u32,
+    exsub: bool,
+    joined: bool,
+    pnp: bool,
+) -> WorkedCard
+    ensures { λ r. ⌜ r ≡ cardFrom w octave second knee exsub joined pnp ⌝ }
 {
     WorkedCard {
         sn: float::cut(w.sn),
@@ -64,6 +82,7 @@ fn card(w: Worked, octave: u32, second: u32, knee: u32, exsub: bool, joined: boo
         knee,
         exsub,
         rcbli_zero: joined,
+        pnp,
     }
 }
 
@@ -74,12 +93,12 @@ fn unless(passed: bool, f: Refusal, next: Answer) -> Answer
     if passed { next } else { Answer::Refused(f) }
 }
 
-// What 8 asks: EXSUB a switch, the polarity +1, and good spare words.
+// What 8 asks: EXSUB a switch, a polarity, and good spare words.
 fn settings_good(x: &[f64; WIDTH], spares: bool) -> bool
     ensures { λ r. ⌜ r ≡ settingsGood spares (now (x .entry)) ⌝ }
 {
-    let upright = x[numbers::POLARITY] == 1.0;
-    both(is_switch(x[numbers::EXSUB]), both(upright, spares))
+    let polarity = is_polarity(x[numbers::POLARITY]);
+    both(is_switch(x[numbers::EXSUB]), both(polarity, spares))
 }
 
 // 7, 8, then 9.
@@ -110,7 +129,9 @@ fn reach(x: &[f64; WIDTH]) -> Judged
     let w = working::work(parameters(x));
     if working::all_finite(w) {
         let octave = octaves::nanovolts(x[numbers::OCTAVE]);
-        let raised = knee::microvolts(x[numbers::VLR]);
+        let polarity = x[numbers::POLARITY];
+        let vlr = x[numbers::VLR];
+        let raised = knee::microvolts(vlr);
         Judged::Card(card(
             w,
             octave,
@@ -118,6 +139,7 @@ fn reach(x: &[f64; WIDTH]) -> Judged
             raised,
             x[numbers::EXSUB] == 1.0,
             x[numbers::RCBLI] == 0.0,
+            polarity == PNP,
         ))
     } else {
         Judged::Refused(Refusal::OutOfReach)

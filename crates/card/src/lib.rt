@@ -15,7 +15,7 @@ pub use clip::clip;
 pub use clip::right_length;
 use refusal::Refusal;
 
-// What the branches need of a card: ten values as a * 2^b, the two octaves in nanovolts, V_Lr, and two switches.
+// What the branches need of a card: ten values as a * 2^b, the two octaves in nanovolts, V_Lr, and three switches.
 pub struct WorkedCard {
     pub sn: float::Split,
     pub bulk: float::Split,
@@ -36,6 +36,8 @@ pub struct WorkedCard {
     pub exsub: bool,
     // R_Cbli is 0: C4 and C1 are one node
     pub rcbli_zero: bool,
+    // the polarity is -1
+    pub pnp: bool,
 }
 
 pub enum Judged {
@@ -64,6 +66,7 @@ pub fn no_card() -> WorkedCard
         knee: 0,
         exsub: false,
         rcbli_zero: false,
+        pnp: false,
     }
 }
 

@@ -25,7 +25,7 @@ abbrev pub ticksEach : ℕ
 ticksEach = 12
 
 abbrev pub switchesEach : ℕ
-switchesEach = 2
+switchesEach = 3
 
 -- ---- a card's own numbers, in order
 
@@ -47,7 +47,7 @@ ticksOf r =
     ∷ r .sub ∷ r .sf ∷ r .reverse ∷ []
 
 abbrev pub switchesOf : WorkedCard → List Bool
-switchesOf c = c .exsub ∷ c .«rcbli_zero» ∷ []
+switchesOf c = c .exsub ∷ c .«rcbli_zero» ∷ c .pnp ∷ []
 
 -- ---- and back: the card of such numbers
 
@@ -72,6 +72,7 @@ workedFrom numbers powers switches =
       knee = getD numbers 12 0;
       exsub = getD switches 0 false;
       «rcbli_zero» = getD switches 1 false;
+      pnp = getD switches 2 false;
     }
 
 abbrev pub reciprocalFrom : List ℕ → List ℕ → ℕ → ℕ → Reciprocal

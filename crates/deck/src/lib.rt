@@ -23,7 +23,7 @@ pub const POWERS: usize = 10;
 
 pub const TICKS: usize = 12;
 
-pub const SWITCHES: usize = 2;
+pub const SWITCHES: usize = 3;
 
 pub const ALL_NUMBERS: usize = NUMBERS * CARDS;
 
@@ -93,6 +93,7 @@ fn worked_at(
         knee: numbers[NUMBERS * i + 12],
         exsub: switches[SWITCHES * i],
         rcbli_zero: switches[SWITCHES * i + 1],
+        pnp: switches[SWITCHES * i + 2],
     }
 }
 
@@ -245,7 +246,7 @@ fn ticks_of(r: Ready) -> [u64; TICKS]
 fn switches_of(c: WorkedCard) -> [bool; SWITCHES]
     ensures { λ x. ⌜ x ≡ switchesOf c ⌝ }
 {
-    [c.exsub, c.rcbli_zero]
+    [c.exsub, c.rcbli_zero, c.pnp]
 }
 
 pub fn put_ready(

@@ -19,7 +19,8 @@ use Rattle.card.specs.declared.WorkedCard.{WorkedCard}
 use Rattle.terms.specs.inner.Ready.{IsReady, readyOf}
 use Rattle.terms.proofs.Laws.{made-ready}
 use Rattle.terms.specs.Rows.{roles}
-use Rattle.rows.specs.Outcome.{isOver, outcomeOf}
+use Rattle.rows.specs.Outcome.{isOver}
+use Rattle.polarity.specs.Polarity.{outcomeOf}
 use Rattle.totals.specs.Flow.{rolesAt, overAt, overloads, flow, sumOver}
 use Rattle.given.specs.Lists.{anyOf}
 use Rattle.given.specs.Arguments.{none, some, issueOf, offNode, someNodeOff}

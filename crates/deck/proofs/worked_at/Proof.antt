@@ -25,7 +25,7 @@ there c = start c .pre
 
 returns : tie.Need-returns
 returns c =
-    let t = split10 c in
+    let t = split10 (c .before) in
     let s = start t in
     λ j. record {
       sn = split4 t .before .before .before .split-at .ensures j;
@@ -42,7 +42,8 @@ returns c =
       second = number-is (s .args .numbers .now) (s .args .i) 11 (omega arith) j;
       knee = number-is (s .args .numbers .now) (s .args .i) 12 (omega arith) j;
       exsub = first-switch (s .args .switches .now) (s .args .i) j;
-      «rcbli_zero» = switch-is (s .args .switches .now) (s .args .i) j;
+      «rcbli_zero» = switch-is (s .args .switches .now) (s .args .i) 1 (omega arith) j;
+      pnp = switch-is (s .args .switches .now) (s .args .i) 2 (omega arith) j;
     }
 
 pub worked-at-spec : {M : Type 1} → statement M
@@ -76,4 +77,7 @@ worked-at-spec =
     (λ c. let d = c .before in let h = there (d .before .before .before) in omega arith)
     (λ c. let d = c .before in let h = there (d .before .before .before) in omega arith)
     (λ c. let d = c .before in let h = there (d .before .before .before) in omega arith)
+    (λ c. let h = there (split10 c) in omega arith)
+    (λ c. let h = there (split10 c) in omega arith)
+    (λ c. let h = there (split10 c) in omega arith)
     returns)
