@@ -1,9 +1,10 @@
 // Loading's tests on the clipped numbers, in their order, and the worked card.
 ghost use mathlib.Core.Path.{_≡_};
 ghost use Rattle.refusal.specs.Order.{tells};
-ghost use mathlib.Core.Bool.{true};
+ghost use mathlib.Core.Bool.{true, cond};
+ghost use Rattle.clip.specs.Limits.{zero};
 ghost use Rattle.card.specs.Octave.{octaveGood};
-ghost use Rattle.card.specs.Judge.{parametersOf, octave, cardFrom, isSwitch, settingsGood, reachOf};
+ghost use Rattle.card.specs.Judge.{hasLeads, parametersOf, octave, cardFrom, isSwitch, settingsGood, reachOf};
 ghost use Rattle.card.specs.Judge.{judgeNumbers, toldJudged};
 ghost use Rattle.card.specs.inner.Tests.{unlessPassed, firstWrong};
 ghost use Rattle.card.specs.inner.Worked.{GoodMlf};
@@ -27,9 +28,24 @@ fn is_switch(x: f64) -> bool
     if x == 0.0 { true } else { x == 1.0 }
 }
 
+// Whether there are series resistors: version 1, which has none, means R_E 0.
+fn has_leads(x: &[f64; WIDTH]) -> bool
+    ensures { λ r. ⌜ r ≡ hasLeads (now (x .entry)) ⌝ }
+{
+    0.0 < x[numbers::RE]
+}
+
+// A resistance, where there are resistors.
+fn where_any(leads: bool, r: f64) -> f64
+    ensures { λ x. ⌜ x ≡ cond leads r zero ⌝ }
+{
+    if leads { r } else { 0.0 }
+}
+
 fn parameters(x: &[f64; WIDTH]) -> Parameters
     ensures { λ r. ⌜ r ≡ parametersOf (now (x .entry)) ⌝ }
 {
+    let leads = has_leads(x);
     Parameters {
         mult: x[numbers::MULT],
         is: x[numbers::IS],
@@ -42,11 +58,25 @@ fn parameters(x: &[f64; WIDTH]) -> Parameters
         icss: x[numbers::ICSS],
         iks: x[numbers::IKS],
         ibr: x[numbers::IBR],
+        re: where_any(leads, x[numbers::RE]),
+        rbc: where_any(leads, x[numbers::RBC]),
+        rcc: where_any(leads, x[numbers::RCC]),
+        rcblx: where_any(leads, x[numbers::RCBLX]),
+        rcbli: where_any(leads, x[numbers::RCBLI]),
     }
 }
 
-fn card(w: Worked, octave: u32, second: u32, knee: u32, exsub: bool, joined: bool) -> WorkedCard
-    ensures { λ r. ⌜ r ≡ cardFrom w octave second knee exsub joined ⌝ }
+fn card(
+    w: Worked,
+    octave: u32,
+    second: u32,
+    knee: u32,
+    exsub: bool,
+    joined: bool,
+    close: bool,
+    wide: bool,
+) -> WorkedCard
+    ensures { λ r. ⌜ r ≡ cardFrom w octave second knee exsub joined close wide ⌝ }
 {
     WorkedCard {
         sn: float::cut(w.sn),
@@ -59,11 +89,18 @@ fn card(w: Worked, octave: u32, second: u32, knee: u32, exsub: bool, joined: boo
         rex: float::cut(w.rex),
         rsub: float::cut(w.rsub),
         reverse: float::cut(w.reverse),
+        ge: float::cut(w.ge),
+        gbc: float::cut(w.gbc),
+        gcc: float::cut(w.gcc),
+        gblx: float::cut(w.gblx),
+        gbli: float::cut(w.gbli),
         octave,
         second,
         knee,
         exsub,
         rcbli_zero: joined,
+        rcblx_zero: close,
+        wide,
     }
 }
 
@@ -118,6 +155,8 @@ fn reach(x: &[f64; WIDTH]) -> Judged
             raised,
             x[numbers::EXSUB] == 1.0,
             x[numbers::RCBLI] == 0.0,
+            x[numbers::RCBLX] == 0.0,
+            has_leads(x),
         ))
     } else {
         Judged::Refused(Refusal::OutOfReach)
