@@ -7,16 +7,16 @@ mod values; // values.rt: T's and ratios at given voltages
 mod resistors; // resistors.rt: T's of the series resistors
 mod ends; // ends.rt: where the branches start and end
 mod empty; // empty.rt: a ready card of zeros
+mod looked; // looked.rt: what a card looks at of what is given for the roles
 
 use card::WorkedCard;
 pub use empty::no_ready;
-pub use ends::B1;
 pub use ends::C1;
 pub use ends::C3;
 pub use ends::C4;
-pub use ends::E1;
 pub use ends::from_roles;
 pub use ends::to_roles;
+pub use looked::looked_at;
 use octave::Exponential;
 use octave::Reciprocal;
 use reverse::Pair;
