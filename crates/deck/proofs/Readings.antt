@@ -27,12 +27,11 @@ pub tick-is : (ticks : List ℕ) (i k : ℕ) → k < ticksEach →
     getD ticks (ticksEach * i + k) 0 ≡ getD (ticksAt ticks i) k 0
 tick-is ticks i k h = sym (getD-stretch 0 ticks (ticksEach * i) ticksEach k h)
 
-pub switch-is : (switches : List Bool) (i : ℕ) →
-    getD switches (switchesEach * i + 1) false ≡ getD (switchesAt switches i) 1 false
-switch-is switches i = sym (getD-stretch false switches (switchesEach * i) switchesEach 1 (omega arith))
+pub switch-is : (switches : List Bool) (i k : ℕ) → k < switchesEach →
+    getD switches (switchesEach * i + k) false ≡ getD (switchesAt switches i) k false
+switch-is switches i k h = sym (getD-stretch false switches (switchesEach * i) switchesEach k h)
 
 pub first-switch : (switches : List Bool) (i : ℕ) →
     getD switches (switchesEach * i) false ≡ getD (switchesAt switches i) 0 false
 first-switch switches i =
-    ap (λ (j : ℕ). getD switches j false) (sym (add-zero (switchesEach * i)))
-    ∙ sym (getD-stretch false switches (switchesEach * i) switchesEach 0 (omega arith))
+    ap (λ (j : ℕ). getD switches j false) (sym (add-zero (switchesEach * i))) ∙ switch-is switches i 0 (omega arith)
