@@ -20,6 +20,8 @@ pub struct Card {
     pub second: Octave,
     pub exsub: bool,
     pub direct: bool,
+    /// -1 for a PNP, whose voltages and currents are turned over; else 0.
+    pub turn: i64,
     /// The reverse non-ideal current, where there is one.
     pub reverse: Option<Reverse>,
     pub alone: Alone,
@@ -197,7 +199,7 @@ pub fn judge(record: &[u8]) -> Result<Card, u32> {
     if x[13] != 0.0 && x[13] != 1.0 {
         return Err(8);
     }
-    if width == WORDS && (x[21] != 1.0 || record[176..].iter().any(|b| *b != 0)) {
+    if width == WORDS && (x[21].abs() != 1.0 || record[176..].iter().any(|b| *b != 0)) {
         return Err(8);
     }
     if x[14].fract() != 0.0 || x[14] < 10_000_000.0 || x[14] > 50_000_000.0 {
@@ -280,6 +282,7 @@ pub fn judge(record: &[u8]) -> Result<Card, u32> {
         second: Octave::of(product as i64),
         exsub,
         direct: rcbli == 0.0,
+        turn: if width == WORDS && x[21] < 0.0 { -1 } else { 0 },
         reverse,
         alone,
         highest,

@@ -51,6 +51,12 @@ fn shared(n: i64, f: i64, g: i64) -> i64 {
     quotient(n, share(f) + share(g))
 }
 
+/// A number as it is where `turn` is 0, with its sign turned over where it is -1.
+#[inline]
+fn turned(x: i64, turn: i64) -> i64 {
+    (x ^ turn) - turn
+}
+
 /// The voltages over the five resistors.
 #[inline(always)]
 fn drops(&[e1, b1, _, c1, _, c4, _, e, b, c, c3]: &Volts) -> [i64; 5] {
@@ -61,6 +67,7 @@ fn drops(&[e1, b1, _, c1, _, c4, _, e, b, c, c3]: &Volts) -> [i64; 5] {
 /// and judged by its position alone.
 #[inline(always)]
 pub fn currents(curve: &Curve, c: &Card, v: &Volts) -> Option<Currents> {
+    let v = &v.map(|x| turned(x, c.turn));
     let [e1, b1, b2, c1, c2, c4, s, ..] = *v;
     let b2e1 = gain(curve, b2 - e1, c.octave);
     let b2c2 = gain(curve, b2 - c2, c.octave);
@@ -105,7 +112,7 @@ pub fn currents(curve: &Curve, c: &Card, v: &Volts) -> Option<Currents> {
             ]
         }
     };
-    Some([
+    let upright = [
         shared(
             c.sn.floor(b2e1) - c.sn.floor(b2c2),
             c.rex.floor(b2e1),
@@ -123,12 +130,14 @@ pub fn currents(curve: &Curve, c: &Card, v: &Volts) -> Option<Currents> {
         i11,
         i12,
         i13,
-    ])
+    ];
+    Some(upright.map(|x| turned(x, c.turn)))
 }
 
 /// Of a transistor that overloads, the first branch that does, and by what: 15 for a T, 18 for a ratio.
 #[cold]
 pub fn overload(curve: &Curve, c: &Card, v: &Volts) -> Option<(u32, u32)> {
+    let v = &v.map(|x| turned(x, c.turn));
     let [e1, b1, b2, c1, c2, c4, s, ..] = *v;
     let at = |x: Scaled, volts: i64| x.within(gain(curve, volts, c.octave));
     let alone = |x: Scaled| x.alone().is_some();

@@ -2,7 +2,7 @@
 //!
 //!   bench vectors FOLDER    this implementation against a folder of outside vectors
 //!   bench desk SCRIPT       what the desk must answer to a script
-//!   bench time NAME TIMES   one of the timed runs: root, exponential, currents, saturated, wide, reverse, empty, still,
+//!   bench time NAME TIMES   one of the timed runs: root, exponential, currents, saturated, wide, reverse, sister, empty, still,
 //!                           move, refused, all, singly, together, pair, read, find, and the last two with _wide, _alike and _crowded
 //!   bench differ ROUNDS     random inputs through the built programs (`./desk`, `./listing` of the project) and this implementation
 
@@ -139,9 +139,9 @@ fn timed_record() -> Vec<u8> {
     words.map(f64::to_le_bytes).concat()
 }
 
-/// The same as version 2 has it, with a reverse non-ideal current.
-fn wide_record() -> Vec<u8> {
-    let more = [1e-15, 0.2, 1.0, 1.0, 1.0, 1.0, 0.0, 0.0f64];
+/// The same as version 2 has it, with a reverse non-ideal current, of either polarity.
+fn wide_record(polarity: f64) -> Vec<u8> {
+    let more = [1e-15, 0.2, 1.0, 1.0, 1.0, polarity, 0.0, 0.0f64];
     [timed_record(), more.map(f64::to_le_bytes).concat()].concat()
 }
 
@@ -166,8 +166,9 @@ fn time_exponential(times: u64) {
     println!("{sum}");
 }
 
-/// Eleven voltages of which no two go together, so that no exponential serves two rows by chance.
-fn time_currents(times: u64, record: &[u8], collector: i64, slope: i64) {
+/// Eleven voltages of which no two go together, so that no exponential serves two rows by chance; a PNP's have the other
+/// sign.
+fn time_currents(times: u64, record: &[u8], collector: i64, slope: i64, sign: i64) {
     let curve = *numbers::CURVE;
     let c = card::judge(record).unwrap();
     let (mut x, mut sum) = (1u32, 0u64);
@@ -188,7 +189,8 @@ fn time_currents(times: u64, record: &[u8], collector: i64, slope: i64) {
             b + y / 2,
             c4 + y,
             c4 + y / 2,
-        ];
+        ]
+        .map(|v| sign * v);
         let t = currents::currents(&curve, &c, &v).unwrap_or([0; 13]);
         sum = t.iter().fold(sum, |s, t| s.wrapping_add(*t as u64));
     }
@@ -325,7 +327,7 @@ fn timed_library(set: &Names, version: u16) -> Vec<u8> {
     let record = if version == 1 {
         timed_record()
     } else {
-        wide_record()
+        wide_record(1.0)
     };
     let words: Vec<u64> = record
         .chunks(8)
@@ -362,10 +364,11 @@ fn time(name: &str, times: u64) {
     match name {
         "root" => time_root(times),
         "exponential" => time_exponential(times),
-        "currents" => time_currents(times, &timed_record(), 2_000_000, -1),
-        "saturated" => time_currents(times, &timed_record(), 0, 1),
-        "wide" => time_currents(times, &wide_record(), 2_000_000, -1),
-        "reverse" => time_currents(times, &wide_record(), 0, 1),
+        "currents" => time_currents(times, &timed_record(), 2_000_000, -1, 1),
+        "saturated" => time_currents(times, &timed_record(), 0, 1, 1),
+        "wide" => time_currents(times, &wide_record(1.0), 2_000_000, -1, 1),
+        "reverse" => time_currents(times, &wide_record(1.0), 0, 1, 1),
+        "sister" => time_currents(times, &wide_record(-1.0), 2_000_000, -1, -1),
         "empty" => time_moves(times, 0, |n| 1 + n % 8, 600_000),
         "still" => time_moves(times, 64, |_| 31, 600_000),
         "move" => time_moves(times, 64, |n| 1 + n % 8, 600_000),

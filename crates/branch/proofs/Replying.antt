@@ -16,7 +16,8 @@ use Rattle.rows.specs.declared.Outcome.{Outcome}
 use Rattle.branch.specs.declared.Admission.the-variants.{Given}
 use Rattle.branch.specs.declared.Reply.{Reply}
 use Rattle.branch.specs.declared.answering.Keeping.{Keeping}
-use Rattle.rows.specs.Outcome.{isOver, drawnBy, outcomeOf}
+use Rattle.rows.specs.Outcome.{isOver, drawnBy}
+use Rattle.polarity.specs.Polarity.{outcomeOf}
 use Rattle.branch.specs.Currents.{atOutcome, atSeen, atVolts, currentsOf, toldReply, ticksOr, Replies}
 use Rattle.branch.specs.inner.Replied.{refusedReply, replyOf, Keeps}
 use Rattle.branch.proofs.Kept.{within-on, outside-off, within-back}

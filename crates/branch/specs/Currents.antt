@@ -16,7 +16,8 @@ use Rattle.branch.specs.declared.Admission.the-variants.{Given, Refused}
 use Rattle.branch.specs.declared.Reply.{Reply}
 use Rattle.terms.specs.Rows.{branches}
 use Rattle.terms.specs.Looked.{lookedAt}
-use Rattle.rows.specs.Outcome.{isOver, drawnBy, outcomeOf}
+use Rattle.rows.specs.Outcome.{isOver, drawnBy}
+use Rattle.polarity.specs.Polarity.{outcomeOf}
 
 -- what the first row that overloads draws, 15 or 18 with its branch, under the number 0, since there is no transistor
 -- here and no transistor has it; else the ticks

@@ -3,7 +3,7 @@ ghost use mathlib.Core.Path.{_≡_};
 ghost use mathlib.Core.List.{map};
 ghost use Rattle.volts.specs.Volts.{givenBack, AllNear};
 ghost use Rattle.card.specs.inner.Worked.{IsWorked};
-ghost use Rattle.rows.specs.Outcome.{outcomeOf};
+ghost use Rattle.polarity.specs.Polarity.{outcomeOf};
 ghost use Rattle.branch.specs.Currents.{atVolts, atOutcome};
 ghost use Rattle.branch.specs.inner.Replied.{replyOf, refusedReply, Keeps};
 use crate::Admission;

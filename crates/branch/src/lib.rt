@@ -4,10 +4,10 @@ ghost use Rattle.branch.specs.Currents.{Replies};
 mod answering; // answering.rt: from a card and voltages to a reply
 
 use card::Judged;
+pub use polarity::Outcome;
+pub use polarity::Over;
+pub use polarity::work_out;
 use refusal::Refusal;
-pub use rows::Outcome;
-pub use rows::Over;
-pub use rows::work_out;
 pub use terms::BRANCHES;
 pub use terms::ROLES;
 pub use terms::Ready;

@@ -66,10 +66,6 @@ refuse-at v true j = refl
 refuse-at v false j = refl
 
 -- ---- what version 1 means passes
-one-is-one : eq one one ≡ true
-unfolding ofBits eq
-one-is-one = refl
-
 zero-is-near : kneeGood limits.zero ≡ true
 unfolding ofBits neg le
 zero-is-near = refl
@@ -225,12 +221,13 @@ module _ {s t : List ℕ} (p : SaysNoMore s t) where
       ∙ sym (of-ten (workedOf (parametersOf x)) (none-finite x (no-leads s)))
 
   -- ---- the tests, and the card
+  polarity-same : polarity y ≡ polarity x
+  polarity-same = own number.polarity (omega arith) ∙ p .polarity ∙ sym (each-missing s 5)
+
   settings-same : settingsGood true y ≡ settingsGood true x
   settings-same =
-      let upright : eq (polarity y) one ≡ true = ap (λ (f : Float). eq f one) (own number.polarity (omega arith))
-      ∙ p .polarity in
-      let meant : eq (polarity x) one ≡ true = ap (λ (f : Float). eq f one) (each-missing s 5) ∙ one-is-one in
-      rw (at-same number.exsub (omega arith), upright, meant)
+      let polarity = polarity-same in
+      rw (at-same number.exsub (omega arith), polarity)
 
   near : kneeGood (vlr y) ≡ true
   near = ap kneeGood (own number.vlr (omega arith)) ∙ p .vlr
@@ -253,6 +250,7 @@ module _ {s t : List ℕ} (p : SaysNoMore s t) where
       let exsub = at-same number.exsub (omega arith) in
       let rcbli = at-same number.rcbli (omega arith) in
       let rcblx = at-same number.rcblx (omega arith) in
+      let polarity = polarity-same in
       rw (
         e .mult,
         e .is,
@@ -270,6 +268,7 @@ module _ {s t : List ℕ} (p : SaysNoMore s t) where
         exsub,
         rcbli,
         rcblx,
+        polarity,
       )
 
   numbers-alike : judgeNumbers true y ≡ judgedWithLeads (cardOf y) (judgeNumbers true x)

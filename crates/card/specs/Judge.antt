@@ -93,13 +93,17 @@ vlr x = at x number.vlr
 abbrev pub polarity : List Float → Float
 polarity x = at x number.polarity
 
+-- the polarity of a PNP; an NPN has +1
+abbrev pub minusOne : Float
+minusOne = ofBits binary64 0xbff0_0000_0000_0000
+
 -- the product whose whole part is the second octave
 abbrev pub product : List Float → Float
 product x = mul binary64 (mlf x) (octave x)
 
--- a card of fifteen worked values, each cut to a * 2^b, two octaves, V_Lr as it is kept, and four switches
-abbrev pub cardFrom : Worked → ℕ → ℕ → ℕ → Bool → Bool → Bool → Bool → WorkedCard
-cardFrom w o n v e z y l = record {
+-- a card of fifteen worked values, each cut to a * 2^b, two octaves, V_Lr as it is kept, and five switches
+abbrev pub cardFrom : Worked → ℕ → ℕ → ℕ → Bool → Bool → Bool → Bool → Bool → WorkedCard
+cardFrom w o n v e z p y l = record {
   sn = splitOf (w .sn);
   bulk = splitOf (w .bulk);
   side = splitOf (w .side);
@@ -120,6 +124,7 @@ cardFrom w o n v e z y l = record {
   knee = v;
   exsub = e;
   «rcbli_zero» = z;
+  pnp = p;
   «rcblx_zero» = y;
   wide = l;
 }
@@ -128,7 +133,7 @@ cardFrom w o n v e z y l = record {
 abbrev pub cardOf : List Float → WorkedCard
 cardOf x =
     cardFrom (workedOf (parametersOf x)) (wholePart (octave x)) (wholePart (product x)) (kneeOf (vlr x))
-    (eq (exsub x) one) (eq (rcbli x) zero) (eq (rcblx x) zero) (hasLeads x)
+    (eq (exsub x) one) (eq (rcbli x) zero) (eq (polarity x) minusOne) (eq (rcblx x) zero) (hasLeads x)
 
 -- what stands where there is no card
 abbrev pub noWorked : WorkedCard
@@ -153,6 +158,7 @@ noWorked = record {
   knee = 0;
   exsub = false;
   «rcbli_zero» = false;
+  pnp = false;
   «rcblx_zero» = false;
   wide = false;
 }
@@ -169,9 +175,13 @@ isSwitch x = eq x zero || eq x one
 abbrev pub sparesGood : List ℕ → Bool
 sparesGood s = eqb (wordAt s number.spare) 0 && eqb (wordAt s (suc number.spare)) 0
 
--- EXSUB is a switch, the polarity is +1, and the spare words are good
+-- +1 or -1
+abbrev pub isPolarity : Float → Bool
+isPolarity x = eq x one || eq x minusOne
+
+-- EXSUB is a switch, the polarity is one of the two, and the spare words are good
 abbrev pub settingsGood : Bool → List Float → Bool
-settingsGood spares x = isSwitch (exsub x) && (eq (polarity x) one && spares)
+settingsGood spares x = isSwitch (exsub x) && (isPolarity (polarity x) && spares)
 
 -- the product and each worked value is finite, the second octave is not above its limit, and V_Lr is not beyond its own
 abbrev pub withinReach : List Float → Bool

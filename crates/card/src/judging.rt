@@ -4,7 +4,8 @@ ghost use Rattle.refusal.specs.Order.{tells};
 ghost use mathlib.Core.Bool.{true, cond};
 ghost use Rattle.clip.specs.Limits.{zero};
 ghost use Rattle.card.specs.Octave.{octaveGood};
-ghost use Rattle.card.specs.Judge.{hasLeads, parametersOf, octave, cardFrom, isSwitch, settingsGood, reachOf};
+ghost use Rattle.card.specs.Judge.{hasLeads, parametersOf, octave, cardFrom, isSwitch, isPolarity, settingsGood};
+ghost use Rattle.card.specs.Judge.{reachOf};
 ghost use Rattle.card.specs.Judge.{judgeNumbers, toldJudged};
 ghost use Rattle.card.specs.inner.Tests.{unlessPassed, firstWrong};
 ghost use Rattle.card.specs.inner.Worked.{GoodMlf};
@@ -21,11 +22,21 @@ use refusal::Refusal;
 use working::Parameters;
 use working::Worked;
 
+// The polarity of a PNP.
+const PNP: f64 = -1.0;
+
 // Whether a number is 0 or 1.
 fn is_switch(x: f64) -> bool
     ensures { λ r. ⌜ r ≡ isSwitch x ⌝ }
 {
     if x == 0.0 { true } else { x == 1.0 }
+}
+
+// Whether a number is +1 or -1.
+fn is_polarity(x: f64) -> bool
+    ensures { λ r. ⌜ r ≡ isPolarity x ⌝ }
+{
+    if x == 1.0 { true } else { x == PNP }
 }
 
 // Whether there are series resistors: version 1, which has none, means R_E 0.
@@ -73,10 +84,11 @@ fn card(
     knee: u32,
     exsub: bool,
     joined: bool,
+    pnp: bool,
     close: bool,
     wide: bool,
 ) -> WorkedCard
-    ensures { λ r. ⌜ r ≡ cardFrom w octave second knee exsub joined close wide ⌝ }
+    ensures { λ r. ⌜ r ≡ cardFrom w octave second knee exsub joined pnp close wide ⌝ }
 {
     WorkedCard {
         sn: float::cut(w.sn),
@@ -99,6 +111,7 @@ fn card(
         knee,
         exsub,
         rcbli_zero: joined,
+        pnp,
         rcblx_zero: close,
         wide,
     }
@@ -111,12 +124,12 @@ fn unless(passed: bool, f: Refusal, next: Answer) -> Answer
     if passed { next } else { Answer::Refused(f) }
 }
 
-// What 8 asks: EXSUB a switch, the polarity +1, and good spare words.
+// What 8 asks: EXSUB a switch, a polarity, and good spare words.
 fn settings_good(x: &[f64; WIDTH], spares: bool) -> bool
     ensures { λ r. ⌜ r ≡ settingsGood spares (now (x .entry)) ⌝ }
 {
-    let upright = x[numbers::POLARITY] == 1.0;
-    both(is_switch(x[numbers::EXSUB]), both(upright, spares))
+    let polarity = is_polarity(x[numbers::POLARITY]);
+    both(is_switch(x[numbers::EXSUB]), both(polarity, spares))
 }
 
 // 7, 8, then 9.
@@ -147,7 +160,9 @@ fn reach(x: &[f64; WIDTH]) -> Judged
     let w = working::work(parameters(x));
     if working::all_finite(w) {
         let octave = octaves::nanovolts(x[numbers::OCTAVE]);
-        let raised = knee::microvolts(x[numbers::VLR]);
+        let polarity = x[numbers::POLARITY];
+        let vlr = x[numbers::VLR];
+        let raised = knee::microvolts(vlr);
         Judged::Card(card(
             w,
             octave,
@@ -155,6 +170,7 @@ fn reach(x: &[f64; WIDTH]) -> Judged
             raised,
             x[numbers::EXSUB] == 1.0,
             x[numbers::RCBLI] == 0.0,
+            polarity == PNP,
             x[numbers::RCBLX] == 0.0,
             has_leads(x),
         ))

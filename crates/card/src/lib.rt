@@ -15,7 +15,7 @@ pub use clip::clip;
 pub use clip::right_length;
 use refusal::Refusal;
 
-// What the branches need of a card: fifteen values as a * 2^b, the two octaves in nanovolts, V_Lr, and four switches.
+// What the branches need of a card: fifteen values as a * 2^b, the two octaves in nanovolts, V_Lr, and five switches.
 pub struct WorkedCard {
     pub sn: float::Split,
     pub bulk: float::Split,
@@ -42,6 +42,8 @@ pub struct WorkedCard {
     pub exsub: bool,
     // R_Cbli is 0: C4 and C1 are one node
     pub rcbli_zero: bool,
+    // the polarity is -1
+    pub pnp: bool,
     // R_Cblx is 0: C3 and C4 are one node
     pub rcblx_zero: bool,
     // the card has series resistors, and so all eleven roles
@@ -79,6 +81,7 @@ pub fn no_card() -> WorkedCard
         knee: 0,
         exsub: false,
         rcbli_zero: false,
+        pnp: false,
         rcblx_zero: false,
         wide: false,
     }

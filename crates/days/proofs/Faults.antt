@@ -12,11 +12,11 @@ use Rattle.refusal.specs.Clash.{clash}
 use Rattle.refusal.specs.Order.{Verdict, no}
 use Rattle.card.specs.declared.WorkedCard.{WorkedCard}
 use Rattle.terms.specs.Rows.{Role, Row, rowsFor}
-use Rattle.terms.specs.Values.{biasOf}
 use Rattle.rows.specs.declared.Over.{Over}
 use Rattle.rows.specs.declared.Over.the-variants.{Within, Ticks, Injection}
 use Rattle.rows.specs.Outcome.{ratioLimit, someAbove, overTicks, ratiosIn, overAt, firstOver, isOver, drawnBy}
-use Rattle.rows.specs.Outcome.{outcomeAt, outcomeOf}
+use Rattle.rows.specs.Outcome.{outcomeAt, outcomeAcross}
+use Rattle.polarity.specs.Polarity.{seenBy, outcomeOf}
 use Rattle.totals.specs.Flow as flow
 use Rattle.totals.specs.Flow.{rolesAt}
 use Rattle.model.specs.Faults.{Kind, ticks, ratio, Fault, before, refusalFor, refuseFirst, faultIf, faultsIn}
@@ -135,23 +135,23 @@ over-kept (Ticks k) l = refl
 over-kept (Injection k) l = refl
 
 module _ (issue : ℕ) (c : WorkedCard) (nodes : List ℕ) (volts : List ℤ) where
-  first-row : flow.overAt c nodes volts ≡ firstOver c (biasOf (rolesAt volts nodes)) 1 (rowsFor (c .exsub))
-  unfolding flow.overAt outcomeOf
+  first-row : flow.overAt c nodes volts ≡ firstOver c (seenBy c (rolesAt volts nodes)) 1 (rowsFor (c .exsub))
+  unfolding flow.overAt outcomeAcross outcomeOf
   first-row = over-kept _ _
 
   pub faults-told : isOver (flow.overAt c nodes volts) ≡ true →
       FirstTold (faultBy issue (flow.overAt c nodes volts)) (faultsOf issue c nodes volts)
   unfolding faultsOf
   faults-told e =
-      rw first-row (rows-told issue c (biasOf (rolesAt volts nodes)) 1 (rowsFor (c .exsub)) (rw first-row at e))
+      rw first-row (rows-told issue c (seenBy c (rolesAt volts nodes)) 1 (rowsFor (c .exsub)) (rw first-row at e))
 
   pub faults-none : isOver (flow.overAt c nodes volts) ≡ false → faultsOf issue c nodes volts ≡ []
   unfolding faultsOf
-  faults-none e = rows-none issue c (biasOf (rolesAt volts nodes)) 1 (rowsFor (c .exsub)) (rw first-row at e)
+  faults-none e = rows-none issue c (seenBy c (rolesAt volts nodes)) 1 (rowsFor (c .exsub)) (rw first-row at e)
 
   pub faults-own : (g : Fault) → Among g (faultsOf issue c nodes volts) → g .issue ≡ issue
   unfolding faultsOf
-  faults-own g m = from issue c (biasOf (rolesAt volts nodes)) 1 (rowsFor (c .exsub)) g m .own
+  faults-own g m = from issue c (seenBy c (rolesAt volts nodes)) 1 (rowsFor (c .exsub)) g m .own
 
   -- where there is a fault the transistor overloads
   pub faults-over : (g : Fault) → Among g (faultsOf issue c nodes volts) → isOver (flow.overAt c nodes volts) ≡ true

@@ -4,7 +4,7 @@ use mathlib.Core.Path.{_≡_, refl, sym, ap, _∙_}
 use mathlib.Core.Bool.{Bool, true, false, cond}
 use mathlib.Core.List.{List, [], _∷_, map}
 use Prim.Native.Nat.{ℕ, zero, suc, _+_, _-_, _*_, _^_, _≤_, _<_}
-use native.Mathlib.Nat.{le-refl}
+use native.Mathlib.Nat.{le-refl, zero-add}
 use native.Mathlib.Omega.{arith}
 use lib.Dec.{eqb}
 use lib.ListN.{getD}
@@ -16,7 +16,8 @@ use Rattle.rows.specs.declared.Over.{Over}
 use Rattle.rows.specs.declared.Over.the-variants.{Within, Ticks, Injection}
 use Rattle.scaling.specs.Scaled.{tickLimit}
 use Rattle.terms.specs.Rows.{Row, rowsFor, branches, roleIndex}
-use Rattle.rows.specs.Outcome.{outcomeOf, isOver}
+use Rattle.rows.specs.Outcome.{isOver}
+use Rattle.polarity.specs.Polarity.{outcomeOf}
 use Rattle.places.specs.Gathered.{Card, Transistor}
 use Rattle.model.specs.Board.{Board}
 use Rattle.model.specs.Model.{cardsOf, transistorsOf, transistorAt}
@@ -35,7 +36,7 @@ use Rattle.totals.proofs.Integers.{turned, swap-inner}
 use Rattle.days.proofs.Perms.{perm-sum}
 use Rattle.days.proofs.Places.{sum-occupied}
 use Rattle.rows.specs.inner.FromTerms.{listUp}
-use Rattle.deck.specs.laws.Ups.{up-same}
+use Rattle.deck.specs.laws.Ups.{getD-up, up-same}
 use Rattle.model.proofs.NodeSums.{totals-room}
 use Rattle.model.proofs.Invariant.{invariant, invariant-after}
 use Rattle.days.proofs.Orderly.{orderly-after}
@@ -170,6 +171,16 @@ sum-fitted b n =
     ∙ sym
     (sum-map (λ (f : Fitted). flow (f .worked) (f .nodes) (voltsOf b) n) fittedOf
     (standingIn (cardsOf b) (transistorsOf b)))
+
+-- a stored total, by what each counts by
+pub totals-fitted : {b : Board} → Reached b → (n : ℕ) → n < nodesMost →
+    getD (b .totals) n (pos 0) ≡ sumOver (λ (f : Fitted). flow (f .worked) (f .nodes) (voltsOf b) n) (fittedIn b)
+unfolding totalsOf
+totals-fitted {b} r n h =
+    ap (λ (l : List ℤ). getD l n (pos 0)) (invariant r .holds .balanced)
+    ∙ getD-up (λ (m : ℕ). sumOver (placeGives (cardsOf b) (voltsOf b) m) (transistorsOf b)) nodesMost 0 n (pos 0) h
+    ∙ ap (λ (m : ℕ). sumOver (placeGives (cardsOf b) (voltsOf b) m) (transistorsOf b)) (zero-add n)
+    ∙ sum-fitted b n
 
 pub same-standing-same-totals : {b c : Board} → Reached b → Reached c → Perm (fittedIn b) (fittedIn c) →
     voltsOf b ≡ voltsOf c → b .totals ≡ c .totals

@@ -25,7 +25,7 @@ abbrev pub ticksEach : ℕ
 ticksEach = 12
 
 abbrev pub switchesEach : ℕ
-switchesEach = 4
+switchesEach = 5
 
 -- ---- a card's own numbers, in order
 
@@ -48,7 +48,7 @@ ticksOf r =
     ∷ r .sub ∷ r .sf ∷ r .reverse ∷ []
 
 abbrev pub switchesOf : WorkedCard → List Bool
-switchesOf c = c .exsub ∷ c .«rcbli_zero» ∷ c .«rcblx_zero» ∷ c .wide ∷ []
+switchesOf c = c .exsub ∷ c .«rcbli_zero» ∷ c .pnp ∷ c .«rcblx_zero» ∷ c .wide ∷ []
 
 -- ---- and back: the card of such numbers
 
@@ -78,8 +78,9 @@ workedFrom numbers powers switches =
       knee = getD numbers 17 0;
       exsub = getD switches 0 false;
       «rcbli_zero» = getD switches 1 false;
-      «rcblx_zero» = getD switches 2 false;
-      wide = getD switches 3 false;
+      pnp = getD switches 2 false;
+      «rcblx_zero» = getD switches 3 false;
+      wide = getD switches 4 false;
     }
 
 abbrev pub reciprocalFrom : List ℕ → List ℕ → ℕ → ℕ → Reciprocal

@@ -23,14 +23,14 @@ pub const POWERS: usize = 15;
 
 pub const TICKS: usize = 12;
 
-pub const SWITCHES: usize = 4;
+pub const SWITCHES: usize = 5;
 
 // Which of a card's switches say that R_Cbli is 0, that R_Cblx is, and that the card has series resistors.
 pub const RCBLI_ZERO: usize = 1;
 
-pub const RCBLX_ZERO: usize = 2;
+pub const RCBLX_ZERO: usize = 3;
 
-pub const WIDE: usize = 3;
+pub const WIDE: usize = 4;
 
 pub const ALL_NUMBERS: usize = NUMBERS * CARDS;
 
@@ -105,6 +105,7 @@ fn worked_at(
         knee: numbers[NUMBERS * i + 17],
         exsub: switches[SWITCHES * i],
         rcbli_zero: switches[SWITCHES * i + RCBLI_ZERO],
+        pnp: switches[SWITCHES * i + 2],
         rcblx_zero: switches[SWITCHES * i + RCBLX_ZERO],
         wide: switches[SWITCHES * i + WIDE],
     }
@@ -269,7 +270,7 @@ fn ticks_of(r: Ready) -> [u64; TICKS]
 fn switches_of(c: WorkedCard) -> [bool; SWITCHES]
     ensures { λ x. ⌜ x ≡ switchesOf c ⌝ }
 {
-    [c.exsub, c.rcbli_zero, c.rcblx_zero, c.wide]
+    [c.exsub, c.rcbli_zero, c.pnp, c.rcblx_zero, c.wide]
 }
 
 pub fn put_ready(

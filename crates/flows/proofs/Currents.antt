@@ -9,14 +9,15 @@ use Rattle.card.specs.declared.WorkedCard.{WorkedCard}
 use Rattle.rows.specs.declared.Outcome.{Outcome}
 use Rattle.terms.specs.declared.Ready.{Ready}
 use Rattle.terms.specs.Rows.{rowsFor}
-use Rattle.rows.specs.Outcome.{tickLimit, outcomeOf}
-use Rattle.rows.proofs.Laws.{ticks-long, ticks-small}
+use Rattle.rows.specs.Outcome.{tickLimit}
+use Rattle.polarity.specs.Polarity.{outcomeOf}
+use Rattle.polarity.proofs.Laws.{ticks-long, ticks-small}
 use Rattle.terms.specs.Ends.{fromRoles, toRoles}
 use Rattle.totals.specs.Gives.{nodesMost}
 use Rattle.totals.specs.Flow.{rolesAt, overAt, flow}
 use Rattle.totals.specs.inner.Sums.{More, Within, rolesGive}
 use Rattle.totals.specs.inner.Sizes.{flowMost}
-use Rattle.totals.proofs.Integers.{abs-neg}
+use Rattle.whole.specs.laws.Machine.{abs-neg}
 use Rattle.totals.proofs.Lists.{getD-map}
 use Rattle.totals.proofs.Roles.{roles-are-rows, roles-turned}
 use Rattle.totals.proofs.Amounts.{small-rows}

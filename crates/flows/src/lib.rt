@@ -5,7 +5,8 @@ ghost use Prim.Native.Nat.{_<_};
 ghost use lib.ListN.{length, getD};
 ghost use Rattle.volts.specs.Volts.{givenBack};
 ghost use Rattle.terms.specs.Rows.{roles};
-ghost use Rattle.rows.specs.Outcome.{outcomeOf, isOver, drawnBy};
+ghost use Rattle.rows.specs.Outcome.{isOver, drawnBy};
+ghost use Rattle.polarity.specs.Polarity.{outcomeOf};
 ghost use Rattle.totals.specs.Gives.{nodesMost};
 ghost use Rattle.totals.specs.Flow.{rolesAt, overAt, flow};
 ghost use Rattle.totals.specs.inner.Sums.{More, Room, Wired};
@@ -13,9 +14,9 @@ ghost use Rattle.totals.specs.inner.Sizes.{roomMost};
 ghost use Rattle.flows.specs.Back.{backFlow};
 ghost use Rattle.flows.specs.inner.Workable.{rolesOf, deckOf, cardOf, Workable};
 use octave::Table;
+use polarity::Outcome;
+use polarity::Over;
 use refusal::Refusal;
-use rows::Outcome;
-use rows::Over;
 use terms::ROLES;
 use totals::NODES;
 
@@ -57,7 +58,7 @@ fn work(
 {
     let v = role_volts(volts, on);
     let r = deck::ready_at(numbers, powers, ticks, switches, s);
-    rows::work_out(table, r, &v)
+    polarity::work_out(table, r, &v)
 }
 
 // Gives a transistor's currents to the totals, and tells by what it overloads.

@@ -20,7 +20,8 @@ use Rattle.terms.specs.inner.Ready.{IsReady, readyOf}
 use Rattle.terms.proofs.Laws.{made-ready}
 use Rattle.terms.specs.Rows.{roles}
 use Rattle.terms.specs.Looked.{lookedAt}
-use Rattle.rows.specs.Outcome.{isOver, outcomeOf}
+use Rattle.rows.specs.Outcome.{isOver}
+use Rattle.polarity.specs.Polarity.{outcomeOf}
 use Rattle.totals.specs.Flow.{rolesAt, overAt, overloads, flow, sumOver}
 use Rattle.given.specs.Lists.{anyOf}
 use Rattle.given.specs.Arguments.{none, some, issueOf, offNode, someNodeOff}

@@ -15,8 +15,9 @@ use Rattle.whole.specs.laws.Biased.{below-or-not}
 use Rattle.card.specs.declared.WorkedCard.{WorkedCard}
 use Rattle.terms.specs.Rows.{rowsFor}
 use Rattle.rows.specs.inner.FromTerms.{listUp}
-use Rattle.rows.specs.Outcome.{tickLimit, outcomeOf}
-use Rattle.rows.proofs.Laws.{ticks-small}
+use Rattle.rows.specs.Outcome.{tickLimit}
+use Rattle.polarity.specs.Polarity.{outcomeOf}
+use Rattle.polarity.proofs.Laws.{ticks-small}
 use Rattle.model.specs.Counts.{nodesMost, transistorsMost}
 use Rattle.totals.specs.Flow.{rolesAt, flow, sumOver}
 use Rattle.places.specs.Gathered.{Card, Transistor, workedAt}

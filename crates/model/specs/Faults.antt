@@ -10,8 +10,8 @@ use Rattle.refusal.specs.declared.Refusal.the-variants.{Overload, Injection}
 use Rattle.refusal.specs.Order.{Verdict, no}
 use Rattle.card.specs.declared.WorkedCard.{WorkedCard}
 use Rattle.terms.specs.Rows.{Role, Row, rowsFor}
-use Rattle.terms.specs.Values.{biasOf}
 use Rattle.rows.specs.Outcome.{ratioLimit, someAbove, overTicks, ratiosIn}
+use Rattle.polarity.specs.Polarity.{seenBy}
 use Rattle.totals.specs.Flow.{rolesAt}
 
 -- a T above its limit, or a ratio above its own
@@ -76,7 +76,7 @@ faultsIn issue c v k (r ∷ rows) =
 -- in a transistor of this number on its nodes
 unfoldable pub faultsOf : ℕ → WorkedCard → List ℕ → List ℤ → List Fault
 unfolding faultsIn
-faultsOf issue c nodes volts = faultsIn issue c (biasOf (rolesAt volts nodes)) 1 (rowsFor (c .exsub))
+faultsOf issue c nodes volts = faultsIn issue c (seenBy c (rolesAt volts nodes)) 1 (rowsFor (c .exsub))
 
 -- in any of a list
 unfoldable pub faultsAmong : {A : Type 0} → (A → List Fault) → List A → List Fault

@@ -23,7 +23,8 @@ use Rattle.card.proofs.WorkedCards.{judged-is-worked}
 use Rattle.terms.specs.Rows.{roles}
 use Rattle.scaling.specs.Scaled.{expOf}
 use Rattle.rows.specs.Ticks.{rootFor}
-use Rattle.rows.specs.Outcome.{outcomeOf}
+use Rattle.rows.specs.Outcome.{outcomeAcross}
+use Rattle.polarity.specs.Polarity.{outcomeOf}
 use Rattle.terms.specs.inner.Ready.{readyOf, Askable}
 use Rattle.terms.proofs.Laws.{askable}
 use Rattle.totals.specs.Gives.{rowsGive}
@@ -58,7 +59,7 @@ abbrev ratio : Split
 ratio = record { a = 1073741824; down = keptPower (negsuc 67) }
 
 abbrev worked : WorkedCard
-worked = record { sn = current; bulk = current; side = none; nonideal = none; ex = current; sub = none; sf = none; rex = ratio; rsub = ratio; reverse = none; octave = 16000000; second = 16000000; knee = 5000000; exsub = false; «rcbli_zero» = true }
+worked = record { sn = current; bulk = current; side = none; nonideal = none; ex = current; sub = none; sf = none; rex = ratio; rsub = ratio; reverse = none; octave = 16000000; second = 16000000; knee = 5000000; exsub = false; «rcbli_zero» = true; pnp = false }
 
 card-is : judgeOf (recordOf theCard) ≡ yes worked
 unfolding recordOf judgeOf clipOf finiteUp clippedUp clippedAt ofBits lt eq ne le whole mul div sub toUnsigned toSigned neg size
@@ -83,7 +84,7 @@ unfolding theBoard runFrom loadedFrom loadedOf loadVerdict
 board-from = refl
 
 totals-from : take 4 (runFrom (loadedFrom (yes worked)) .totals) ≡ negsuc 2047 ∷ pos 1024 ∷ pos 1024 ∷ pos 0 ∷ []
-unfolding runFrom loadedFrom loadedOf placedOf movedOf freshBoard recordOf entryOf entries expOf rootFor rootOf rootBits readyOf outcomeOf asked padded placeVerdict moveVerdict overAt overloads rowsGive flow sumBelow withMore listUp anyOf first stretch written readyAt cardsIn transistorsIn backFlow changeBy changes firstBelow cardsOf transistorsOf somePairOff shiftsOf shiftedIn
+unfolding runFrom loadedFrom loadedOf placedOf movedOf freshBoard recordOf entryOf entries expOf rootFor rootOf rootBits readyOf outcomeAcross outcomeOf asked padded placeVerdict moveVerdict overAt overloads rowsGive flow sumBelow withMore listUp anyOf first stretch written readyAt cardsIn transistorsIn backFlow changeBy changes firstBelow cardsOf transistorsOf somePairOff shiftsOf shiftedIn
 totals-from = refl
 
 board-row : boardCase .worked ≡ boardCase .paper
@@ -105,7 +106,7 @@ unfolding theStage stageFrom loadedFrom loadedOf loadVerdict
 stage-from = refl
 
 stage-lifts : lifts (stageFrom (loadedFrom (yes worked))) ≡ pos 15 ∷ pos 15 ∷ pos 0 ∷ []
-unfolding stageFrom loadedFrom loadedOf placedOf movedOf freshBoard recordOf entryOf entries expOf rootFor rootOf rootBits readyOf outcomeOf asked padded placeVerdict moveVerdict overAt overloads rowsGive flow sumBelow withMore listUp anyOf first stretch written readyAt cardsIn transistorsIn backFlow changeBy changes firstBelow cardsOf transistorsOf somePairOff shiftsOf shiftedIn
+unfolding stageFrom loadedFrom loadedOf placedOf movedOf freshBoard recordOf entryOf entries expOf rootFor rootOf rootBits readyOf outcomeAcross outcomeOf asked padded placeVerdict moveVerdict overAt overloads rowsGive flow sumBelow withMore listUp anyOf first stretch written readyAt cardsIn transistorsIn backFlow changeBy changes firstBelow cardsOf transistorsOf somePairOff shiftsOf shiftedIn
 stage-lifts = refl
 
 -- a stage that cannot be lifted one node after the other can be lifted together

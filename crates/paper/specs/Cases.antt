@@ -16,7 +16,8 @@ use Rattle.card.specs.Judge.{judgeOf}
 use Rattle.rows.specs.declared.Over.{Over}
 use Rattle.rows.specs.declared.Over.the-variants.{Within, Ticks, Injection}
 use Rattle.terms.specs.Rows.{roles}
-use Rattle.rows.specs.Outcome.{outcomeOf}
+use Rattle.rows.specs.Outcome.{outcomeAcross}
+use Rattle.polarity.specs.Polarity.{outcomeOf}
 use Rattle.model.specs.declared.Answer.{Answer}
 use Rattle.model.specs.declared.Answer.the-variants.{Issue, Done, Node, Refused}
 use Rattle.model.specs.Board.{Board}
@@ -36,7 +37,7 @@ ticksAt (yes c) k v = getD (outcomeOf c (pos 0 ∷ v ∷ v ∷ pos 0 ∷ pos 0 �
 
 -- the ideal value 2^-40 with less-one is row 2 of the paper's card
 unfoldable pub ideal : ℤ → List ℤ
-unfolding recordOf judgeOf outcomeOf
+unfolding recordOf judgeOf outcomeAcross outcomeOf
 ideal v = ticksAt (judgeOf (recordOf theCard)) 1 v
 
 -- a card whose I_s is its I_k, 2^-38, so that 0 microvolts are near the knee
@@ -44,7 +45,7 @@ abbrev knee : List ℕ
 knee = wordsOf two-to-minus-38 two-to-minus-38 0 four
 
 unfoldable pub five : ℤ → List ℤ
-unfolding recordOf judgeOf outcomeOf
+unfolding recordOf judgeOf outcomeAcross outcomeOf
 five v = ticksAt (judgeOf (recordOf knee)) 4 v
 
 -- row 1 of a judged card, at these voltages from B2 to E1 and from B2 to C2
@@ -54,7 +55,7 @@ mainOf (yes w) e c =
     getD (outcomeOf w (negℤ e ∷ pos 0 ∷ pos 0 ∷ pos 0 ∷ negℤ c ∷ pos 0 ∷ pos 0 ∷ []) .ticks) 0 (pos 0) ∷ []
 
 unfoldable pub mainAt : ℤ → ℤ → List ℤ
-unfolding recordOf judgeOf outcomeOf
+unfolding recordOf judgeOf outcomeAcross outcomeOf
 mainAt e c = mainOf (judgeOf (recordOf knee)) e c
 
 -- what overloads: nothing, or a row by its T or by its ratio
@@ -69,7 +70,7 @@ withSn s (no f) = []
 withSn s (yes c) =
     overNumbers
     (outcomeOf
-    (record { sn = s; bulk = c .bulk; side = c .side; nonideal = c .nonideal; ex = c .ex; sub = c .sub; sf = c .sf; rex = c .rex; rsub = c .rsub; reverse = c .reverse; octave = c .octave; second = c .second; knee = c .knee; exsub = c .exsub; «rcbli_zero» = c .«rcbli_zero» })
+    (record { sn = s; bulk = c .bulk; side = c .side; nonideal = c .nonideal; ex = c .ex; sub = c .sub; sf = c .sf; rex = c .rex; rsub = c .rsub; reverse = c .reverse; octave = c .octave; second = c .second; knee = c .knee; exsub = c .exsub; «rcbli_zero» = c .«rcbli_zero»; pnp = c .pnp })
     (replicate roles (pos 0))
     .over)
 
@@ -126,7 +127,7 @@ unfolding theStage
 stageCase = record { worked = lifts theStage; paper = pos 15 ∷ pos 15 ∷ pos 0 ∷ [] }
 
 unfoldable pub cases : List Case
-unfolding entryOf ideal five mainAt recordOf judgeOf outcomeOf clipOf boardCase stageCase
+unfolding entryOf ideal five mainAt recordOf judgeOf outcomeAcross outcomeOf clipOf boardCase stageCase
 cases =
     boardCase
     ∷ stageCase

@@ -15,12 +15,12 @@ use Rattle.card.specs.declared.WorkedCard.{WorkedCard}
 use Rattle.card.specs.inner.Worked.{Each}
 use Rattle.terms.specs.Rows.{Role, Summand, unit, root, Divisor, undivided, sumOf, exps, Row, rowsFor}
 use Rattle.terms.specs.Rows.{branches}
-use Rattle.terms.specs.Values.{valueOf, biasOf, tickOf, ratioOf, sumAt}
+use Rattle.terms.specs.Values.{valueOf, tickOf, ratioOf, sumAt}
 use Rattle.rows.specs.declared.Over.{Over}
 use Rattle.rows.specs.declared.Over.the-variants.{Within, Ticks, Injection}
 use Rattle.rows.specs.Ticks.{summandOf, dividedBy, rowTicks}
 use Rattle.rows.specs.Outcome.{tickLimit, ratioLimit, someAbove, ticksIn, ratiosIn, overTicks, firstOver}
-use Rattle.rows.specs.Outcome.{outcomeAt, outcomeOf}
+use Rattle.rows.specs.Outcome.{outcomeAt, outcomeAcross}
 use Rattle.rows.proofs.Tests.{neither, passes, both-within}
 use Rattle.rows.proofs.Roots.{root-sized, difference-small}
 
@@ -31,9 +31,9 @@ many Within l = refl
 many (Ticks k) l = length-replicate (length l) (pos 0)
 many (Injection k) l = length-replicate (length l) (pos 0)
 
-pub ticks-long : (c : WorkedCard) (v : List ℤ) → length (outcomeOf c v .ticks) ≡ branches
-unfolding outcomeOf
-ticks-long c v = many (firstOver c (biasOf v) 1 (rowsFor (c .exsub))) _
+pub ticks-long : (c : WorkedCard) (v : Role → Role → ℤ) → length (outcomeAcross c v .ticks) ≡ branches
+unfolding outcomeAcross
+ticks-long c v = many (firstOver c v 1 (rowsFor (c .exsub))) _
 
 -- ---- sizes
 
@@ -101,9 +101,9 @@ module _ (c : WorkedCard) (v : Role → Role → ℤ) where
   outcome-small rows (Injection k) e = zeros tickLimit (length (map (rowTicks c v) rows))
 
 -- no current is above the limit in size, whatever the card and the voltages
-pub ticks-small : (c : WorkedCard) (v : List ℤ) (k : ℕ) →
-    natAbs (getD (outcomeOf c v .ticks) k (pos 0)) ≤ tickLimit
-unfolding outcomeOf
+pub ticks-small : (c : WorkedCard) (v : Role → Role → ℤ) (k : ℕ) →
+    natAbs (getD (outcomeAcross c v .ticks) k (pos 0)) ≤ tickLimit
+unfolding outcomeAcross
 ticks-small c v k =
     let rows = rowsFor (c .exsub) in
-    each-at tickLimit (outcomeOf c v .ticks) (outcome-small c (biasOf v) rows (firstOver c (biasOf v) 1 rows) refl) k
+    each-at tickLimit (outcomeAcross c v .ticks) (outcome-small c v rows (firstOver c v 1 rows) refl) k

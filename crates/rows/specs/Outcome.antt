@@ -1,4 +1,4 @@
--- The currents of a transistor, row by row, or the first row that overloads.
+-- The currents of an NPN transistor, row by row, or the first row that overloads.
 use mathlib.Core.Bool.{Bool, true, false, _||_}
 use mathlib.Core.List.{List, [], _∷_, map}
 use Prim.Native.Nat.{ℕ, suc}
@@ -12,7 +12,7 @@ use Rattle.rows.specs.declared.Over.{Over}
 use Rattle.rows.specs.declared.Over.the-variants.{Within, Ticks, Injection}
 use Rattle.rows.specs.declared.Outcome.{Outcome}
 use Rattle.terms.specs.Rows.{Role, Divisor, undivided, sumOf, exps, Row, rowsFor}
-use Rattle.terms.specs.Values.{tickOf, ratioOf, biasOf, expsOver}
+use Rattle.terms.specs.Values.{tickOf, ratioOf, expsOver}
 pub use Rattle.scaling.specs.Scaled.{tickLimit, ratioLimit}
 use Rattle.rows.specs.Ticks.{rowTicks}
 
@@ -73,7 +73,6 @@ outcomeAt Within ticks = record { over = Within; ticks = ticks }
 outcomeAt (Ticks k) ticks = record { over = Ticks k; ticks = replicate (length ticks) (pos 0) }
 outcomeAt (Injection k) ticks = record { over = Injection k; ticks = replicate (length ticks) (pos 0) }
 
--- the outcome for a worked card at the voltages of its roles
-unfoldable pub outcomeOf : WorkedCard → List ℤ → Outcome
-outcomeOf c volts =
-    outcomeAt (firstOver c (biasOf volts) 1 (rowsFor (c .exsub))) (map (rowTicks c (biasOf volts)) (rowsFor (c .exsub)))
+-- the outcome for a worked card at the voltages of its junctions
+unfoldable pub outcomeAcross : WorkedCard → (Role → Role → ℤ) → Outcome
+outcomeAcross c v = outcomeAt (firstOver c v 1 (rowsFor (c .exsub))) (map (rowTicks c v) (rowsFor (c .exsub)))

@@ -3,7 +3,8 @@ ghost use mathlib.Core.Path.{_≡_};
 ghost use mathlib.Core.List.{map};
 ghost use Rattle.volts.specs.Volts.{givenBack};
 ghost use Rattle.terms.specs.inner.Ready.{Askable};
-ghost use Rattle.rows.specs.Outcome.{outcomeOf};
+ghost use Rattle.terms.specs.Values.{biasOf};
+ghost use Rattle.rows.specs.Outcome.{outcomeAcross};
 
 mod rows; // rows.rt: one loop each over the rows' terms
 
@@ -28,10 +29,10 @@ pub struct Outcome {
     pub ticks: [i64; BRANCHES],
 }
 
-// The outcome of a card made ready at the kept voltages of its roles. The table is lent, so that a caller makes it once.
+// The outcome of a card made ready at the kept voltages of its roles, as an NPN has it. The table is lent, so that a caller makes it once.
 pub fn work_out(t: &Table, r: Ready, v: &[u32; ROLES]) -> Outcome
     requires { ⌜ Askable (now t) r (now v) ⌝ }
-    ensures { λ x. ⌜ x ≡ outcomeOf (r .card) (map givenBack (now (v .entry))) ⌝ }
+    ensures { λ x. ⌜ x ≡ outcomeAcross (r .card) (biasOf (map givenBack (now (v .entry)))) ⌝ }
 {
     let x = terms::all_terms(t, r, v);
     rows::outcome(x)

@@ -13,7 +13,7 @@ pub use flows::put_in;
 pub use flows::refusal_of;
 pub use flows::take_out;
 use places::TRANSISTORS;
-use rows::Over;
+use polarity::Over;
 use totals::NODES;
 
 // The first transistor that overloads, by issue number; 0 and within its limits where none does.

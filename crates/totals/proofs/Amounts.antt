@@ -21,7 +21,8 @@ use Rattle.terms.specs.Rows.{Row, roleIndex, roles, branches}
 use Rattle.totals.specs.Gives.{nodesMost, atNode, rowsGive}
 use Rattle.totals.specs.inner.Sums.{More, Within, Room, Wired, ends, endsGive, spread}
 use Rattle.totals.specs.inner.Sizes.{flowMost, roomMost, handedMost}
-use Rattle.totals.proofs.Integers.{abs-add, abs-neg, abs-ends, turned, held, fits, held-is}
+use Rattle.whole.specs.laws.Machine.{abs-neg, held, fits, held-is}
+use Rattle.totals.proofs.Integers.{abs-add, abs-ends, turned}
 
 -- ---- the sizes fit
 

@@ -1,14 +1,12 @@
--- Sizes and signs of integers, and what the machine holds of a small one.
+-- Sizes and signs of integers.
 use mathlib.Core.Path.{_≡_, refl, sym, ap, _∙_}
 use mathlib.Core.Bool.{Bool, true, false, cond}
-use Prim.Native.Nat.{ℕ, zero, suc, _+_, _-_, _^_, _≤_, _<_, zero-le}
-use native.Mathlib.Nat.{le-refl, le-of-eq, le-of-lt}
+use Prim.Native.Nat.{ℕ, suc, _+_, _-_, _≤_, zero-le}
+use native.Mathlib.Nat.{le-refl, le-of-eq}
 use native.Mathlib.Omega.{arith}
 use lib.Dec.{ltb}
 use lib.IntN.{ℤ, pos, negsuc, natAbs, negℤ, _+ℤ_, _-ℤ_, +ℤ-idl, +ℤ-idr, +ℤ-invr, +ℤ-assoc, +ℤ-comm}
-use mir.Syntax.{w64}
-use mir.Val.{SFits, toZ, ofZ}
-use mir.ValLaws.{toZ-ofZ}
+use Rattle.whole.specs.laws.Machine.{abs-neg}
 
 -- ---- sizes
 
@@ -21,11 +19,6 @@ abs-add (pos a) (pos b) = le-refl _
 abs-add (pos a) (negsuc b) = abs-sub (ltb a (suc b)) a b
 abs-add (negsuc a) (pos b) = omega (arith, abs-sub (ltb b (suc a)) b a)
 abs-add (negsuc a) (negsuc b) = omega arith
-
-pub abs-neg : (z : ℤ) → natAbs (negℤ z) ≡ natAbs z
-abs-neg (pos zero) = refl
-abs-neg (pos (suc n)) = refl
-abs-neg (negsuc n) = refl
 
 -- what a branch gives to a node is at most its ticks in size, also where both its ends are there
 pub abs-ends : (t u : Bool) (x : ℤ) → natAbs (cond t x (pos 0) -ℤ cond u x (pos 0)) ≤ natAbs x
@@ -45,15 +38,3 @@ swap-inner a b c d =
     +ℤ-assoc a b (c +ℤ d)
     ∙ ap (λ (z : ℤ). a +ℤ z) (sym (+ℤ-assoc b c d) ∙ ap (λ (z : ℤ). z +ℤ d) (+ℤ-comm b c) ∙ +ℤ-assoc c b d)
     ∙ sym (+ℤ-assoc a c (b +ℤ d))
-
--- ---- in the machine
-
-abbrev pub held : ℤ → ℤ
-held z = toZ w64 (ofZ w64 z)
-
-pub fits : (z : ℤ) → natAbs z < 2 ^ 63 → SFits w64 z
-fits (pos n) h = record { sfits = h }
-fits (negsuc n) h = record { sfits = le-of-lt h }
-
-pub held-is : (z : ℤ) → natAbs z < 2 ^ 63 → held z ≡ z
-held-is z h = toZ-ofZ w64 z (fits z h)

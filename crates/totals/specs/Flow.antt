@@ -8,7 +8,8 @@ use lib.IntN.{ℤ, pos, _+ℤ_}
 use Rattle.card.specs.declared.WorkedCard.{WorkedCard}
 use Rattle.rows.specs.declared.Over.{Over}
 use Rattle.terms.specs.Rows.{rowsFor}
-use Rattle.rows.specs.Outcome.{isOver, outcomeOf}
+use Rattle.rows.specs.Outcome.{isOver}
+use Rattle.polarity.specs.Polarity.{outcomeOf}
 use Rattle.rows.specs.inner.FromTerms.{listUp}
 use Rattle.totals.specs.Gives.{nodesMost, rowsGive}
 

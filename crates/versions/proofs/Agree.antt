@@ -31,9 +31,9 @@ use Rattle.card.specs.laws.Version.{SaysNoMore, atKnee, judgedAtKnee}
 use Rattle.card.proofs.Versions.{versions-agree}
 use Rattle.rows.specs.declared.Outcome.{Outcome}
 use Rattle.terms.specs.Rows.{Role, Row, row1, row2, row3, row4, row5, row6, row7, row8, rowsFor}
-use Rattle.terms.specs.Values.{biasOf}
 use Rattle.rows.specs.Ticks.{rowTicks}
-use Rattle.rows.specs.Outcome.{ratioLimit, someAbove, ratiosIn, overTicks, firstOver, outcomeAt, outcomeOf}
+use Rattle.rows.specs.Outcome.{ratioLimit, someAbove, ratiosIn, overTicks, firstOver, outcomeAt, outcomeAcross}
+use Rattle.polarity.specs.Polarity.{seenBy, turnedOutcome, outcomeOf}
 use Rattle.branch.specs.Currents.{atOutcome, atVolts, currentsOf}
 
 -- ---- without a reverse current V_Lr says nothing
@@ -89,11 +89,12 @@ module _ (k : ℕ) (c : WorkedCard) (v : Role → Role → ℤ) where
 
 knee-alone : (k : ℕ) (c : WorkedCard) (volts : List ℤ) → c .reverse .a ≡ 0 →
     outcomeOf (atKnee k c) volts ≡ outcomeOf c volts
-unfolding outcomeOf
+unfolding outcomeOf outcomeAcross
 knee-alone k c volts e =
-    let b = all-blind k c (biasOf volts) (c .exsub) e in
-    ap₂ outcomeAt (first-same k c (biasOf volts) (rowsFor (c .exsub)) 1 b)
-    (ticks-same k c (biasOf volts) (rowsFor (c .exsub)) b)
+    let v = seenBy c volts in
+    let b = all-blind k c v (c .exsub) e in
+    ap (turnedOutcome (c .pnp))
+    (ap₂ outcomeAt (first-same k c v (rowsFor (c .exsub)) 1 b) (ticks-same k c v (rowsFor (c .exsub)) b))
 
 none-left : (s : Bool) → splitA (round binary64 s 0 1) ≡ 0
 unfolding round units odd size

@@ -21,7 +21,8 @@ use Rattle.branch.specs.declared.Reply.{Reply}
 use Rattle.terms.specs.Looked.{lookedAt}
 use Rattle.rows.specs.declared.Over.{Over}
 use Rattle.rows.specs.declared.Over.the-variants.{Within, Ticks, Injection}
-use Rattle.rows.specs.Outcome.{isOver, drawnBy, outcomeOf}
+use Rattle.rows.specs.Outcome.{isOver, drawnBy}
+use Rattle.polarity.specs.Polarity.{outcomeOf}
 use Rattle.branch.specs.Currents.{atVolts, currentsOf, toldReply, Replies}
 
 -- ---- the number

@@ -3,7 +3,6 @@ use mathlib.Core.Path.{_≡_}
 use mathlib.Core.Bool.{true}
 use mathlib.Core.List.{List}
 use Prim.Native.Nat.{ℕ, _≤_, _<_}
-use lib.Ieee.{eq}
 use lib.Ieee.Scale.{finite}
 use Rattle.refusal.specs.Order.{Verdict, no, yes}
 use Rattle.card.specs.declared.WorkedCard.{WorkedCard}
@@ -23,7 +22,7 @@ pub record SaysNoMore (s t : List ℕ) : Type 0 where
   pub same : (i : ℕ) → i < narrow → wordAt t i ≡ wordAt s i
   pub numbers : (i : ℕ) → narrow ≤ i → i < wide → finite (numberAt t i) ≡ true
   pub ibr : clippedAt t number.ibr ≡ zero
-  pub polarity : eq (clippedAt t number.polarity) one ≡ true
+  pub polarity : clippedAt t number.polarity ≡ one
   pub spares : sparesGood t ≡ true
   pub vlr : kneeGood (clippedAt t number.vlr) ≡ true
   pub leads : all finite (leadsOf (workedOf (parametersOf (judgedNumbers t)))) ≡ true
@@ -51,6 +50,7 @@ withLeads d c = record {
   knee = d .knee;
   exsub = c .exsub;
   «rcbli_zero» = c .«rcbli_zero»;
+  pnp = c .pnp;
   «rcblx_zero» = c .«rcblx_zero»;
   wide = d .wide;
 }

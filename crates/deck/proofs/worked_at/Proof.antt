@@ -8,8 +8,8 @@ use Rattle.deck.proofs.worked_at.Statement.{statement}
 use Rattle.deck.proofs.worked_at.Tie as tie
 
 -- earlier places, from later ones, the splits by fives
-abbrev split15 : tie.After-t56 → tie.After-split-at15
-split15 c = let four = c .before .before .before in four .before .before .before .before
+abbrev split15 : tie.After-t61 → tie.After-split-at15
+split15 c = let four = c .before .before .before .before in four .before .before .before .before
 
 abbrev split10 : tie.After-split-at15 → tie.After-split-at10
 split10 c = c .before .before .before .before .before
@@ -54,8 +54,9 @@ returns c =
       knee = number-is numbers (s .args .i) 17 (omega arith) j;
       exsub = first-switch switches (s .args .i) j;
       «rcbli_zero» = switch-is switches (s .args .i) 1 (omega arith) j;
-      «rcblx_zero» = switch-is switches (s .args .i) 2 (omega arith) j;
-      wide = switch-is switches (s .args .i) 3 (omega arith) j;
+      pnp = switch-is switches (s .args .i) 2 (omega arith) j;
+      «rcblx_zero» = switch-is switches (s .args .i) 3 (omega arith) j;
+      wide = switch-is switches (s .args .i) 4 (omega arith) j;
     }
 
 pub worked-at-spec : {M : Type 1} → statement M
@@ -100,4 +101,7 @@ worked-at-spec =
     (λ c. let d = c .before .before .before in let h = there (d .before .before .before) in omega arith)
     (λ c. let d = c .before .before .before in let h = there (d .before .before .before) in omega arith)
     (λ c. let d = c .before .before .before in let h = there (d .before .before .before) in omega arith)
+    (λ c. let d = c .before .before .before .before in let h = there (d .before .before .before) in omega arith)
+    (λ c. let d = c .before .before .before .before in let h = there (d .before .before .before) in omega arith)
+    (λ c. let d = c .before .before .before .before in let h = there (d .before .before .before) in omega arith)
     returns)

@@ -61,13 +61,13 @@ module _ (numbers powers ticks : List ℕ) (switches : List Bool) (i : ℕ) wher
   ready-joined = getD-stretch false switches (switchesEach * i) switchesEach 1 (omega arith)
 
   pub ready-close :
-      readyAt numbers powers ticks switches i .card .«rcblx_zero» ≡ getD switches (switchesEach * i + 2) false
+      readyAt numbers powers ticks switches i .card .«rcblx_zero» ≡ getD switches (switchesEach * i + 3) false
   unfolding readyAt
-  ready-close = getD-stretch false switches (switchesEach * i) switchesEach 2 (omega arith)
+  ready-close = getD-stretch false switches (switchesEach * i) switchesEach 3 (omega arith)
 
-  pub ready-wide : readyAt numbers powers ticks switches i .card .wide ≡ getD switches (switchesEach * i + 3) false
+  pub ready-wide : readyAt numbers powers ticks switches i .card .wide ≡ getD switches (switchesEach * i + 4) false
   unfolding readyAt
-  ready-wide = getD-stretch false switches (switchesEach * i) switchesEach 3 (omega arith)
+  ready-wide = getD-stretch false switches (switchesEach * i) switchesEach 4 (omega arith)
 
 pub ready-fresh : (n p t s i : ℕ) →
     readyAt (replicate n 0) (replicate p 0) (replicate t 0) (replicate s false) i ≡ noReady

@@ -4,8 +4,7 @@ use native.Mathlib.Omega.{arith}
 use lib.ListN.{getD}
 use borrow.Author.Needs.{needs}
 use Rattle.terms.specs.Rows.{roles}
-use Rattle.rows.specs.laws.Filled.{Filled, filled-none, filled-more}
-use Rattle.totals.proofs.Lists.{filled-map}
+use Rattle.rows.specs.laws.Filled.{Filled, filled-none, filled-more, filled-map}
 use Rattle.flows.proofs.role_volts.Statement.{statement}
 use Rattle.flows.proofs.role_volts.Tie as tie
 

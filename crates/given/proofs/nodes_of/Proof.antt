@@ -6,10 +6,9 @@ use lib.ListN.{length, getD}
 use lib.IntN.{pos}
 use borrow.Author.Needs.{needs}
 use Rattle.terms.specs.Rows.{roles}
-use Rattle.rows.specs.laws.Filled.{Filled, filled-none, filled-more}
+use Rattle.rows.specs.laws.Filled.{Filled, filled-none, filled-more, filled-map}
 use Rattle.given.specs.inner.Nodes.{nodeOf}
-use Rattle.totals.proofs.Integers.{held}
-use Rattle.totals.proofs.Lists.{filled-map}
+use Rattle.whole.specs.laws.Machine.{held}
 use Rattle.given.proofs.nodes_of.Statement.{statement}
 use Rattle.given.proofs.nodes_of.Tie as tie
 

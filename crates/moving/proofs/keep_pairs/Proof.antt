@@ -6,7 +6,7 @@ use lib.ListN.{length, getD}
 use lib.IntN.{ℤ, pos}
 use borrow.Author.Needs.{needs}
 use Rattle.volts.specs.laws.Keeping.{kept-is, outside-is}
-use Rattle.totals.proofs.Integers.{held}
+use Rattle.whole.specs.laws.Machine.{held}
 use Rattle.given.specs.inner.Nodes.{nodeOf}
 use Rattle.model.specs.Counts.{nodesMost}
 use Rattle.model.proofs.Verdicts.{off-board, on-board}

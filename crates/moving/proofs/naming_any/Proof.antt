@@ -5,7 +5,7 @@ use native.Mathlib.Omega.{arith}
 use lib.ListN.{length, getD}
 use lib.IntN.{pos}
 use borrow.Author.Needs.{needs}
-use Rattle.totals.proofs.Integers.{held}
+use Rattle.whole.specs.laws.Machine.{held}
 use Rattle.given.specs.inner.Nodes.{nodeOf}
 use Rattle.moving.proofs.Pairs.{NamedTo, named-none, named-more, named-all}
 use Rattle.moving.proofs.naming_any.Statement.{statement}

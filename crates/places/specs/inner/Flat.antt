@@ -69,8 +69,8 @@ abbrev pub tiesAt : List Bool → ℕ → Ties
 tiesAt switches i =
     record {
       joined = getD switches (switchesEach * i + 1) false;
-      close = getD switches (switchesEach * i + 2) false;
+      close = getD switches (switchesEach * i + 3) false;
     }
 
 abbrev pub wideAt : List Bool → ℕ → Bool
-wideAt switches i = getD switches (switchesEach * i + 3) false
+wideAt switches i = getD switches (switchesEach * i + 4) false

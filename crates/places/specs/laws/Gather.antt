@@ -94,13 +94,13 @@ module _ (held names numbers powers ticks : List ℕ) (switches : List Bool) whe
   ties-flat i long =
       let a = switch-flat (λ (c : WorkedCard). c .«rcbli_zero») 1 refl (ready-joined numbers powers ticks switches) i
       long in
-      let b = switch-flat (λ (c : WorkedCard). c .«rcblx_zero») 2 refl (ready-close numbers powers ticks switches) i
+      let b = switch-flat (λ (c : WorkedCard). c .«rcblx_zero») 3 refl (ready-close numbers powers ticks switches) i
       long in
       λ j. record { joined = a j; close = b j }
 
   pub wide-flat : (i : ℕ) → length switches ≡ switchesEach * cardsMost → workedAt cards i .wide ≡ wideAt switches i
   wide-flat i long =
-      switch-flat (λ (c : WorkedCard). c .wide) 3 refl (ready-wide numbers powers ticks switches) i long
+      switch-flat (λ (c : WorkedCard). c .wide) 4 refl (ready-wide numbers powers ticks switches) i long
 
 -- ---- transistors
 

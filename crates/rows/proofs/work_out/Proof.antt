@@ -1,13 +1,13 @@
 -- `rows::work_out` meets its contract: the terms are small, and their outcome is the rows' own.
 use mathlib.Core.Path.{_∙_}
 use borrow.Author.Needs.{needs}
-use Rattle.rows.specs.Outcome.{outcomeOf}
+use Rattle.rows.specs.Outcome.{outcomeAcross}
 use Rattle.rows.proofs.RowLaws.{terms-small, outcome-is}
 use Rattle.rows.proofs.work_out.Statement.{statement}
 use Rattle.rows.proofs.work_out.Tie as tie
 
 returns : tie.Need-returns
-unfolding outcomeOf
+unfolding outcomeAcross
 returns c = c .outcome .ensures ∙ outcome-is _ _ (c .before .all-terms .ensures)
 
 pub work-out-spec : {M : Type 1} → statement M

@@ -1,8 +1,9 @@
 -- A list filled from its start, place by place: what is known once k places are filled, and what stands there at the end.
-use mathlib.Core.Path.{_≡_, refl, _∙_}
+use mathlib.Core.Path.{_≡_, refl, ap, _∙_}
 use mathlib.Core.Bool.{Bool, true, false}
 use mathlib.Core.List.{List, [], _∷_, map}
 use Prim.Native.Nat.{ℕ, suc, _+_, _≤_, _<_}
+use native.Mathlib.Nat.{zero-add}
 use native.Mathlib.Omega.{arith}
 use lib.Dec.{eqb}
 use lib.ListN.{length, getD, set, length-set}
@@ -63,3 +64,8 @@ up-map g a (x ∷ l) m k h =
 
     moved : (i : ℕ) → getD m (suc k + i) a ≡ getD m (k + suc i) a
     moved i = let e : suc k + i ≡ k + suc i = omega arith in rw e
+
+-- a list filled from its start with what a function makes of another
+pub filled-map : {A B : Type 0} (g : A → B) (a : A) (l : List A) {d : B} {n k : ℕ} {r : List B} → length l ≡ n →
+    n ≤ k → Filled d n (λ (i : ℕ). g (getD l i a)) k r → r ≡ map g l
+filled-map g a l h m s = filled-all m s ∙ rw (← h) (up-map g a l l 0 (λ i. ap (λ (j : ℕ). getD l j a) (zero-add i)))

@@ -7,7 +7,7 @@ use lib.IntN.{pos}
 use borrow.Author.Needs.{needs}
 use Rattle.terms.specs.Rows.{roles, branches}
 use Rattle.totals.specs.inner.Sums.{More, endsGive}
-use Rattle.totals.proofs.Integers.{held, held-is}
+use Rattle.whole.specs.laws.Machine.{held, held-is}
 use Rattle.totals.proofs.Amounts.{ends-none, ends-more, fair-next}
 use Rattle.totals.proofs.branches.Statement.{statement}
 use Rattle.totals.proofs.branches.Tie as tie

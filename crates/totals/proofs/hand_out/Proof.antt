@@ -8,7 +8,7 @@ use borrow.Author.Needs.{needs}
 use Rattle.terms.specs.Rows.{roles}
 use Rattle.totals.specs.Gives.{nodesMost}
 use Rattle.totals.specs.inner.Sums.{More, spread}
-use Rattle.totals.proofs.Integers.{held, held-is}
+use Rattle.whole.specs.laws.Machine.{held, held-is}
 use Rattle.totals.proofs.Amounts.{spread-none, spread-more, room-next}
 use Rattle.totals.proofs.hand_out.Statement.{statement}
 use Rattle.totals.proofs.hand_out.Tie as tie

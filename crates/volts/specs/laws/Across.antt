@@ -8,7 +8,7 @@ use Rattle.whole.specs.laws.Biased.{sub-up, sub-down, sub-eq, sub-add, below-or
 use Rattle.volts.specs.Volts.{voltsMost, span, givenBack, acrossOf}
 
 -- a difference turned round
-neg-sub : (a b : ℕ) → negℤ (subℕ a b) ≡ subℕ b a
+pub neg-sub : (a b : ℕ) → negℤ (subℕ a b) ≡ subℕ b a
 neg-sub a b = go (below-or-not a b) (below-or-not b a)
   where
     same-none : (m n : ℕ) → n ≤ m → m ≤ n → m - n ≡ 0

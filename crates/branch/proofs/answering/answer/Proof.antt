@@ -5,7 +5,7 @@ use borrow.Author.Needs.{needs}
 use Rattle.volts.specs.Volts.{givenBack}
 use Rattle.card.specs.declared.WorkedCard.{WorkedCard}
 use Rattle.terms.specs.declared.Ready.{Ready}
-use Rattle.rows.specs.Outcome.{outcomeOf}
+use Rattle.polarity.specs.Polarity.{outcomeOf}
 use Rattle.terms.specs.inner.Ready.{IsReady}
 use Rattle.terms.proofs.Laws.{ready-card, ready-made}
 use Rattle.branch.proofs.Replying.{reply-given, reply-over}

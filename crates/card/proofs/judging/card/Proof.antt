@@ -30,6 +30,7 @@ returns c =
       knee = args .knee;
       exsub = args .exsub;
       «rcbli_zero» = args .joined;
+      pnp = args .pnp;
       «rcblx_zero» = args .close;
       wide = args .wide;
     }

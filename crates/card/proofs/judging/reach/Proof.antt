@@ -66,13 +66,13 @@ nanovolts-requires : tie.Need-nanovolts-requires
 nanovolts-requires c κs = known (c .before .before) .before .before .before .before .before .pre .1
 
 microvolts-requires : tie.Need-microvolts-requires
-microvolts-requires c κs = near (tested (passed (c .before) .before))
+microvolts-requires c κs = near (tested (passed (c .before .before) .before))
 
 returns-3 : tie.Need-returns-3
 returns-3 c =
     let tests = c .before in
     let cut = tests .before .before .before .before in
-    let n = cut .before .before in
+    let n = cut .before .before .before in
     let all = passed n .before in
     let k = known all in
     taken (numbers k) _ (is-second k) (near (tested all)) _ (is-worked all) _ _ _ _ (n .nanovolts .ensures)
@@ -102,6 +102,7 @@ reach-spec =
     (λ c κs. search needs)
     (λ c. search needs)
     nanovolts-requires
+    (λ c. search needs)
     (λ c. search needs)
     microvolts-requires
     (λ c. search needs)

@@ -1,0 +1,2 @@
+pub mod Polarity
+pub mod inner
