@@ -406,14 +406,14 @@ module _ (b : Board) (d : Desk) (g : Invariant b) (o : Orderly d) (s : Stands b 
       agree : mapVerdict (heldAt b) (board.mayPlace b card on) ≡ desk.mayPlace d card nodes
       agree = as-asked on ∙ ap asked (sym same-seen) ∙ order-place d card nodes
 
-      new : (i : ℕ) → on ≡ desk.seenBy (heldAt b i) nodes →
+      new : (i : ℕ) → on ≡ desk.lookedBy (heldAt b i) nodes →
           standingOf (cardsOf b)
           (record { issue = b .next; card = heldAt b i .issue; seat = i; nodes = map natAbs on })
           ≡ record {
             issue = d .next;
             card = heldAt b i .issue;
             worked = heldAt b i .worked;
-            nodes = map natAbs (desk.seenBy (heldAt b i) nodes);
+            nodes = map natAbs (desk.lookedBy (heldAt b i) nodes);
           }
       new i e =
           λ j. record {
@@ -428,7 +428,7 @@ module _ (b : Board) (d : Desk) (g : Invariant b) (o : Orderly d) (s : Stands b 
       go (no f) e = record { reply = refl; board = s }
       go (yes i) e =
           let p = places (cardPlace (issueOf card) (cardsOf b)) (b .next) e in
-          let own : on ≡ desk.seenBy (heldAt b i) nodes =
+          let own : on ≡ desk.lookedBy (heldAt b i) nodes =
           ap (λ (f : Found ℕ). lookedAt (wideBy (λ (k : ℕ). workedAt (cardsOf b) k .wide) f) nodes) (p .there) in
           let free = freeTransistor (transistorsOf b) in
           let below = leb-false transistorsMost free (p .room) in

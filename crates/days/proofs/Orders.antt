@@ -16,7 +16,7 @@ use Rattle.model.specs.Verdict.{loadVerdict, placeVerdict, moveVerdict, liftVer
 use Rattle.model.specs.Verdict.{nodeVerdict, refuseOver}
 use Rattle.model.specs.Faults.{refuseFirst, faultsOf}
 use Rattle.settle.specs.declared.First.{First}
-use Rattle.model.specs.Desk.{Held, Standing, Desk, highest, seenBy, movedTo, faultsAt, heldAs, standsAs}
+use Rattle.model.specs.Desk.{Held, Standing, Desk, highest, lookedBy, movedTo, faultsAt, heldAs, standsAs}
 use Rattle.totals.specs.Flow.{overAt}
 use Rattle.given.specs.Lists.{anyOf}
 use Rattle.model.specs.Desk.{mayLoad, mayPlace, mayMove, mayLift, mayWithdraw, mayLookUp, mayRead}
@@ -48,13 +48,13 @@ module _ (d : Desk) where
           (λ (h : Held). overAt (h .worked) (map natAbs (seen found)) (d .volts)) (d .next) (seen found)
           (leb transistorsMost (length (d .standing))) (usedUp (d .next))
           ≡ andThen (known found)
-          (λ (h : Held). refuseIf (someNodeOff (seenBy h nodes)) OutOfRange
-          (refuseIf (torn (tiesOf (h .worked)) (seenBy h nodes)) SplitCollector
+          (λ (h : Held). refuseIf (someNodeOff (lookedBy h nodes)) OutOfRange
+          (refuseIf (torn (tiesOf (h .worked)) (lookedBy h nodes)) SplitCollector
           (refuseIf (leb transistorsMost (length (d .standing))) NoRoom
           (refuseIf (usedUp (d .next)) NumbersUsedUp
-          (refuseFirst (faultsOf (d .next) (h .worked) (map natAbs (seenBy h nodes)) (d .volts)) (yes h))))))
+          (refuseFirst (faultsOf (d .next) (h .worked) (map natAbs (lookedBy h nodes)) (d .volts)) (yes h))))))
       go none = refl
-      go (some h) = rw (refuse-over (d .next) (h .worked) (map natAbs (seenBy h nodes)) (d .volts) (yes h))
+      go (some h) = rw (refuse-over (d .next) (h .worked) (map natAbs (lookedBy h nodes)) (d .volts) (yes h))
 
   -- of the first by which the desk would refuse, if by any
   pub order-move : (pairs : List ℤ) (f : First) →

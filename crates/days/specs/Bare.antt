@@ -16,7 +16,7 @@ use Rattle.given.specs.Lists.{anyOf}
 use Rattle.given.specs.Arguments.{issueOf, someNodeOff, tiesOf, torn, known, usedUp}
 use Rattle.given.specs.Pairs.{arePairs, somePairOff, Shift, shiftsOf}
 use Rattle.model.specs.Counts.{transistorsMost}
-use Rattle.model.specs.Desk.{Held, Standing, Desk, seenBy, movedTo, heldAs}
+use Rattle.model.specs.Desk.{Held, Standing, Desk, lookedBy, movedTo, heldAs}
 
 -- a 15 that tells nothing: no transistor has the number 0, and none has a branch 0
 abbrev pub bare15 : Refusal
@@ -55,11 +55,11 @@ someOverloads d volts = anyOf (λ (t : Standing). overloads (t .worked) (t .node
 abbrev pub placeBefore : Desk → ℤ → List ℤ → Verdict Held
 placeBefore d card nodes =
     andThen (known (heldAs (issueOf card) (d .cards)))
-    (λ (h : Held). refuseIf (someNodeOff (seenBy h nodes)) OutOfRange
-    (refuseIf (torn (tiesOf (h .worked)) (seenBy h nodes)) SplitCollector
+    (λ (h : Held). refuseIf (someNodeOff (lookedBy h nodes)) OutOfRange
+    (refuseIf (torn (tiesOf (h .worked)) (lookedBy h nodes)) SplitCollector
     (refuseIf (leb transistorsMost (length (d .standing))) NoRoom
     (refuseIf (usedUp (d .next)) NumbersUsedUp
-    (refuseIf (overloads (h .worked) (map natAbs (seenBy h nodes)) (d .volts)) bare15 (yes h))))))
+    (refuseIf (overloads (h .worked) (map natAbs (lookedBy h nodes)) (d .volts)) bare15 (yes h))))))
 
 -- moving: 1, 13, 15
 abbrev pub moveBefore : Desk → List ℤ → Verdict (List Shift)

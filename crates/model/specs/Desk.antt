@@ -117,8 +117,8 @@ loaded d name (yes c) =
     }
 
 -- what a card looks at of the nodes that are given
-abbrev pub seenBy : Held → List ℤ → List ℤ
-seenBy h nodes = lookedAt (h .worked .wide) nodes
+abbrev pub lookedBy : Held → List ℤ → List ℤ
+lookedBy h nodes = lookedAt (h .worked .wide) nodes
 
 -- a new transistor, which keeps the card as it is now
 abbrev pub placed : Desk → List ℤ → Verdict Held → Step
@@ -130,7 +130,7 @@ placed d nodes (yes h) =
           record {
             cards = d .cards;
             standing =
-                record { issue = d .next; card = h .issue; worked = h .worked; nodes = map natAbs (seenBy h nodes) } ∷ d .standing;
+                record { issue = d .next; card = h .issue; worked = h .worked; nodes = map natAbs (lookedBy h nodes) } ∷ d .standing;
             volts = d .volts;
             next = suc (d .next);
           };
@@ -210,11 +210,11 @@ mayLoad d name bytes =
 abbrev pub mayPlace : Desk → ℤ → List ℤ → Verdict Held
 mayPlace d card nodes =
     andThen (known (heldAs (issueOf card) (d .cards)))
-    (λ (h : Held). refuseIf (someNodeOff (seenBy h nodes)) OutOfRange
-    (refuseIf (torn (tiesOf (h .worked)) (seenBy h nodes)) SplitCollector
+    (λ (h : Held). refuseIf (someNodeOff (lookedBy h nodes)) OutOfRange
+    (refuseIf (torn (tiesOf (h .worked)) (lookedBy h nodes)) SplitCollector
     (refuseIf (leb transistorsMost (length (d .standing))) NoRoom
     (refuseIf (usedUp (d .next)) NumbersUsedUp
-    (refuseFirst (faultsOf (d .next) (h .worked) (map natAbs (seenBy h nodes)) (d .volts)) (yes h))))))
+    (refuseFirst (faultsOf (d .next) (h .worked) (map natAbs (lookedBy h nodes)) (d .volts)) (yes h))))))
 
 -- Moving voltages together: 1, 13 for any pair, then 15 or 18 for the first that would overload where they end, of all
 -- transistors that stand

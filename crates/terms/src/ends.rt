@@ -57,7 +57,7 @@ pub fn to_roles() -> [u8; BRANCHES]
         E1 as u8,
         C4 as u8,
         S as u8,
-        C1 as u8,
+        C1 as u8, // row 7
         C4 as u8,
         E1 as u8,
         B1 as u8,
