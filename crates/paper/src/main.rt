@@ -21,7 +21,7 @@ fn told_number(a: Admission) -> i64 {
 
 // The reply for a record with the base at v microvolts and every other role at 0.
 fn at_base(bytes: [u8; RECORD], v: i64) -> Reply {
-    branch::currents(&bytes, &[0, v, v, 0, 0, 0, 0])
+    branch::currents(&bytes, &[0, v, v, 0, 0, 0, 0, 0, 0, 0, 0])
 }
 
 fn refusal_at(bytes: [u8; RECORD], v: i64) -> i64 {
