@@ -2,7 +2,7 @@
 //! works only what it changes.
 
 use crate::card::{judge, Card};
-use crate::currents::{by_role, currents, overload, Currents};
+use crate::currents::{by_role, currents, overload, Currents, NARROW, ROLES};
 use crate::library::well_formed;
 use crate::numbers::{Curve, CURVE};
 
@@ -43,12 +43,12 @@ struct Held {
 struct Standing {
     /// The place of its card.
     card: u8,
-    nodes: [u8; 7],
+    nodes: [u8; ROLES],
 }
 
 const NOWHERE: Standing = Standing {
     card: 0,
-    nodes: [0; 7],
+    nodes: [0; ROLES],
 };
 
 pub struct Board {
@@ -96,7 +96,7 @@ fn node(n: i64) -> Result<usize, u32> {
 
 /// Adds a transistor's currents to the totals of its nodes.
 #[inline]
-fn add(totals: &mut [i64; NODES], nodes: &[u8; 7], i: Currents) {
+fn add(totals: &mut [i64; NODES], nodes: &[u8; ROLES], i: Currents) {
     for (n, gives) in nodes.iter().zip(by_role(i)) {
         totals[*n as usize % NODES] += gives;
     }
@@ -115,8 +115,8 @@ impl Board {
             cards: [const { None }; CARDS],
             issues: [0; PLACES],
             standing: [NOWHERE; PLACES],
-            currents: [[0; 8]; PLACES],
-            taken_out: [[0; 8]; PLACES],
+            currents: [[0; 13]; PLACES],
+            taken_out: [[0; 13]; PLACES],
             taken: 0,
             naming: [0; NODES],
             volts: [0; NODES],
@@ -183,16 +183,27 @@ impl Board {
             .map_or(Refused::Number(0), Refused::Fault)
     }
 
-    pub fn place(&mut self, card: i64, nodes: &[i64; 7]) -> Result<i64, Refused> {
+    pub fn place(&mut self, card: i64, nodes: &[i64; ROLES]) -> Result<i64, Refused> {
         let at = self.held(card).ok_or(12u32)?;
         let mut t = NOWHERE;
         t.card = at as u8;
-        for (to, n) in t.nodes.iter_mut().zip(nodes) {
+        let held = self.cards[at].as_ref().map(|c| &c.card);
+        let leads = held.and_then(|c| c.leads);
+        let roles = if leads.is_some() { ROLES } else { NARROW };
+        for (to, n) in t.nodes.iter_mut().zip(&nodes[..roles]) {
             *to = node(*n)? as u8;
         }
-        let direct = self.cards[at].as_ref().is_some_and(|c| c.card.direct);
-        if direct && t.nodes[5] != t.nodes[3] {
+        if held.is_some_and(|c| c.direct) && t.nodes[5] != t.nodes[3] {
             return Err(14.into());
+        }
+        match leads {
+            // a role that the card has not stands where one that it has does
+            None => {
+                let first = t.nodes[0];
+                t.nodes[NARROW..].fill(first);
+            }
+            Some(l) if l.joined && t.nodes[10] != t.nodes[5] => return Err(14.into()),
+            Some(_) => {}
         }
         if self.taken == u64::MAX {
             return Err(11.into());

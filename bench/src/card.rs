@@ -1,6 +1,8 @@
 //! A card: its numbers, sixteen or twenty-four by its version, clipped and worked, or the refusal's number.
 
-use crate::numbers::{gain, highest, Gain, Octave, Scaled, CURVE, RATIO_LIMIT, TICK_LIMIT};
+use crate::numbers::{
+    gain, highest, Conductance, Gain, Octave, Scaled, CURVE, RATIO_LIMIT, TICK_LIMIT,
+};
 
 /// A card as its currents need it.
 #[derive(Clone, Copy, Debug, PartialEq)]
@@ -24,6 +26,16 @@ pub struct Card {
     pub reverse: Option<Reverse>,
     pub alone: Alone,
     pub highest: Highest,
+    /// The series resistors, which only a card of version 2 has.
+    pub leads: Option<Leads>,
+}
+
+/// The five resistors E-E1, B-B1, C-C3, C3-C4 and C4-C1, of which the last two may be none; and whether C3 has to stand
+/// where C4 does.
+#[derive(Clone, Copy, Debug, PartialEq)]
+pub struct Leads {
+    pub g: [Conductance; 5],
+    pub joined: bool,
 }
 
 /// The eighth branch: its value, its T by itself, the doubled octave and the exponential of V_Lr at it.
@@ -134,14 +146,10 @@ pub fn clip(record: &[u8]) -> Result<Clipped, u32> {
     })
 }
 
-/// A finite number that is not negative, as a * 2^b, for its product with m * 2^n in units of 2^-(30 + places).
-fn scaled(x: f64, places: i64, limit: i64) -> Scaled {
+/// A finite number that is not negative, as a * 2^b.
+fn cut(x: f64) -> (u64, i64) {
     if x == 0.0 {
-        return Scaled {
-            a: 0,
-            shift: 0,
-            limit,
-        };
+        return (0, 0);
     }
     let bits = x.to_bits();
     let field = (bits >> 52) as i64;
@@ -155,11 +163,20 @@ fn scaled(x: f64, places: i64, limit: i64) -> Scaled {
         f *= 2;
         k -= 1;
     }
-    Scaled {
-        a: f >> 22,
-        shift: -(k + 22 + places),
-        limit,
-    }
+    (f >> 22, k + 22)
+}
+
+/// The same for its product with m * 2^n in units of 2^-(30 + places).
+fn scaled(x: f64, places: i64, limit: i64) -> Scaled {
+    let (a, b) = cut(x);
+    let shift = if a == 0 { 0 } else { -(b + places) };
+    Scaled { a, shift, limit }
+}
+
+/// The same for its product with microvolts in ticks.
+fn conductance(x: f64) -> Conductance {
+    let (a, b) = cut(x);
+    Conductance { a, down: -(b + 50) }
 }
 
 /// In ticks of 2^-50.
@@ -188,7 +205,7 @@ pub fn judge(record: &[u8]) -> Result<Card, u32> {
     if x[14].fract() != 0.0 || x[14] < 10_000_000.0 || x[14] > 50_000_000.0 {
         return Err(9);
     }
-    let [mult, is, ik, bf, xi, ibf, mlf, bri, iss, icss, iks, _, rcbli, exsub, octave, _, ibr, vlr, ..] =
+    let [mult, is, ik, bf, xi, ibf, mlf, bri, iss, icss, iks, rcblx, rcbli, exsub, octave, _, ibr, vlr, re, rbc, rcc, ..] =
         x;
     let sn = is * mult;
     let bulk = ((1.0 - xi) * sn) / bf;
@@ -201,8 +218,17 @@ pub fn judge(record: &[u8]) -> Result<Card, u32> {
     let rsub = (4.0 * is) / iks;
     let product = mlf * octave;
     let s = ibr * mult;
+    let wide = width == WORDS;
+    // the conductance of a resistor; 0 stands for the one that there is not
+    let leads = [re, rbc, rcc, rcblx, rcbli].map(|r| {
+        if wide && r != 0.0 {
+            mult / (r * 1_000_000.0)
+        } else {
+            0.0
+        }
+    });
     let all = [sn, bulk, side, nonideal, ex, sub, sf, rex, rsub, product, s];
-    if all.iter().any(|v| !v.is_finite()) || product.trunc() > 1e9 || vlr.abs() > 5.0 {
+    if all.iter().chain(&leads).any(|v| !v.is_finite()) || product.trunc() > 1e9 || vlr.abs() > 5.0 {
         return Err(10);
     }
     let exsub = exsub == 1.0;
@@ -260,5 +286,9 @@ pub fn judge(record: &[u8]) -> Result<Card, u32> {
         reverse,
         alone,
         highest,
+        leads: wide.then(|| Leads {
+            g: leads.map(conductance),
+            joined: rcblx == 0.0,
+        }),
     })
 }

@@ -1,25 +1,35 @@
-//! The eight branch currents of a transistor.
+//! The thirteen branch currents of a transistor.
 
 use crate::card::Card;
 use crate::numbers::{gain, over_sum, quotient, root, sum_of, Curve, Scaled};
 
-/// Voltages of E1, B1, B2, C1, C2, C4 and S, in microvolts.
-pub type Volts = [i64; 7];
+/// The roles, in the order of a placing: E1, B1, B2, C1, C2, C4, S, E, B, C and C3.
+pub const ROLES: usize = 11;
+
+/// How many of them a card of version 1 has.
+pub const NARROW: usize = 7;
+
+/// Voltages of the roles, in microvolts.
+pub type Volts = [i64; ROLES];
 
 /// The currents of the branches, in ticks.
-pub type Currents = [i64; 8];
+pub type Currents = [i64; 13];
 
 /// What a transistor gives to the totals of the nodes of its roles.
 #[inline]
-pub fn by_role([i1, i2, i3, i4, i5, i6, i7, i8]: Currents) -> [i64; 7] {
+pub fn by_role([i1, i2, i3, i4, i5, i6, i7, i8, e, b, c, x, i]: Currents) -> [i64; ROLES] {
     [
-        -i1 - i2 - i3 - i4,
-        i3 + i5 + i6 + i8,
+        -i1 - i2 - i3 - i4 - e,
+        i3 + i5 + i6 + i8 - b,
         i2 + i4,
-        -i7,
+        -i7 - i,
         i1,
-        -i5 - i8,
+        -i5 - i8 - x + i,
         i7 - i6,
+        e,
+        b,
+        c,
+        x - c,
     ]
 }
 
@@ -47,11 +57,18 @@ fn turned(x: i64, turn: i64) -> i64 {
     (x ^ turn) - turn
 }
 
+/// The voltages over the five resistors.
+#[inline(always)]
+fn drops(&[e1, b1, _, c1, _, c4, _, e, b, c, c3]: &Volts) -> [i64; 5] {
+    [e - e1, b - b1, c - c3, c3 - c4, c4 - c1]
+}
+
 /// The currents, or nothing where the transistor overloads. Each exponential is worked once for the rows that share it,
 /// and judged by its position alone.
 #[inline(always)]
 pub fn currents(curve: &Curve, c: &Card, v: &Volts) -> Option<Currents> {
-    let [e1, b1, b2, c1, c2, c4, s] = v.map(|x| turned(x, c.turn));
+    let v = &v.map(|x| turned(x, c.turn));
+    let [e1, b1, b2, c1, c2, c4, s, ..] = *v;
     let b2e1 = gain(curve, b2 - e1, c.octave);
     let b2c2 = gain(curve, b2 - c2, c.octave);
     let b1e1 = gain(curve, b1 - e1, c.octave);
@@ -82,6 +99,19 @@ pub fn currents(curve: &Curve, c: &Card, v: &Volts) -> Option<Currents> {
             over_sum(r.s.floor(b1c4) - r.alone, y)?
         }
     };
+    let [i9, i10, i11, i12, i13] = match &c.leads {
+        None => [0; 5],
+        Some(leads) => {
+            let [e, b, c, x, i] = drops(v);
+            [
+                leads.g[0].through(e)?,
+                leads.g[1].through(b)?,
+                leads.g[2].through(c)?,
+                leads.g[3].through(x)?,
+                leads.g[4].through(i)?,
+            ]
+        }
+    };
     let upright = [
         shared(
             c.sn.floor(b2e1) - c.sn.floor(b2c2),
@@ -95,6 +125,11 @@ pub fn currents(curve: &Curve, c: &Card, v: &Volts) -> Option<Currents> {
         shared(c.sub.floor(b1c4) - minus, 0, c.rsub.floor(b1c4)),
         c.sf.floor(sc1) - c.alone.sf,
         i8,
+        i9,
+        i10,
+        i11,
+        i12,
+        i13,
     ];
     Some(upright.map(|x| turned(x, c.turn)))
 }
@@ -102,7 +137,8 @@ pub fn currents(curve: &Curve, c: &Card, v: &Volts) -> Option<Currents> {
 /// Of a transistor that overloads, the first branch that does, and by what: 15 for a T, 18 for a ratio.
 #[cold]
 pub fn overload(curve: &Curve, c: &Card, v: &Volts) -> Option<(u32, u32)> {
-    let [e1, b1, b2, c1, c2, c4, s] = v.map(|x| turned(x, c.turn));
+    let v = &v.map(|x| turned(x, c.turn));
+    let [e1, b1, b2, c1, c2, c4, s, ..] = *v;
     let at = |x: Scaled, volts: i64| x.within(gain(curve, volts, c.octave));
     let alone = |x: Scaled| x.alone().is_some();
     let x = if c.exsub {
@@ -134,7 +170,9 @@ pub fn overload(curve: &Curve, c: &Card, v: &Volts) -> Option<(u32, u32)> {
         (at(c.sf, s - c1) && alone(c.sf), true),
         (eighth, true),
     ];
-    rows.iter().zip(1..).find_map(|(&(ticks, ratio), branch)| {
+    let leads = c.leads.iter().flat_map(|l| l.g.iter().zip(drops(v)));
+    let leads = leads.map(|(g, volts)| (g.through(volts).is_some(), true));
+    rows.into_iter().chain(leads).zip(1..).find_map(|((ticks, ratio), branch)| {
         if !ticks {
             Some((branch, 15))
         } else if !ratio {

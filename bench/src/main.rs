@@ -166,7 +166,8 @@ fn time_exponential(times: u64) {
     println!("{sum}");
 }
 
-/// Seven voltages of which no two go together, so that no exponential serves two rows by chance; a PNP's have the other sign.
+/// Eleven voltages of which no two go together, so that no exponential serves two rows by chance; a PNP's have the other
+/// sign.
 fn time_currents(times: u64, record: &[u8], collector: i64, slope: i64, sign: i64) {
     let curve = *numbers::CURVE;
     let c = card::judge(record).unwrap();
@@ -175,11 +176,30 @@ fn time_currents(times: u64, record: &[u8], collector: i64, slope: i64, sign: i6
         x = (x * 1103 + 12345) % 65536;
         let y = x as i64;
         let (b, h) = (600_000 + 2 * y, collector + slope * y);
-        let v = [0, b, b - y / 8, h, h + y / 16, h + y / 32, 0].map(|v| sign * v);
-        let t = currents::currents(&curve, &c, &v).unwrap_or([0; 8]);
+        let (c1, c4) = (h, h + y / 32);
+        let v = [
+            0,
+            b,
+            b - y / 8,
+            c1,
+            h + y / 16,
+            c4,
+            0,
+            -y / 4,
+            b + y / 2,
+            c4 + y,
+            c4 + y / 2,
+        ]
+        .map(|v| sign * v);
+        let t = currents::currents(&curve, &c, &v).unwrap_or([0; 13]);
         sum = t.iter().fold(sum, |s, t| s.wrapping_add(*t as u64));
     }
     println!("{sum}");
+}
+
+/// A placing of a card of version 1: the four other nodes are not looked at.
+fn narrow(nodes: [i64; currents::NARROW]) -> [i64; currents::ROLES] {
+    std::array::from_fn(|k| nodes.get(k).copied().unwrap_or(-1))
 }
 
 /// One number of every total and voltage.
@@ -197,7 +217,7 @@ fn time_moves(times: u64, places: i64, node: impl Fn(u64) -> u64, microvolts: i6
     b.load(b"a", &timed_record()).unwrap();
     for i in 0..places {
         let n = 1 + i % 8;
-        b.place(1, &[0, n, n, 20, 20, 20, 0]).unwrap();
+        b.place(1, &narrow([0, n, n, 20, 20, 20, 0])).unwrap();
     }
     let mut x = 1u32;
     let mut next = (20, 2_000_000);
@@ -215,7 +235,7 @@ fn time_stages(times: u64, together: bool) {
     b.load(b"a", &timed_record()).unwrap();
     for i in 0..64 {
         let e = 4 * (i % 8);
-        b.place(1, &[e, e + 1, e + 1, e + 2, e + 2, e + 2, e + 3])
+        b.place(1, &narrow([e, e + 1, e + 1, e + 2, e + 2, e + 2, e + 3]))
             .unwrap();
     }
     let mut x = 1u32;
@@ -248,7 +268,7 @@ fn time_pair(times: u64) {
             b = board::Board::fresh();
             b.load(b"a", &timed_record()).unwrap();
         }
-        let i = b.place(1, &[0, 1, 1, 2, 2, 2, 3]).unwrap();
+        let i = b.place(1, &narrow([0, 1, 1, 2, 2, 2, 3])).unwrap();
         b.lift(i).unwrap();
     }
     println!("{}", told(&b));

@@ -145,6 +145,39 @@ impl Scaled {
     }
 }
 
+/// A conductance in amperes for a microvolt: a * 2^b as the other values are cut, for its product with microvolts.
+#[derive(Clone, Copy, Debug, PartialEq)]
+pub struct Conductance {
+    pub a: u64,
+    pub down: i64,
+}
+
+impl Conductance {
+    /// The sign of the voltage times floor(g * |V|) in ticks, where that is at most 2^53 in size. The product is below
+    /// 2^54, so that a shift above 63 gives 0 as 63 does.
+    #[inline(always)]
+    pub fn through(self, microvolts: i64) -> Option<i64> {
+        let product = self.a * microvolts.unsigned_abs();
+        let size = if self.down >= 0 {
+            product >> self.down.min(63)
+        } else if product == 0 {
+            0
+        } else if self.down > -54 && product <= (TICK_LIMIT as u64) >> -self.down {
+            product << -self.down
+        } else {
+            return None;
+        };
+        if size > TICK_LIMIT as u64 {
+            return None;
+        }
+        Some(if microvolts < 0 {
+            -(size as i64)
+        } else {
+            size as i64
+        })
+    }
+}
+
 /// The highest position at which all values are within their limits: the gain grows with the position, so they are at
 /// every lower one too, and one comparison judges them all.
 pub fn highest(values: &[Scaled]) -> i64 {

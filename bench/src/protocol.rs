@@ -2,6 +2,7 @@
 
 use crate::board::{Board, Refused};
 use crate::card::{clip, judge};
+use crate::currents::ROLES;
 use crate::library;
 use std::fmt::Write;
 
@@ -163,9 +164,10 @@ impl Desk {
                 let bytes = hex(rest[1])?;
                 told(self.board.load(rest[0], &bytes), |i| format!("card {i}"))
             }
-            (b"place", 8) => {
+            (b"place", 8 | 12) => {
                 let n: Vec<i64> = rest.iter().map(|w| number(w)).collect::<Option<_>>()?;
-                let nodes = n[1..].try_into().unwrap();
+                let mut nodes = [-1; ROLES];
+                nodes[..n.len() - 1].copy_from_slice(&n[1..]);
                 told(self.board.place(n[0], &nodes), |i| {
                     format!("transistor {i}")
                 })

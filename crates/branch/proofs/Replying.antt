@@ -18,7 +18,7 @@ use Rattle.branch.specs.declared.Reply.{Reply}
 use Rattle.branch.specs.declared.answering.Keeping.{Keeping}
 use Rattle.rows.specs.Outcome.{isOver, drawnBy}
 use Rattle.polarity.specs.Polarity.{outcomeOf}
-use Rattle.branch.specs.Currents.{atOutcome, atVolts, currentsOf, toldReply, ticksOr, Replies}
+use Rattle.branch.specs.Currents.{atOutcome, atSeen, atVolts, currentsOf, toldReply, ticksOr, Replies}
 use Rattle.branch.specs.inner.Replied.{refusedReply, replyOf, Keeps}
 use Rattle.branch.proofs.Kept.{within-on, outside-off, within-back}
 
@@ -37,11 +37,11 @@ module _ {x y : Outcome} (e : x ≡ y) where
 
 module _ (c : WorkedCard) {volts : List ℤ} {k : Keeping} {r : Reply} (h : Keeps volts k) where
   pub reply-within : k .within ≡ true → r ≡ replyOf (atOutcome (outcomeOf c (map givenBack (k .volts)))) →
-      r ≡ replyOf (atVolts c volts)
+      r ≡ replyOf (atSeen c volts)
   reply-within w q =
       rw (within-on h w) (q ∙ ap (λ (l : List ℤ). replyOf (atOutcome (outcomeOf c l))) (within-back h w))
 
-  pub reply-outside : k .within ≡ false → r ≡ refusedReply OutOfRange → r ≡ replyOf (atVolts c volts)
+  pub reply-outside : k .within ≡ false → r ≡ refusedReply OutOfRange → r ≡ replyOf (atSeen c volts)
   reply-outside w q = rw (outside-off h w) q
 
 -- ---- from a record

@@ -15,6 +15,7 @@ use Rattle.branch.specs.declared.Admission.{Admission}
 use Rattle.branch.specs.declared.Admission.the-variants.{Given, Refused}
 use Rattle.branch.specs.declared.Reply.{Reply}
 use Rattle.terms.specs.Rows.{branches}
+use Rattle.terms.specs.Looked.{lookedAt}
 use Rattle.rows.specs.Outcome.{isOver, drawnBy}
 use Rattle.polarity.specs.Polarity.{outcomeOf}
 
@@ -24,8 +25,12 @@ abbrev pub atOutcome : Outcome → Verdict (List ℤ)
 atOutcome x = refuseIf (isOver (x .over)) (drawnBy 0 (x .over)) (yes (x .ticks))
 
 -- of a worked card: 13 for a voltage outside its range, then 15 or 18
+abbrev pub atSeen : WorkedCard → List ℤ → Verdict (List ℤ)
+atSeen c volts = refuseIf (someOff volts) OutOfRange (atOutcome (outcomeOf c volts))
+
+-- at the voltages that the card looks at
 abbrev pub atVolts : WorkedCard → List ℤ → Verdict (List ℤ)
-atVolts c volts = refuseIf (someOff volts) OutOfRange (atOutcome (outcomeOf c volts))
+atVolts c volts = atSeen c (lookedAt (c .wide) volts)
 
 -- of a record: what loading refuses first
 unfoldable pub currentsOf : List ℕ → List ℤ → Verdict (List ℤ)

@@ -15,6 +15,7 @@ use crate::prepare;
 use crate::work_out;
 use card::WorkedCard;
 use refusal::Refusal;
+use terms::looked_at;
 use volts::Voltage;
 
 pub(crate) fn turned_away(f: Refusal) -> Reply
@@ -78,7 +79,8 @@ pub(crate) fn card_currents(c: WorkedCard, volts: &[i64; ROLES]) -> Reply
     ensures { λ r. ⌜ r ≡ replyOf (atVolts c (now (volts .entry))) ⌝ }
 {
     let given = *volts;
-    let k = keep_all(given);
+    let seen = looked_at(c.wide, given);
+    let k = keep_all(seen);
     if k.within {
         let kept = k.volts;
         return answer(c, kept);

@@ -21,8 +21,9 @@ use Rattle.clip.specs.Limits.{zero, one, tenth}
 use Rattle.working.specs.Work.{workedOf, allFinite}
 use Rattle.card.specs.Octave.{ten-million, fifty-million, wholePart, octaveGood, secondGood}
 use Rattle.card.specs.Knee.{kneeGood, kneeOf}
-use Rattle.card.specs.Judge.{parametersOf, exsub, rcbli, octave, level, vlr, mlf, product, cardFrom, cardOf}
-use Rattle.card.specs.Judge.{polarity, minusOne, level504, settingsGood, withinReach, reachOf, judgeNumbers}
+use Rattle.card.specs.Judge.{hasLeads, parametersOf, exsub, rcblx, rcbli, octave, level, vlr, mlf, product}
+use Rattle.card.specs.Judge.{cardFrom, cardOf, polarity, minusOne, level504, settingsGood, withinReach, reachOf}
+use Rattle.card.specs.Judge.{judgeNumbers}
 use Rattle.card.specs.inner.Octaves.{secondIf, secondOf}
 use Rattle.card.specs.inner.Tests.{unlessPassed, firstWrong}
 use Rattle.card.specs.inner.Worked.{GoodMlf}
@@ -122,9 +123,10 @@ module _ (x : List Float) where
       pub not-all : allFinite w ≡ false → refused (told OutOfReach) ≡ tells (reachOf x)
       not-all a = out-of-reach (reach ∙ a)
 
-      pub taken : (n v : ℕ) (c : WorkedCard) → n ≡ wholePart (octave x) → v ≡ kneeOf (vlr x)
-          → c ≡ cardFrom w n k v (eq (exsub x) one) (eq (rcbli x) zero) (eq (polarity x) minusOne) → allFinite w ≡ true
-          → given c ≡ tells (reachOf x)
-      taken n v c en ev ec a =
-          let card : c ≡ cardOf x = ec ∙ rw (en, told-second (secondGood (product x)) _ k p .1, ev, ew) in
+      pub taken : (n v : ℕ) (l : Bool) (c : WorkedCard) → n ≡ wholePart (octave x) → v ≡ kneeOf (vlr x)
+          → l ≡ hasLeads x
+          → c ≡ cardFrom w n k v (eq (exsub x) one) (eq (rcbli x) zero) (eq (polarity x) minusOne) (eq (rcblx x) zero) l
+          → allFinite w ≡ true → given c ≡ tells (reachOf x)
+      taken n v l c en ev el ec a =
+          let card : c ≡ cardOf x = ec ∙ rw (en, told-second (secondGood (product x)) _ k p .1, ev, el, ew) in
           ap given card ∙ rw (reach, a)

@@ -14,7 +14,8 @@ use lib.Ieee.Positive.{num, den}
 use lib.Ieee.Scale.{finite}
 use borrow.Author.Tests.{ltb-true, ltb-false, eqb-true, lt-ltb, le-ltb}
 use Rattle.clip.specs.Limits as limits
-use Rattle.card.specs.Knee.{five, million, kneeGood, microvoltsOf, kneeRaise, kneeKept, kneeOf, kneeMost}
+use Rattle.working.specs.Work.{million}
+use Rattle.card.specs.Knee.{five, kneeGood, microvoltsOf, kneeRaise, kneeKept, kneeOf, kneeMost}
 use Rattle.card.specs.laws.Sign.{unsigned}
 use Rattle.card.proofs.Clipped.{and-true}
 use Rattle.card.proofs.Range.{holds}

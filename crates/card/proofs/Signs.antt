@@ -30,7 +30,7 @@ plus-unsigned (inf s) p = absurd p
 plus-unsigned (fin s m e) p = p
 
 -- ---- the operations
-cond-unsigned : (b : Bool) (x y : Float) → T (unsigned x) → T (unsigned y) → T (unsigned (cond b x y))
+pub cond-unsigned : (b : Bool) (x y : Float) → T (unsigned x) → T (unsigned y) → T (unsigned (cond b x y))
 cond-unsigned true x y p q = p
 cond-unsigned false x y p q = q
 
@@ -68,15 +68,19 @@ mul-unsigned f (fin false m e) (inf false) p q = cond-unsigned (eqb m 0) nan (in
 mul-unsigned f (fin false m e) (fin true n d) p q = absurd q
 mul-unsigned f (fin false m e) (fin false n d) p q = round-unsigned f (m * up e * (n * up d)) (down e * down d)
 
-pub div-unsigned : (f : Format) (x y : Float) → T (unsigned x) → T (plus y) → T (unsigned (div f x y))
+pub div-unsigned : (f : Format) (x y : Float) → T (unsigned x) → T (unsigned y) → T (unsigned (div f x y))
 unfolding div
-div-unsigned f x nan p q = absurd q
-div-unsigned f x (inf s) p q = absurd q
-div-unsigned f x (fin true n d) p q = absurd q
-div-unsigned f nan (fin false n d) p q = tt
-div-unsigned f (inf true) (fin false n d) p q = absurd p
+div-unsigned f nan y p q = tt
+div-unsigned f (inf true) y p q = absurd p
+div-unsigned f (fin true m e) y p q = absurd p
+div-unsigned f (inf false) nan p q = tt
+div-unsigned f (inf false) (inf t) p q = tt
+div-unsigned f (fin false m e) nan p q = tt
+div-unsigned f (fin false m e) (inf true) p q = absurd q
+div-unsigned f (fin false m e) (inf false) p q = tt
+div-unsigned f (inf false) (fin true n d) p q = absurd q
+div-unsigned f (fin false m e) (fin true n d) p q = absurd q
 div-unsigned f (inf false) (fin false n d) p q = tt
-div-unsigned f (fin true m e) (fin false n d) p q = absurd p
 div-unsigned f (fin false m e) (fin false n d) p q =
     cond-unsigned (eqb n 0) (cond (eqb m 0) nan (inf false)) (round f false (m * up e * down d) (n * up d * down e))
     (cond-unsigned (eqb m 0) nan (inf false) tt tt)

@@ -1,4 +1,4 @@
--- The ten worked values of a record's clipped numbers have no minus sign.
+-- The fifteen worked values of a record's clipped numbers have no minus sign.
 use mathlib.Core.Path.{_≡_, refl, sym, ap, subst, _∙_}
 use mathlib.Core.Bool.{Bool, true, false, cond}
 use mathlib.Core.List.{List}
@@ -11,22 +11,26 @@ use Rattle.working.specs.declared.Worked.{Worked}
 use Rattle.clip.specs.declared.limits.Rule.{Rule}
 use Rattle.clip.specs.declared.limits.Rule.the-variants.{Free, AtLeast, Between}
 use Rattle.clip.specs.Numbers as number
-use Rattle.clip.specs.Limits.{wide, narrow, zero, one, pico, tenth-milli, tenth-nano, ruleOf, plainOf, clipTo}
+use Rattle.clip.specs.Limits.{wide, narrow, zero, one, pico, tenth-milli, tenth-nano, milli, ruleOf, plainOf, clipTo}
 use Rattle.clip.specs.Record.{isWide, numberAt, widthOf, finiteUp}
 use Rattle.clip.specs.Clip.{clippedAt}
-use Rattle.working.specs.Work.{four, sfOf, workedOf, valuesOf}
-use Rattle.card.specs.Judge.{numbersFor, judgedNumbers, at, parametersOf}
+use Rattle.working.specs.Work.{four, million, sfOf, conductanceOf, workedOf, valuesOf}
+use Rattle.card.specs.Judge.{numbersFor, judgedNumbers, at, hasLeads, resistanceOf, parametersOf}
 use Rattle.card.specs.inner.Worked.{Each}
 use Rattle.card.specs.laws.Sign.{unsigned, Unsigned}
 use Rattle.card.proofs.Range.{holds}
 use Rattle.card.proofs.Clipped.{each-finite, in-both, each-judged, each-missing}
 use Rattle.card.proofs.Signs.{plus, plus-unsigned, zero-plus, kept-plus, least-plus, between-plus, mul-unsigned}
-use Rattle.card.proofs.Signs.{div-unsigned, sub-unsigned}
+use Rattle.card.proofs.Signs.{cond-unsigned, div-unsigned, sub-unsigned}
 
 -- ---- the limits
-limits-plus : T (plus one) × T (plus four) × T (plus pico) × T (plus tenth-milli) × T (plus tenth-nano)
+limits-plus : T (plus one) × T (plus four) × T (plus pico) × T (plus tenth-milli) × T (plus tenth-nano) × T (plus million)
 unfolding ofBits
-limits-plus = (tt, tt, tt, tt, tt)
+limits-plus = (tt, tt, tt, tt, tt, tt)
+
+milli-plus : T (plus milli)
+unfolding ofBits
+milli-plus = tt
 
 -- ---- XI_B1 is not above 1
 zero-under : lt one zero ≡ false
@@ -68,6 +72,13 @@ sf-unsigned icss mult sub p q r = of (lt icss zero) refl
     of true e = r
     of false e = mul-unsigned binary64 icss mult (plus-unsigned icss (p e)) q
 
+-- ---- a conductance, of a resistance without a minus sign
+conductance-unsigned : (mult r : Float) → T (unsigned mult) → T (unsigned r) → T (unsigned (conductanceOf mult r))
+conductance-unsigned mult r p q =
+    cond-unsigned (eq r zero) zero _ (plus-unsigned zero zero-plus)
+    (div-unsigned binary64 mult (mul binary64 r million) p
+    (mul-unsigned binary64 r million q (plus-unsigned million (limits-plus .5))))
+
 module _ (s : List ℕ) (b : Bool) (f : finiteUp s (cond b wide narrow) ≡ true) where
   abbrev x : List Float
   x = numbersFor b s
@@ -90,9 +101,12 @@ module _ (s : List ℕ) (b : Bool) (f : finiteUp s (cond b wide narrow) ≡ true
   least : (i : ℕ) (low : Float) → i < narrow → ruleOf i ≡ AtLeast low → T (plus low) → T (plus (at x i))
   least i low h = from-least i low (in-both b i h)
 
+  above : (i : ℕ) (low : Float) → i < narrow → ruleOf i ≡ AtLeast low → T (plus low) → T (unsigned (at x i))
+  above i low h e p = plus-unsigned (at x i) (least i low h e p)
+
   -- a parameter whose least is zero
   from-zero : (i : ℕ) → i < narrow → ruleOf i ≡ AtLeast zero → T (unsigned (at x i))
-  from-zero i h e = plus-unsigned (at x i) (least i zero h e zero-plus)
+  from-zero i h e = above i zero h e zero-plus
 
   abbrev xibi : Float
   xibi = at x number.xibi
@@ -116,38 +130,67 @@ module _ (s : List ℕ) (b : Bool) (f : finiteUp s (cond b wide narrow) ≡ true
       let e = by-rule number.icss Free l refl in
       rw e (free-plus (numberAt s number.icss) (number-finite number.icss l) (rw e at h))
 
-  -- the reverse current, given that its parameter has no minus sign
-  values-unsigned : T (plus (at x number.ibr)) → Each Unsigned (valuesOf w)
-  values-unsigned ibr =
+  -- a resistor's, where its resistance has no minus sign or counts for nothing
+  lead-unsigned : (i : ℕ) → T (unsigned (at x i)) → T (unsigned (conductanceOf (at x number.mult) (resistanceOf x i)))
+  lead-unsigned i p =
+      conductance-unsigned (at x number.mult) (resistanceOf x i) (from-zero number.mult (omega arith) refl)
+      (cond-unsigned (hasLeads x) (at x i) zero p (plus-unsigned zero zero-plus))
+
+  -- the words that not every record has, without a minus sign
+  record Further : Type 0 where
+    pub ibr : T (plus (at x number.ibr))
+    pub re : T (plus (at x number.re))
+    pub rbc : T (plus (at x number.rbc))
+    pub rcc : T (plus (at x number.rcc))
+
+  values-unsigned : Further → Each Unsigned (valuesOf w)
+  values-unsigned more =
       let times = mul-unsigned binary64 in
       let over = div-unsigned binary64 in
       let mult = from-zero number.mult (omega arith) refl in
       let is = from-zero number.is (omega arith) refl in
       let iss = from-zero number.iss (omega arith) refl in
-      let bf = least number.bf tenth-milli (omega arith) refl (limits-plus .3) in
+      let bf = above number.bf tenth-milli (omega arith) refl (limits-plus .3) in
       let sn = times (at x number.is) (at x number.mult) is mult in
       let ss = times (at x number.iss) (at x number.mult) iss mult in
       let fourfold = times four (at x number.is) (plus-unsigned four (limits-plus .1)) is in
       let bulk = times (sub binary64 one xibi) (w .sn) left-of-one sn in
       let side = times xibi (w .sn) (plus-unsigned xibi xibi-plus) sn in
       let nonideal = times (at x number.ibf) (at x number.mult) (from-zero number.ibf (omega arith) refl) mult in
-      let bri = least number.bri tenth-nano (omega arith) refl (limits-plus .4) in
+      let bri = above number.bri tenth-nano (omega arith) refl (limits-plus .4) in
       let sf = sf-unsigned (at x number.icss) (at x number.mult) (w .sub) icss-plus mult ss in
-      let ik = least number.ik pico (omega arith) refl (limits-plus .2) in
-      let iks = least number.iks pico (omega arith) refl (limits-plus .2) in
+      let ik = above number.ik pico (omega arith) refl (limits-plus .2) in
+      let iks = above number.iks pico (omega arith) refl (limits-plus .2) in
       let bulk-share = over (mul binary64 (sub binary64 one xibi) (w .sn)) (at x number.bf) bulk bf in
       let side-share = over (mul binary64 xibi (w .sn)) (at x number.bf) side bf in
       let ex = over (w .sn) (at x number.bri) sn bri in
       let rex = over (mul binary64 four (at x number.is)) (at x number.ik) fourfold ik in
       let rsub = over (mul binary64 four (at x number.is)) (at x number.iks) fourfold iks in
-      let reverse = times (at x number.ibr) (at x number.mult) (plus-unsigned (at x number.ibr) ibr) mult in
-      (sn, (bulk-share, (side-share, (nonideal, (ex, (ss, (sf, (rex, (rsub, (reverse, tt))))))))))
+      let reverse = times (at x number.ibr) (at x number.mult) (plus-unsigned (at x number.ibr) (more .ibr)) mult in
+      let ge = lead-unsigned number.re (plus-unsigned (at x number.re) (more .re)) in
+      let gbc = lead-unsigned number.rbc (plus-unsigned (at x number.rbc) (more .rbc)) in
+      let gcc = lead-unsigned number.rcc (plus-unsigned (at x number.rcc) (more .rcc)) in
+      let gblx = lead-unsigned number.rcblx (from-zero number.rcblx (omega arith) refl) in
+      let gbli = lead-unsigned number.rcbli (from-zero number.rcbli (omega arith) refl) in
+      (sn, (bulk-share, (side-share, (nonideal, (ex, (ss, (sf, (rex, (rsub, (reverse, (ge, (gbc, (gcc, (gblx, (gbli, tt)))))))))))))))
 
--- I_Br, which a record of version 1 has not
-ibr-plus : (s : List ℕ) (b : Bool) → finiteUp s (cond b wide narrow) ≡ true → T (plus (at (numbersFor b s) number.ibr))
-ibr-plus s true f = from-least s true f number.ibr zero (omega arith) refl zero-plus
-ibr-plus s false f = rw (each-missing s 0) zero-plus
+-- I_Br and three resistances, which a record of version 1 has not
+further : (s : List ℕ) (b : Bool) (f : finiteUp s (cond b wide narrow) ≡ true) → Further s b f
+further s true f =
+    record {
+      ibr = from-least s true f number.ibr zero (omega arith) refl zero-plus;
+      re = from-least s true f number.re milli (omega arith) refl milli-plus;
+      rbc = from-least s true f number.rbc milli (omega arith) refl milli-plus;
+      rcc = from-least s true f number.rcc milli (omega arith) refl milli-plus;
+    }
+further s false f =
+    record {
+      ibr = rw (each-missing s 0) zero-plus;
+      re = rw (each-missing s 2) zero-plus;
+      rbc = rw (each-missing s 3) zero-plus;
+      rcc = rw (each-missing s 4) zero-plus;
+    }
 
 pub worked-unsigned : (s : List ℕ) → finiteUp s (widthOf s) ≡ true
     → Each Unsigned (valuesOf (workedOf (parametersOf (judgedNumbers s))))
-worked-unsigned s f = values-unsigned s (isWide s) f (ibr-plus s (isWide s) f)
+worked-unsigned s f = values-unsigned s (isWide s) f (further s (isWide s) f)

@@ -1,32 +1,39 @@
--- A record of version 2 that says no more than one of version 1 is judged alike, and its card is the same but for V_Lr.
+-- A record of version 2 that says no more than one of version 1 is judged alike, and its card is the same but for V_Lr and
+-- the series resistors, which version 2 alone has.
 use mathlib.Core.Path.{_≡_, refl, sym, ap, ap₂, _∙_}
-use mathlib.Core.Bool.{Bool, true, false, not, _&&_}
-use mathlib.Core.List.{List}
+use mathlib.Core.Bool.{Bool, true, false, not, cond, _&&_}
+use mathlib.Core.List.{List, [], _∷_}
 use Prim.Native.Nat.{ℕ, zero, suc, _*_, _≤_, _<_}
+use native.Mathlib.Nat.{mul-pos, zero-mul}
 use native.Mathlib.Omega.{arith}
+use lib.Dec.{T, ltb→lt}
 use native.Mathlib.Decide.{ℕ-discrete}
 use lib.ListN.{length, drop-of-length-le}
-use lib.Ieee.{Float, binary64, ofBits, neg, mul, le, eq}
+use lib.Ieee.{Float, nan, inf, fin, binary64, ofBits, neg, mul, lt, le, eq, up, down}
+use lib.Ieee.Fits.{up-pos}
+use lib.Ieee.Positive.{positive}
 use lib.Ieee.Scale.{finite}
-use borrow.Author.Tests.{eqb-true, ne-eqb}
+use borrow.Author.Tests.{eqb-true, ne-eqb, lt-ltb}
 use Rattle.refusal.specs.declared.Refusal.the-variants.{NotFinite, WrongLevel, BadExsub, BadOctave, OutOfReach}
 use Rattle.refusal.specs.Order as order
 use Rattle.refusal.specs.Order.{Verdict, refuseIf}
-use Rattle.working.specs.declared.Parameters.{Parameters}
+use Rattle.working.specs.declared.Worked.{Worked}
 use Rattle.card.specs.declared.WorkedCard.{WorkedCard}
 use Rattle.clip.specs.Numbers as number
 use Rattle.clip.specs.Limits as limits
-use Rattle.clip.specs.Limits.{one, wide, narrow, ruleOf, clipTo}
-use Rattle.clip.specs.Record.{isWide, finiteUp}
+use Rattle.clip.specs.Limits.{one, milli, wide, narrow, ruleOf, clipTo}
+use Rattle.clip.specs.Record.{isWide, widthOf, numberAt, finiteUp}
 use Rattle.clip.specs.Clip.{clippedAt}
-use Rattle.working.specs.Work.{workedOf, allFinite}
+use Rattle.working.specs.Work.{conductanceOf, workedOf, leadsOf, all, allFinite}
 use Rattle.card.specs.Octave.{octaveGood, secondGood}
-use Rattle.card.specs.Knee.{kneeGood, kneeOf}
-use Rattle.card.specs.Judge.{numbersFor, at, parametersOf, level, level504, octave, vlr, polarity, sparesGood}
+use Rattle.card.specs.Knee.{kneeGood}
+use Rattle.card.specs.Judge.{numbersFor, judgedNumbers, at, hasLeads, resistanceOf, parametersOf, level, level504, octave, vlr, polarity, sparesGood}
 use Rattle.card.specs.Judge.{settingsGood, withinReach, cardOf, judgeNumbers, judgeOf}
 use Rattle.card.specs.laws.Tells.{judge-order}
-use Rattle.card.specs.laws.Version.{SaysNoMore, atKnee, judgedAtKnee}
-use Rattle.card.proofs.Clipped.{each-judged, each-missing}
+use Rattle.card.specs.laws.Version.{SaysNoMore, withLeads, judgedWithLeads}
+use Rattle.card.proofs.Range.{holds}
+use Rattle.card.proofs.Raise.{raised}
+use Rattle.card.proofs.Clipped.{each-finite, each-judged, each-missing}
 
 and-yes : (b : Bool) → b && true ≡ b
 and-yes true = refl
@@ -44,7 +51,8 @@ shaped : (spares : Bool) (x : List Float)
 unfolding shape
 shaped spares x = refl
 
-shape-at : (v : ℕ) (a b c d : Bool) (w : WorkedCard) → shape a b c d (atKnee v w) ≡ judgedAtKnee v (shape a b c d w)
+shape-at : (v : WorkedCard) (a b c d : Bool) (w : WorkedCard)
+    → shape a b c d (withLeads v w) ≡ judgedWithLeads v (shape a b c d w)
 unfolding shape
 shape-at v false b c d w = refl
 shape-at v true false c d w = refl
@@ -52,8 +60,8 @@ shape-at v true true false d w = refl
 shape-at v true true true false w = refl
 shape-at v true true true true w = refl
 
-refuse-at : (v : ℕ) (b : Bool) (j : Verdict WorkedCard)
-    → refuseIf b NotFinite (judgedAtKnee v j) ≡ judgedAtKnee v (refuseIf b NotFinite j)
+refuse-at : (v : WorkedCard) (b : Bool) (j : Verdict WorkedCard)
+    → refuseIf b NotFinite (judgedWithLeads v j) ≡ judgedWithLeads v (refuseIf b NotFinite j)
 refuse-at v true j = refl
 refuse-at v false j = refl
 
@@ -61,6 +69,76 @@ refuse-at v false j = refl
 zero-is-near : kneeGood limits.zero ≡ true
 unfolding ofBits neg le
 zero-is-near = refl
+
+-- ---- series resistors
+above-zero : (v : Float) → T (positive v) → lt limits.zero v ≡ true
+unfolding ofBits lt
+above-zero nan p = absurd p
+above-zero (inf s) p = absurd p
+above-zero (fin true m e) p = absurd p
+above-zero (fin false m e) p =
+    lt-ltb (0 * down e) (m * up e * 1)
+    (let o = mul-pos (ltb→lt 0 m p) (up-pos e) in omega (arith, zero-mul (down e)))
+
+none-of-zero : lt limits.zero limits.zero ≡ false
+unfolding ofBits lt
+none-of-zero = refl
+
+milli-positive : T (positive milli)
+unfolding ofBits
+milli-positive = tt
+
+-- version 1 has none of them
+no-leads : (s : List ℕ) → hasLeads (numbersFor false s) ≡ false
+no-leads s = ap (lt limits.zero) (each-missing s 2) ∙ none-of-zero
+
+-- version 2 always has
+some-leads : (s : List ℕ) → finiteUp s wide ≡ true → hasLeads (numbersFor true s) ≡ true
+unfolding clippedAt
+some-leads s f =
+    let r = raised milli (numberAt s number.re) milli-positive
+    (holds (each-finite s wide number.re (omega arith) f)) in
+    ap (lt limits.zero) (each-judged s true number.re (omega arith)) ∙ above-zero _ (r .number)
+
+pub leads-by-version : (s : List ℕ) → finiteUp s (widthOf s) ≡ true → hasLeads (judgedNumbers s) ≡ isWide s
+leads-by-version s = of (isWide s)
+  where
+    of : (b : Bool) → finiteUp s (cond b wide narrow) ≡ true → hasLeads (numbersFor b s) ≡ b
+    of true f = some-leads s f
+    of false f = no-leads s
+
+-- without any, each conductance is 0
+none-through : (mult : Float) → conductanceOf mult limits.zero ≡ limits.zero
+unfolding ofBits eq
+none-through mult = refl
+
+pub none-lead : (x : List Float) (i : ℕ) → hasLeads x ≡ false
+    → conductanceOf (at x number.mult) (resistanceOf x i) ≡ limits.zero
+none-lead x i e = rw e (none-through (at x number.mult))
+
+zero-finite : finite limits.zero ≡ true
+unfolding ofBits
+zero-finite = refl
+
+none-finite : (x : List Float) → hasLeads x ≡ false → all finite (leadsOf (workedOf (parametersOf x))) ≡ true
+none-finite x e =
+    rw (
+      none-lead x number.re e,
+      none-lead x number.rbc e,
+      none-lead x number.rcc e,
+      none-lead x number.rcblx e,
+      none-lead x number.rcbli e,
+      zero-finite,
+    )
+
+-- the ten values that both versions have, and all where the rest are finite
+tenOf : Worked → List Float
+tenOf w =
+    w .sn ∷ w .bulk ∷ w .side ∷ w .nonideal ∷ w .ex ∷ w .sub ∷ w .sf ∷ w .rex ∷ w .rsub ∷ w .reverse ∷ []
+
+of-ten : (w : Worked) → all finite (leadsOf w) ≡ true → allFinite w ≡ all finite (tenOf w)
+unfolding tenOf
+of-ten w e = rw e
 
 module _ {s t : List ℕ} (p : SaysNoMore s t) where
   -- ---- the words that both have
@@ -101,20 +179,46 @@ module _ {s t : List ℕ} (p : SaysNoMore s t) where
   own : (i : ℕ) → i < wide → at y i ≡ clippedAt t i
   own i h = each-judged t true i h
 
-  parameters-same : parametersOf y ≡ parametersOf x
-  parameters-same =
-      let mult = at-same number.mult (omega arith) in
-      let is = at-same number.is (omega arith) in
-      let ik = at-same number.ik (omega arith) in
-      let bf = at-same number.bf (omega arith) in
-      let xibi = at-same number.xibi (omega arith) in
-      let ibf = at-same number.ibf (omega arith) in
-      let bri = at-same number.bri (omega arith) in
-      let iss = at-same number.iss (omega arith) in
-      let icss = at-same number.icss (omega arith) in
-      let iks = at-same number.iks (omega arith) in
-      let ibr = own number.ibr (omega arith) ∙ p .ibr ∙ sym (each-missing s 0) in
-      cc
+  -- the numbers of the ten values that both have
+  record Shared : Type 0 where
+    pub mult : at y number.mult ≡ at x number.mult
+    pub is : at y number.is ≡ at x number.is
+    pub ik : at y number.ik ≡ at x number.ik
+    pub bf : at y number.bf ≡ at x number.bf
+    pub xibi : at y number.xibi ≡ at x number.xibi
+    pub ibf : at y number.ibf ≡ at x number.ibf
+    pub bri : at y number.bri ≡ at x number.bri
+    pub iss : at y number.iss ≡ at x number.iss
+    pub icss : at y number.icss ≡ at x number.icss
+    pub iks : at y number.iks ≡ at x number.iks
+    pub ibr : at y number.ibr ≡ at x number.ibr
+
+  shared : Shared
+  shared =
+      record {
+        mult = at-same number.mult (omega arith);
+        is = at-same number.is (omega arith);
+        ik = at-same number.ik (omega arith);
+        bf = at-same number.bf (omega arith);
+        xibi = at-same number.xibi (omega arith);
+        ibf = at-same number.ibf (omega arith);
+        bri = at-same number.bri (omega arith);
+        iss = at-same number.iss (omega arith);
+        icss = at-same number.icss (omega arith);
+        iks = at-same number.iks (omega arith);
+        ibr = own number.ibr (omega arith) ∙ p .ibr ∙ sym (each-missing s 0);
+      }
+
+  ten-same : all finite (tenOf (workedOf (parametersOf y))) ≡ all finite (tenOf (workedOf (parametersOf x)))
+  unfolding tenOf
+  ten-same =
+      let e = shared in
+      rw (e .mult, e .is, e .ik, e .bf, e .xibi, e .ibf, e .bri, e .iss, e .icss, e .iks, e .ibr)
+
+  values-same : allFinite (workedOf (parametersOf y)) ≡ allFinite (workedOf (parametersOf x))
+  values-same =
+      of-ten (workedOf (parametersOf y)) (rw (p .second) at (p .leads)) ∙ ten-same
+      ∙ sym (of-ten (workedOf (parametersOf x)) (none-finite x (no-leads s)))
 
   -- ---- the tests, and the card
   polarity-same : polarity y ≡ polarity x
@@ -136,20 +240,38 @@ module _ {s t : List ℕ} (p : SaysNoMore s t) where
       let mlf = at-same number.mlf (omega arith) in
       let octave = at-same number.octave (omega arith) in
       let second = ap₂ (λ (m o : Float). secondGood (mul binary64 m o)) mlf octave in
-      let values = ap (λ (q : Parameters). allFinite (workedOf q)) parameters-same in
-      ap₂ _&&_ second (ap₂ _&&_ (near ∙ sym meant-near) values)
+      ap₂ _&&_ second (ap₂ _&&_ (near ∙ sym meant-near) values-same)
 
-  card-same : cardOf y ≡ atKnee (kneeOf (vlr y)) (cardOf x)
+  card-same : cardOf y ≡ withLeads (cardOf y) (cardOf x)
   card-same =
+      let e = shared in
       let mlf = at-same number.mlf (omega arith) in
       let octave = at-same number.octave (omega arith) in
       let exsub = at-same number.exsub (omega arith) in
       let rcbli = at-same number.rcbli (omega arith) in
+      let rcblx = at-same number.rcblx (omega arith) in
       let polarity = polarity-same in
-      let parameters = parameters-same in
-      cc
+      rw (
+        e .mult,
+        e .is,
+        e .ik,
+        e .bf,
+        e .xibi,
+        e .ibf,
+        e .bri,
+        e .iss,
+        e .icss,
+        e .iks,
+        e .ibr,
+        mlf,
+        octave,
+        exsub,
+        rcbli,
+        rcblx,
+        polarity,
+      )
 
-  numbers-alike : judgeNumbers true y ≡ judgedAtKnee (kneeOf (vlr y)) (judgeNumbers true x)
+  numbers-alike : judgeNumbers true y ≡ judgedWithLeads (cardOf y) (judgeNumbers true x)
   numbers-alike =
       let a = ap (λ (f : Float). eq f level504) (at-same number.level (omega arith)) in
       let b = settings-same in
@@ -157,7 +279,7 @@ module _ {s t : List ℕ} (p : SaysNoMore s t) where
       let d = reach-same in
       let e = card-same in
       shaped true y ∙ cc (
-        shape-at (kneeOf (vlr y)) (eq (level x) level504) (settingsGood true x)
+        shape-at (cardOf y) (eq (level x) level504) (settingsGood true x)
             (octaveGood (octave x)) (withinReach x) (cardOf x),
         shaped true x,
       )
@@ -182,13 +304,12 @@ module _ {s t : List ℕ} (p : SaysNoMore s t) where
   judged-second : judgeOf t ≡ refuseIf (not (finiteUp t wide)) NotFinite (judgeNumbers true y)
   judged-second = judge-order t ∙ rw (p .second, p .spares)
 
-  pub versions-agree : judgeOf t ≡ judgedAtKnee (kneeOf (clippedAt t number.vlr)) (judgeOf s)
+  pub versions-agree : judgeOf t ≡ judgedWithLeads (cardOf (judgedNumbers t)) (judgeOf s)
   versions-agree =
-      let v = kneeOf (vlr y) in
-      let e : judgeOf t ≡ judgedAtKnee v (judgeOf s) =
+      let e : judgeOf t ≡ judgedWithLeads (cardOf y) (judgeOf s) =
       judged-second
       ∙ ap₂ (λ (b : Bool) (j : Verdict WorkedCard). refuseIf (not b) NotFinite j) finite-all numbers-alike
-      ∙ refuse-at v (not (finiteUp s narrow)) (judgeNumbers true x)
-      ∙ ap (judgedAtKnee v) (sym judged-first)
+      ∙ refuse-at (cardOf y) (not (finiteUp s narrow)) (judgeNumbers true x)
+      ∙ ap (judgedWithLeads (cardOf y)) (sym judged-first)
       in
-      e ∙ ap (λ (f : Float). judgedAtKnee (kneeOf f) (judgeOf s)) (own number.vlr (omega arith))
+      e ∙ ap (λ (b : Bool). judgedWithLeads (cardOf (numbersFor b t)) (judgeOf s)) (sym (p .second))

@@ -6,7 +6,7 @@ use Prim.Native.Nat.{ℕ, _≤_}
 use native.Mathlib.Omega.{arith}
 use lib.Dec.{T}
 use lib.IntN.{pos, subℕ}
-use lib.Ieee.{Float, fin, binary64, eq, le, lt, fits}
+use lib.Ieee.{Float, fin, binary64, ofBits, eq, le, lt, mul, fits}
 use lib.Ieee.Fits.{mul-fits, div-fits, cond-fits}
 use lib.Ieee.Positive.{positive, le→cross}
 use lib.Ieee.Scale.{finite}
@@ -20,7 +20,7 @@ use Rattle.working.specs.declared.Parameters.{Parameters}
 use Rattle.card.specs.declared.WorkedCard.{WorkedCard}
 use Rattle.clip.specs.Limits.{zero}
 use Rattle.clip.specs.Record.{isWide, rightLength, widthOf, finiteUp}
-use Rattle.working.specs.Work.{workedOf, valuesOf, all}
+use Rattle.working.specs.Work.{million, conductanceOf, workedOf, leadsOf, valuesOf, all}
 use Rattle.card.specs.Octave.{ten-million, fifty-million, secondMost, wholePart, octaveGood, secondGood}
 use Rattle.card.specs.Knee.{kneeGood, kneeRaise, microvoltsOf}
 use Rattle.card.specs.Judge.{judgedNumbers, parametersOf, mlf, octave, level, level504, vlr, product, cardOf}
@@ -33,7 +33,19 @@ use Rattle.card.proofs.Clipped.{and-true, good-mlf}
 use Rattle.card.proofs.Chain.{product-least, product-above, mlf-positive}
 use Rattle.card.proofs.Microvolts.{knee-most, knee-back}
 
--- ---- what holds of every finite f64 holds of the ten
+-- ---- what holds of every finite f64 holds of the fifteen
+zero-fits : T (fits binary64 zero)
+unfolding ofBits fits
+zero-fits = tt
+
+lead-fits : (mult r : Float) → T (fits binary64 (conductanceOf mult r))
+lead-fits mult r = cond-fits binary64 (eq r zero) _ _ zero-fits (div-fits binary64 mult (mul binary64 r million))
+
+leads-fit : (p : Parameters) → Each (λ v. T (fits binary64 v)) (leadsOf (workedOf p))
+leads-fit p =
+    let lead = lead-fits (p .mult) in
+    (lead (p .re), (lead (p .rbc), (lead (p .rcc), (lead (p .rcblx), (lead (p .rcbli), tt)))))
+
 module _ (P : Float → Type 0) (h : (x : Float) → T (fits binary64 x) → T (finite x) → P x) where
   each-finite : (l : List Float) → Each (λ v. T (fits binary64 v)) l → all finite l ≡ true → Each P l
   each-finite [] f e = tt
@@ -47,7 +59,7 @@ module _ (P : Float → Type 0) (h : (x : Float) → T (fits binary64 x) → T (
       let either = cond-fits binary64 (lt (p .icss) zero) _ _ (mul (p .iss) (p .mult)) (mul (p .icss) (p .mult)) in
       each-finite (valuesOf (workedOf p)) (
         mul _ _,
-        (div _ _, (div _ _, (mul _ _, (div _ _, (mul _ _, (either, (div _ _, (div _ _, (mul _ _, tt))))))))),
+        (div _ _, (div _ _, (mul _ _, (div _ _, (mul _ _, (either, (div _ _, (div _ _, (mul _ _, leads-fit p))))))))),
       )
 
 -- ---- the second octave

@@ -1,10 +1,10 @@
 -- What loading says of a record: 1, 6, 7, 8, 9, 10, or the worked card.
-use mathlib.Core.Bool.{Bool, true, false, not, _&&_, _||_}
+use mathlib.Core.Bool.{Bool, true, false, not, cond, _&&_, _||_}
 use mathlib.Core.List.{List, [], _∷_, _++_}
 use Prim.Native.Nat.{ℕ, suc}
 use lib.Dec.{eqb}
 use lib.ListN.{getD}
-use lib.Ieee.{Float, nan, binary64, ofBits, eq, mul}
+use lib.Ieee.{Float, nan, binary64, ofBits, lt, eq, mul}
 use Rattle.refusal.specs.declared.Refusal.the-variants.{WrongLevel, BadExsub, BadOctave, OutOfReach}
 use Rattle.refusal.specs.Told.{told}
 use Rattle.refusal.specs.Order.{Verdict, yes, refuseIf, andThen, Answer, refused, given}
@@ -39,6 +39,15 @@ judgedNumbers s = numbersFor (isWide s) s
 abbrev pub at : List Float → ℕ → Float
 at x i = getD x i nan
 
+-- whether the card has series resistors. R_E says it: where a record has the word it is clipped to 0.001 at least, and
+-- the 0 of version 1 means that there are none (`leads-by-version` in proofs/Versions)
+abbrev pub hasLeads : List Float → Bool
+hasLeads x = lt zero (at x number.re)
+
+-- a resistance: without series resistors 0, whatever the word is
+abbrev pub resistanceOf : List Float → ℕ → Float
+resistanceOf x i = cond (hasLeads x) (at x i) zero
+
 -- those that are worked
 abbrev pub parametersOf : List Float → Parameters
 parametersOf x = record {
@@ -53,10 +62,18 @@ parametersOf x = record {
   icss = at x number.icss;
   iks = at x number.iks;
   ibr = at x number.ibr;
+  re = resistanceOf x number.re;
+  rbc = resistanceOf x number.rbc;
+  rcc = resistanceOf x number.rcc;
+  rcblx = resistanceOf x number.rcblx;
+  rcbli = resistanceOf x number.rcbli;
 }
 
 abbrev pub mlf : List Float → Float
 mlf x = at x number.mlf
+
+abbrev pub rcblx : List Float → Float
+rcblx x = at x number.rcblx
 
 abbrev pub rcbli : List Float → Float
 rcbli x = at x number.rcbli
@@ -84,9 +101,9 @@ minusOne = ofBits binary64 0xbff0_0000_0000_0000
 abbrev pub product : List Float → Float
 product x = mul binary64 (mlf x) (octave x)
 
--- a card of ten worked values, each cut to a * 2^b, two octaves, V_Lr as it is kept, and three switches
-abbrev pub cardFrom : Worked → ℕ → ℕ → ℕ → Bool → Bool → Bool → WorkedCard
-cardFrom w o n v e z p = record {
+-- a card of fifteen worked values, each cut to a * 2^b, two octaves, V_Lr as it is kept, and five switches
+abbrev pub cardFrom : Worked → ℕ → ℕ → ℕ → Bool → Bool → Bool → Bool → Bool → WorkedCard
+cardFrom w o n v e z p y l = record {
   sn = splitOf (w .sn);
   bulk = splitOf (w .bulk);
   side = splitOf (w .side);
@@ -97,19 +114,26 @@ cardFrom w o n v e z p = record {
   rex = splitOf (w .rex);
   rsub = splitOf (w .rsub);
   reverse = splitOf (w .reverse);
+  ge = splitOf (w .ge);
+  gbc = splitOf (w .gbc);
+  gcc = splitOf (w .gcc);
+  gblx = splitOf (w .gblx);
+  gbli = splitOf (w .gbli);
   octave = o;
   second = n;
   knee = v;
   exsub = e;
   «rcbli_zero» = z;
   pnp = p;
+  «rcblx_zero» = y;
+  wide = l;
 }
 
 -- the worked card of clipped numbers
 abbrev pub cardOf : List Float → WorkedCard
 cardOf x =
     cardFrom (workedOf (parametersOf x)) (wholePart (octave x)) (wholePart (product x)) (kneeOf (vlr x))
-    (eq (exsub x) one) (eq (rcbli x) zero) (eq (polarity x) minusOne)
+    (eq (exsub x) one) (eq (rcbli x) zero) (eq (polarity x) minusOne) (eq (rcblx x) zero) (hasLeads x)
 
 -- what stands where there is no card
 abbrev pub noWorked : WorkedCard
@@ -124,12 +148,19 @@ noWorked = record {
   rex = noSplit;
   rsub = noSplit;
   reverse = noSplit;
+  ge = noSplit;
+  gbc = noSplit;
+  gcc = noSplit;
+  gblx = noSplit;
+  gbli = noSplit;
   octave = 0;
   second = 0;
   knee = 0;
   exsub = false;
   «rcbli_zero» = false;
   pnp = false;
+  «rcblx_zero» = false;
+  wide = false;
 }
 
 -- 504

@@ -3,13 +3,11 @@ use mathlib.Core.Bool.{Bool, _&&_}
 use Prim.Native.Nat.{ℕ, suc, _+_, _-_, _*_}
 use lib.IntN.{ℤ, pos, negsuc}
 use lib.Ieee.{Float, binary64, ofBits, neg, mul, le, toSigned}
+use Rattle.working.specs.Work.{million}
 
--- 5 and 1,000,000
+-- 5
 abbrev pub five : Float
 five = ofBits binary64 0x4014_0000_0000_0000
-
-abbrev pub million : Float
-million = ofBits binary64 0x412e_8480_0000_0000
 
 -- at most 5 in size
 abbrev pub kneeGood : Float → Bool

@@ -1,9 +1,11 @@
 // Loading's tests on the clipped numbers, in their order, and the worked card.
 ghost use mathlib.Core.Path.{_≡_};
 ghost use Rattle.refusal.specs.Order.{tells};
-ghost use mathlib.Core.Bool.{true};
+ghost use mathlib.Core.Bool.{true, cond};
+ghost use Rattle.clip.specs.Limits.{zero};
 ghost use Rattle.card.specs.Octave.{octaveGood};
-ghost use Rattle.card.specs.Judge.{parametersOf, octave, cardFrom, isSwitch, isPolarity, settingsGood, reachOf};
+ghost use Rattle.card.specs.Judge.{hasLeads, parametersOf, octave, cardFrom, isSwitch, isPolarity, settingsGood};
+ghost use Rattle.card.specs.Judge.{reachOf};
 ghost use Rattle.card.specs.Judge.{judgeNumbers, toldJudged};
 ghost use Rattle.card.specs.inner.Tests.{unlessPassed, firstWrong};
 ghost use Rattle.card.specs.inner.Worked.{GoodMlf};
@@ -37,9 +39,24 @@ fn is_polarity(x: f64) -> bool
     if x == 1.0 { true } else { x == PNP }
 }
 
+// Whether there are series resistors: version 1, which has none, means R_E 0.
+fn has_leads(x: &[f64; WIDTH]) -> bool
+    ensures { λ r. ⌜ r ≡ hasLeads (now (x .entry)) ⌝ }
+{
+    0.0 < x[numbers::RE]
+}
+
+// A resistance, where there are resistors.
+fn where_any(leads: bool, r: f64) -> f64
+    ensures { λ x. ⌜ x ≡ cond leads r zero ⌝ }
+{
+    if leads { r } else { 0.0 }
+}
+
 fn parameters(x: &[f64; WIDTH]) -> Parameters
     ensures { λ r. ⌜ r ≡ parametersOf (now (x .entry)) ⌝ }
 {
+    let leads = has_leads(x);
     Parameters {
         mult: x[numbers::MULT],
         is: x[numbers::IS],
@@ -52,6 +69,11 @@ fn parameters(x: &[f64; WIDTH]) -> Parameters
         icss: x[numbers::ICSS],
         iks: x[numbers::IKS],
         ibr: x[numbers::IBR],
+        re: where_any(leads, x[numbers::RE]),
+        rbc: where_any(leads, x[numbers::RBC]),
+        rcc: where_any(leads, x[numbers::RCC]),
+        rcblx: where_any(leads, x[numbers::RCBLX]),
+        rcbli: where_any(leads, x[numbers::RCBLI]),
     }
 }
 
@@ -63,8 +85,10 @@ fn card(
     exsub: bool,
     joined: bool,
     pnp: bool,
+    close: bool,
+    wide: bool,
 ) -> WorkedCard
-    ensures { λ r. ⌜ r ≡ cardFrom w octave second knee exsub joined pnp ⌝ }
+    ensures { λ r. ⌜ r ≡ cardFrom w octave second knee exsub joined pnp close wide ⌝ }
 {
     WorkedCard {
         sn: float::cut(w.sn),
@@ -77,12 +101,19 @@ fn card(
         rex: float::cut(w.rex),
         rsub: float::cut(w.rsub),
         reverse: float::cut(w.reverse),
+        ge: float::cut(w.ge),
+        gbc: float::cut(w.gbc),
+        gcc: float::cut(w.gcc),
+        gblx: float::cut(w.gblx),
+        gbli: float::cut(w.gbli),
         octave,
         second,
         knee,
         exsub,
         rcbli_zero: joined,
         pnp,
+        rcblx_zero: close,
+        wide,
     }
 }
 
@@ -140,6 +171,8 @@ fn reach(x: &[f64; WIDTH]) -> Judged
             x[numbers::EXSUB] == 1.0,
             x[numbers::RCBLI] == 0.0,
             polarity == PNP,
+            x[numbers::RCBLX] == 0.0,
+            has_leads(x),
         ))
     } else {
         Judged::Refused(Refusal::OutOfReach)

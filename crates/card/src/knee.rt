@@ -6,8 +6,6 @@ ghost use Rattle.card.specs.Knee.{kneeGood, kneeOf};
 // The most that V_Lr may be in size.
 const MOST: f64 = 5.0;
 
-const MICROVOLTS: f64 = 1000000.0;
-
 // The same in microvolts, the largest voltage from one node to another: raised by it, no V_Lr is negative.
 const RAISE: u64 = 5000000;
 
@@ -23,7 +21,7 @@ pub(crate) fn microvolts(x: f64) -> u32
     requires { ⌜ kneeGood x ≡ true ⌝ }
     ensures { λ r. ⌜ r ≡ kneeOf x ⌝ }
 {
-    let y = x * MICROVOLTS;
+    let y = x * working::MICROVOLTS;
     if y < 0.0 {
         (RAISE - std::num::truncating_f64_to_u64(-y)) as u32
     } else {

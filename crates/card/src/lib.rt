@@ -15,7 +15,7 @@ pub use clip::clip;
 pub use clip::right_length;
 use refusal::Refusal;
 
-// What the branches need of a card: ten values as a * 2^b, the two octaves in nanovolts, V_Lr, and three switches.
+// What the branches need of a card: fifteen values as a * 2^b, the two octaves in nanovolts, V_Lr, and five switches.
 pub struct WorkedCard {
     pub sn: float::Split,
     pub bulk: float::Split,
@@ -28,6 +28,12 @@ pub struct WorkedCard {
     pub rsub: float::Split,
     // the eighth branch's own current
     pub reverse: float::Split,
+    // the resistors' conductances at a microvolt: E-E1, B-B1, C-C3, C3-C4 and C4-C1; 0 where there is none
+    pub ge: float::Split,
+    pub gbc: float::Split,
+    pub gcc: float::Split,
+    pub gblx: float::Split,
+    pub gbli: float::Split,
     pub octave: u32,
     pub second: u32,
     // V_Lr in whole microvolts, raised by 5 V
@@ -38,6 +44,10 @@ pub struct WorkedCard {
     pub rcbli_zero: bool,
     // the polarity is -1
     pub pnp: bool,
+    // R_Cblx is 0: C3 and C4 are one node
+    pub rcblx_zero: bool,
+    // the card has series resistors, and so all eleven roles
+    pub wide: bool,
 }
 
 pub enum Judged {
@@ -61,12 +71,19 @@ pub fn no_card() -> WorkedCard
         rex: none,
         rsub: none,
         reverse: none,
+        ge: none,
+        gbc: none,
+        gcc: none,
+        gblx: none,
+        gbli: none,
         octave: 0,
         second: 0,
         knee: 0,
         exsub: false,
         rcbli_zero: false,
         pnp: false,
+        rcblx_zero: false,
+        wide: false,
     }
 }
 

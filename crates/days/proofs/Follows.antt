@@ -23,7 +23,8 @@ use Rattle.places.specs.Gathered.{Card, Transistor}
 use Rattle.model.specs.Board.{Board}
 use Rattle.model.specs.Model.{cardsOf, transistorsOf, transistorAt}
 use Rattle.model.specs.Counts.{nodesMost, cardsMost, transistorsMost}
-use Rattle.given.specs.Arguments.{Found, none, some, issueOf}
+use Rattle.given.specs.Arguments.{Found, none, some, issueOf, usedUp, Ties, tiesOf, wideBy}
+use Rattle.terms.specs.Looked.{lookedAt}
 use Rattle.model.specs.Verdict.{placeVerdict, moveVerdict, liftVerdict, withdrawVerdict, nodeVerdict}
 use Rattle.model.specs.Desk as desk
 use Rattle.model.specs.Desk.{Held, Standing, Desk, Call, load, place, move, lift, withdraw, lookUp, node}
@@ -35,7 +36,7 @@ use Rattle.model.specs.Desk.{total, faultsAt, step, freshDesk, after}
 use Rattle.model.specs.Model as board
 use Rattle.places.specs.Finding.{first, foundAt, isCard, isTransistor, cardPlace, transistorPlace}
 use Rattle.places.specs.Gathered.{emptyCard}
-use Rattle.places.specs.Gathered.{noCard, emptyTransistor, noTransistor}
+use Rattle.places.specs.Gathered.{noCard, emptyTransistor, noTransistor, workedAt}
 use Rattle.model.specs.inner.Sums.{placeGives}
 use Rattle.model.specs.Model.{freshBoard, voltsOf, loadedOf}
 use Rattle.places.specs.Finding.{freeCard, freeTransistor, standsOn, highestAt}
@@ -53,7 +54,7 @@ use Rattle.model.proofs.Verdicts.{loads, places, moves, lifts, withdraws, shown
 use Rattle.model.proofs.Invariant.{Invariant, invariant-after, at-card, AtCard, at-transistor, AtTransistor}
 use Rattle.model.proofs.Invariant.{Away, unused-away, worked-same, free-below, free-away, aside, still, cards-holding}
 use Rattle.model.proofs.Invariant.{transistors-holding, cards-standing, transistors-standing, cards-leveled}
-use Rattle.model.proofs.Invariant.{transistors-leveled, fresh-cards, fresh-transistors}
+use Rattle.model.proofs.Invariant.{transistors-leveled, fresh-cards, fresh-transistors, looked-long}
 use Rattle.model.proofs.Gains.{touched-stands}
 use Rattle.model.proofs.Lists.{padded-long}
 use Rattle.rows.specs.declared.Over.{Over}
@@ -74,7 +75,7 @@ use Rattle.model.specs.Desk.{movedTo}
 use Rattle.model.specs.Model.{shifted, touched, firstOver, settled, workedOn}
 use Rattle.model.proofs.Shifts.{shifted-back}
 use Rattle.days.proofs.Orderly.{Orderly, orderly-after}
-use Rattle.days.proofs.Orders.{order-load, order-place, order-move, order-lift, order-withdraw, order-look}
+use Rattle.days.proofs.Orders.{seenIn, order-load, order-place, order-move, order-lift, order-withdraw, order-look}
 use Rattle.days.proofs.Orders.{order-read}
 
 -- ---- verdicts on what was found by place, and on the same found by itself
@@ -89,7 +90,7 @@ map-refuse g true f v = refl
 map-refuse g false f v = refl
 
 module _ {A B : Type 0} (g : A → B) where
-  map-place : (found : Found A) (joins : B → Bool) (over : B → Over) (next : ℕ) (nodes : List ℤ)
+  map-place : (found : Found A) (joins : B → Ties) (over : B → Over) (next : ℕ) (nodes : List ℤ)
       (noRoom used : Bool) →
       placeVerdict (mapFound g found) joins over next nodes noRoom used ≡ mapVerdict g
       (placeVerdict found (λ (a : A). joins (g a)) (λ (a : A). over (g a)) next nodes noRoom used)
@@ -375,39 +376,70 @@ module _ (b : Board) (d : Desk) (g : Invariant b) (o : Orderly d) (s : Stands b 
   unfolding placedOf step
   follow-place card nodes sized =
       subst (λ (v : Verdict Held). Follow (placedOf b card nodes) (desk.placed d nodes v)) agree
-      (go (board.mayPlace b card nodes) refl)
+      (go (board.mayPlace b card on) refl)
     where
-      agree : mapVerdict (heldAt b) (board.mayPlace b card nodes) ≡ desk.mayPlace d card nodes
-      agree =
-          rw (
-            ← (order-place d card nodes),
-            card-by b d g o s (issueOf card),
-            map-place (heldAt b),
-            transistors-full b d g o s,
-            s .next,
-            s .volts,
-          )
+      on : List ℤ
+      on = board.seenOn b card nodes
 
-      new : (i : ℕ) →
+      same-wide : (found : Found ℕ) →
+          wideBy (λ (h : Held). h .worked .wide) (mapFound (heldAt b) found)
+          ≡ wideBy (λ (i : ℕ). workedAt (cardsOf b) i .wide) found
+      same-wide none = refl
+      same-wide (some i) = refl
+
+      same-seen : seenIn d card nodes ≡ on
+      same-seen =
+          ap (λ (f : Found Held). lookedAt (wideBy (λ (h : Held). h .worked .wide) f) nodes)
+          (card-by b d g o s (issueOf card))
+          ∙ ap (λ (w : Bool). lookedAt w nodes) (same-wide (cardPlace (issueOf card) (cardsOf b)))
+
+      asked : List ℤ → Verdict Held
+      asked l =
+          placeVerdict (heldAs (issueOf card) (d .cards)) (λ (h : Held). tiesOf (h .worked))
+          (λ (h : Held). overAt (h .worked) (map natAbs l) (d .volts)) (d .next) l
+          (leb transistorsMost (length (d .standing))) (usedUp (d .next))
+
+      as-asked : (l : List ℤ) → mapVerdict (heldAt b) (board.mayPlace b card l) ≡ asked l
+      as-asked l =
+          rw (card-by b d g o s (issueOf card), map-place (heldAt b), transistors-full b d g o s, s .next, s .volts)
+
+      agree : mapVerdict (heldAt b) (board.mayPlace b card on) ≡ desk.mayPlace d card nodes
+      agree = as-asked on ∙ ap asked (sym same-seen) ∙ order-place d card nodes
+
+      new : (i : ℕ) → on ≡ desk.lookedBy (heldAt b i) nodes →
           standingOf (cardsOf b)
-          (record { issue = b .next; card = heldAt b i .issue; seat = i; nodes = map natAbs nodes })
-          ≡ record { issue = d .next; card = heldAt b i .issue; worked = heldAt b i .worked; nodes = map natAbs nodes }
-      new i = rw (s .next)
+          (record { issue = b .next; card = heldAt b i .issue; seat = i; nodes = map natAbs on })
+          ≡ record {
+            issue = d .next;
+            card = heldAt b i .issue;
+            worked = heldAt b i .worked;
+            nodes = map natAbs (desk.lookedBy (heldAt b i) nodes);
+          }
+      new i e =
+          λ j. record {
+            issue = s .next j;
+            card = heldAt b i .issue;
+            worked = heldAt b i .worked;
+            nodes = map natAbs (e j);
+          }
 
-      go : (v : Verdict ℕ) → board.mayPlace b card nodes ≡ v →
-          Follow (board.placed b nodes v) (desk.placed d nodes (mapVerdict (heldAt b) v))
+      go : (v : Verdict ℕ) → board.mayPlace b card on ≡ v →
+          Follow (board.placed b on v) (desk.placed d nodes (mapVerdict (heldAt b) v))
       go (no f) e = record { reply = refl; board = s }
       go (yes i) e =
           let p = places (cardPlace (issueOf card) (cardsOf b)) (b .next) e in
+          let own : on ≡ desk.lookedBy (heldAt b i) nodes =
+          ap (λ (f : Found ℕ). lookedAt (wideBy (λ (k : ℕ). workedAt (cardsOf b) k .wide) f) nodes) (p .there) in
           let free = freeTransistor (transistorsOf b) in
           let below = leb-false transistorsMost free (p .room) in
-          let t = board.newcomer b i nodes in
+          let t = board.newcomer b i on in
           record {
             reply = ap desk.issued (s .next);
             board =
                 rw (
                   cards-standing b (g .sized) free t _ (b .next + 1),
-                  transistors-standing b (g .sized) free t _ (b .next + 1) below (length-map nodes natAbs ∙ sized),
+                  transistors-standing b (g .sized) free t _ (b .next + 1) below
+                      (length-map on natAbs ∙ looked-long _ nodes sized),
                 )
                 (record {
                   cards = s .cards;
@@ -415,7 +447,7 @@ module _ (b : Board) (d : Desk) (g : Invariant b) (o : Orderly d) (s : Stands b 
                       perm-join
                       (join (λ (u : Transistor). u .issue) (standingOf (cardsOf b)) (transistorsOf b) t given
                       (rw (g .holds .transistors-long) below))
-                      (new i) (s .standing);
+                      (new i own) (s .standing);
                   volts = s .volts;
                   next = add-one (b .next) ∙ ap suc (s .next);
                 });

@@ -58,10 +58,13 @@ module _ (b : Board) (l : List ℕ) (begun : 1 ≤ b .next) (f : Falls (b .next)
   falls-place : (card : ℤ) (nodes : List ℤ) →
       Falls (placedOf b card nodes .board .next) (withNumber (placedOf b card nodes .answer) l)
   unfolding placedOf
-  falls-place card nodes = go (board.mayPlace b card nodes) refl
+  falls-place card nodes = go (board.mayPlace b card on) refl
     where
-      go : (v : Verdict ℕ) → board.mayPlace b card nodes ≡ v →
-          Falls (board.placed b nodes v .board .next) (withNumber (board.placed b nodes v .answer) l)
+      on : List ℤ
+      on = board.seenOn b card nodes
+
+      go : (v : Verdict ℕ) → board.mayPlace b card on ≡ v →
+          Falls (board.placed b on v .board .next) (withNumber (board.placed b on v .answer) l)
       go (no g) e = f
       go (yes i) e = one-more begun (places (cardPlace (issueOf card) (cardsOf b)) (b .next) e .number) f
 

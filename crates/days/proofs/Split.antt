@@ -1,7 +1,7 @@
 -- 15 and 18 are given exactly where a bare 15 was, at the same place in each order; and what they tell does overload,
 -- and nothing that is told before it does.
 use mathlib.Core.Path.{_≡_, refl, sym, ap, _∙_, subst}
-use mathlib.Core.Bool.{Bool, true, false, not, _&&_, _||_}
+use mathlib.Core.Bool.{Bool, true, false, not, _||_}
 use mathlib.Core.List.{List, [], _∷_, _++_, map}
 use Prim.Native.Nat.{ℕ}
 use lib.Dec.{eqb, leb}
@@ -17,12 +17,12 @@ use Rattle.rows.specs.Outcome.{isOver}
 use Rattle.totals.specs.Flow.{overAt, overloads}
 use Rattle.terms.specs.Rows.{roles}
 use Rattle.given.specs.Lists.{anyOf}
-use Rattle.given.specs.Arguments.{Found, none, some, issueOf, someNodeOff, apart, known, usedUp}
+use Rattle.given.specs.Arguments.{Found, none, some, issueOf, someNodeOff, tiesOf, torn, known, usedUp}
 use Rattle.given.specs.Pairs.{arePairs, somePairOff, Shift, shiftsOf}
 use Rattle.model.specs.Counts.{transistorsMost}
 use Rattle.model.specs.Faults.{Kind, ticks, ratio, Fault, first, refusalBy, refusalFor, refuseFirst, faultsOf}
 use Rattle.model.specs.Faults.{faultsAmong}
-use Rattle.model.specs.Desk.{Held, Standing, Desk, Call, place, move, refused, movedTo, faultsAt, heldAs, mayPlace}
+use Rattle.model.specs.Desk.{Held, Standing, Desk, Call, place, move, refused, lookedBy, movedTo, faultsAt, heldAs, mayPlace}
 use Rattle.model.specs.Desk.{mayMove, placed, moved, step, after}
 use Rattle.model.specs.declared.Answer.the-variants.{Refused}
 use Rattle.model.specs.Model.{answered, boardAfter}
@@ -91,22 +91,22 @@ place-as-before d card nodes = go (heldAs (issueOf card) (d .cards))
     go : (found : Found Held) →
         bare
         (andThen (known found)
-        (λ (h : Held). refuseIf (someNodeOff nodes) OutOfRange
-        (refuseIf (h .worked .«rcbli_zero» && apart nodes) SplitCollector
+        (λ (h : Held). refuseIf (someNodeOff (lookedBy h nodes)) OutOfRange
+        (refuseIf (torn (tiesOf (h .worked)) (lookedBy h nodes)) SplitCollector
         (refuseIf (leb transistorsMost (length (d .standing))) NoRoom
         (refuseIf (usedUp (d .next)) NumbersUsedUp
-        (refuseFirst (faultsOf (d .next) (h .worked) (map natAbs nodes) (d .volts)) (yes h)))))))
+        (refuseFirst (faultsOf (d .next) (h .worked) (map natAbs (lookedBy h nodes)) (d .volts)) (yes h)))))))
         ≡ andThen (known found)
-        (λ (h : Held). refuseIf (someNodeOff nodes) OutOfRange
-        (refuseIf (h .worked .«rcbli_zero» && apart nodes) SplitCollector
+        (λ (h : Held). refuseIf (someNodeOff (lookedBy h nodes)) OutOfRange
+        (refuseIf (torn (tiesOf (h .worked)) (lookedBy h nodes)) SplitCollector
         (refuseIf (leb transistorsMost (length (d .standing))) NoRoom
         (refuseIf (usedUp (d .next)) NumbersUsedUp
-        (refuseIf (overloads (h .worked) (map natAbs nodes) (d .volts)) bare15 (yes h))))))
+        (refuseIf (overloads (h .worked) (map natAbs (lookedBy h nodes)) (d .volts)) bare15 (yes h))))))
     go none = refl
     go (some h) =
         rw
         (← (fault-over (d .next)
-        (record { issue = d .next; card = h .issue; worked = h .worked; nodes = map natAbs nodes }) (d .volts)))
+        (record { issue = d .next; card = h .issue; worked = h .worked; nodes = map natAbs (lookedBy h nodes) }) (d .volts)))
         (simp (bare-if, bare-first))
 
 pub move-as-before : (d : Desk) (pairs : List ℤ) → bare (mayMove d pairs) ≡ moveBefore d pairs
@@ -160,23 +160,23 @@ move-told d pairs f e =
 -- and a placing: of all that would overload in the transistor with its number to come
 pub place-told : (d : Desk) (card : ℤ) (nodes : List ℤ) (f : Fault) → mayPlace d card nodes ≡ no (refusalFor f) →
     (h : Held) × (heldAs (issueOf card) (d .cards) ≡ some h)
-    × FirstTold f (faultsOf (d .next) (h .worked) (map natAbs nodes) (d .volts))
+    × FirstTold f (faultsOf (d .next) (h .worked) (map natAbs (lookedBy h nodes)) (d .volts))
 place-told d card nodes f e = go (heldAs (issueOf card) (d .cards)) refl e
   where
     go : (found : Found Held) → heldAs (issueOf card) (d .cards) ≡ found →
         andThen (known found)
-        (λ (h : Held). refuseIf (someNodeOff nodes) OutOfRange
-        (refuseIf (h .worked .«rcbli_zero» && apart nodes) SplitCollector
+        (λ (h : Held). refuseIf (someNodeOff (lookedBy h nodes)) OutOfRange
+        (refuseIf (torn (tiesOf (h .worked)) (lookedBy h nodes)) SplitCollector
         (refuseIf (leb transistorsMost (length (d .standing))) NoRoom
         (refuseIf (usedUp (d .next)) NumbersUsedUp
-        (refuseFirst (faultsOf (d .next) (h .worked) (map natAbs nodes) (d .volts)) (yes h))))))
+        (refuseFirst (faultsOf (d .next) (h .worked) (map natAbs (lookedBy h nodes)) (d .volts)) (yes h))))))
         ≡ no (refusalFor f) →
         (h : Held) × (heldAs (issueOf card) (d .cards) ≡ some h)
-        × FirstTold f (faultsOf (d .next) (h .worked) (map natAbs nodes) (d .volts))
+        × FirstTold f (faultsOf (d .next) (h .worked) (map natAbs (lookedBy h nodes)) (d .volts))
     go none p q = absurd (other f Unknown refl q)
     go (some h) p q =
-        let a = past-if f (someNodeOff nodes) OutOfRange _ refl q in
-        let b = past-if f (h .worked .«rcbli_zero» && apart nodes) SplitCollector _ refl a in
+        let a = past-if f (someNodeOff (lookedBy h nodes)) OutOfRange _ refl q in
+        let b = past-if f (torn (tiesOf (h .worked)) (lookedBy h nodes)) SplitCollector _ refl a in
         let c = past-if f (leb transistorsMost (length (d .standing))) NoRoom _ refl b in
         (h, p, first-of f _ h (past-if f (usedUp (d .next)) NumbersUsedUp _ refl c))
 
@@ -205,7 +205,7 @@ pub board-tells-of-a-placing : (calls : List Call) (card : ℤ) (nodes : List �
     (f : Fault) →
     answered (boardAfter calls) (place card nodes sized) .answer ≡ Refused (refusalFor f) →
     (h : Held) × (heldAs (issueOf card) (after calls .cards) ≡ some h)
-    × FirstTold f (faultsOf (after calls .next) (h .worked) (map natAbs nodes) (after calls .volts))
+    × FirstTold f (faultsOf (after calls .next) (h .worked) (map natAbs (lookedBy h nodes)) (after calls .volts))
 unfolding step
 board-tells-of-a-placing calls card nodes sized f e =
     place-told (after calls) card nodes f

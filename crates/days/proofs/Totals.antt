@@ -3,7 +3,7 @@
 use mathlib.Core.Path.{_≡_, refl, sym, ap, _∙_}
 use mathlib.Core.Bool.{Bool, true, false, cond}
 use mathlib.Core.List.{List, [], _∷_, map}
-use Prim.Native.Nat.{ℕ, zero, suc, _+_, _-_, _^_, _≤_, _<_}
+use Prim.Native.Nat.{ℕ, zero, suc, _+_, _-_, _*_, _^_, _≤_, _<_}
 use native.Mathlib.Nat.{le-refl, zero-add}
 use native.Mathlib.Omega.{arith}
 use lib.Dec.{eqb}
@@ -14,13 +14,14 @@ use Rattle.refusal.specs.Clash.{clash}
 use Rattle.card.specs.declared.WorkedCard.{WorkedCard}
 use Rattle.rows.specs.declared.Over.{Over}
 use Rattle.rows.specs.declared.Over.the-variants.{Within, Ticks, Injection}
-use Rattle.terms.specs.Rows.{Row, rowsFor, roleIndex}
+use Rattle.scaling.specs.Scaled.{tickLimit}
+use Rattle.terms.specs.Rows.{Row, rowsFor, branches, roleIndex}
 use Rattle.rows.specs.Outcome.{isOver}
 use Rattle.polarity.specs.Polarity.{outcomeOf}
 use Rattle.places.specs.Gathered.{Card, Transistor}
 use Rattle.model.specs.Board.{Board}
 use Rattle.model.specs.Model.{cardsOf, transistorsOf, transistorAt}
-use Rattle.model.specs.Counts.{nodesMost}
+use Rattle.model.specs.Counts.{nodesMost, transistorsMost}
 use Rattle.totals.specs.Gives.{atNode, rowsGive}
 use Rattle.model.specs.Desk.{Standing, Call, total, after}
 use Rattle.totals.specs.Flow.{rolesAt, overloads, flow, sumOver}
@@ -196,7 +197,10 @@ same-standing-same-totals {b} {c} r s p e =
 
 -- ---- and stay small
 
-pub totals-are-small : {b : Board} → Reached b → (n : ℕ) → n < nodesMost → natAbs (getD (b .totals) n (pos 0)) ≤ 2 ^ 62
+-- each row of each transistor counts once at a node, and that many are below 2^63
+pub totals-are-small : {b : Board} → Reached b → (n : ℕ) → n < nodesMost →
+    (natAbs (getD (b .totals) n (pos 0)) ≤ transistorsMost * (branches * tickLimit))
+    × (natAbs (getD (b .totals) n (pos 0)) < 2 ^ 63)
 totals-are-small {b} r n h =
     let s = totals-room (cardsOf b) (transistorsOf b) (voltsOf b) (invariant r .holds .transistors-long) .within n in
-    rw (invariant r .holds .balanced) (omega arith)
+    rw (invariant r .holds .balanced) (omega arith, omega arith)

@@ -1,6 +1,6 @@
 -- The verdicts of placing and moving as they were while 15 told neither who overloads nor by what. They are kept for
 -- one purpose: to state that the refusals which tell it are given exactly where that 15 was.
-use mathlib.Core.Bool.{Bool, not, _&&_}
+use mathlib.Core.Bool.{Bool, not}
 use mathlib.Core.List.{List, map}
 use lib.Dec.{leb}
 use lib.ListN.{length}
@@ -13,10 +13,10 @@ use Rattle.refusal.specs.declared.Refusal.the-variants.{CardInUse, NumbersUsedU
 use Rattle.refusal.specs.Order.{Verdict, no, yes, refuseIf, andThen}
 use Rattle.totals.specs.Flow.{overloads}
 use Rattle.given.specs.Lists.{anyOf}
-use Rattle.given.specs.Arguments.{issueOf, someNodeOff, apart, known, usedUp}
+use Rattle.given.specs.Arguments.{issueOf, someNodeOff, tiesOf, torn, known, usedUp}
 use Rattle.given.specs.Pairs.{arePairs, somePairOff, Shift, shiftsOf}
 use Rattle.model.specs.Counts.{transistorsMost}
-use Rattle.model.specs.Desk.{Held, Standing, Desk, movedTo, heldAs}
+use Rattle.model.specs.Desk.{Held, Standing, Desk, lookedBy, movedTo, heldAs}
 
 -- a 15 that tells nothing: no transistor has the number 0, and none has a branch 0
 abbrev pub bare15 : Refusal
@@ -55,11 +55,11 @@ someOverloads d volts = anyOf (λ (t : Standing). overloads (t .worked) (t .node
 abbrev pub placeBefore : Desk → ℤ → List ℤ → Verdict Held
 placeBefore d card nodes =
     andThen (known (heldAs (issueOf card) (d .cards)))
-    (λ (h : Held). refuseIf (someNodeOff nodes) OutOfRange
-    (refuseIf (h .worked .«rcbli_zero» && apart nodes) SplitCollector
+    (λ (h : Held). refuseIf (someNodeOff (lookedBy h nodes)) OutOfRange
+    (refuseIf (torn (tiesOf (h .worked)) (lookedBy h nodes)) SplitCollector
     (refuseIf (leb transistorsMost (length (d .standing))) NoRoom
     (refuseIf (usedUp (d .next)) NumbersUsedUp
-    (refuseIf (overloads (h .worked) (map natAbs nodes) (d .volts)) bare15 (yes h))))))
+    (refuseIf (overloads (h .worked) (map natAbs (lookedBy h nodes)) (d .volts)) bare15 (yes h))))))
 
 -- moving: 1, 13, 15
 abbrev pub moveBefore : Desk → List ℤ → Verdict (List Shift)

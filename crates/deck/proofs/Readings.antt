@@ -34,5 +34,4 @@ switch-is switches i k h = sym (getD-stretch false switches (switchesEach * i) s
 pub first-switch : (switches : List Bool) (i : ℕ) →
     getD switches (switchesEach * i) false ≡ getD (switchesAt switches i) 0 false
 first-switch switches i =
-    ap (λ (j : ℕ). getD switches j false) (sym (add-zero (switchesEach * i)))
-    ∙ sym (getD-stretch false switches (switchesEach * i) switchesEach 0 (omega arith))
+    ap (λ (j : ℕ). getD switches j false) (sym (add-zero (switchesEach * i))) ∙ switch-is switches i 0 (omega arith)

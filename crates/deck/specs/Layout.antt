@@ -16,30 +16,31 @@ cardsMost = 16
 
 -- how many of each array's numbers a place has
 abbrev pub numbersEach : ℕ
-numbersEach = 25
+numbersEach = 30
 
 abbrev pub powersEach : ℕ
-powersEach = 10
+powersEach = 15
 
 abbrev pub ticksEach : ℕ
 ticksEach = 12
 
 abbrev pub switchesEach : ℕ
-switchesEach = 3
+switchesEach = 5
 
 -- ---- a card's own numbers, in order
 
 abbrev pub numbersOf : Ready → List ℕ
 numbersOf r =
     r .card .sn .a ∷ r .card .bulk .a ∷ r .card .side .a ∷ r .card .nonideal .a ∷ r .card .ex .a ∷ r .card .sub .a
-    ∷ r .card .sf .a ∷ r .card .rex .a ∷ r .card .rsub .a ∷ r .card .reverse .a ∷ r .card .octave ∷ r .card .second
-    ∷ r .card .knee ∷ r .plain .w ∷ r .plain .high ∷ r .plain .low ∷ r .plain .base ∷ r .second .w ∷ r .second .high
+    ∷ r .card .sf .a ∷ r .card .rex .a ∷ r .card .rsub .a ∷ r .card .reverse .a ∷ r .card .ge .a ∷ r .card .gbc .a
+    ∷ r .card .gcc .a ∷ r .card .gblx .a ∷ r .card .gbli .a ∷ r .card .octave ∷ r .card .second ∷ r .card .knee ∷ r .plain .w ∷ r .plain .high ∷ r .plain .low ∷ r .plain .base ∷ r .second .w ∷ r .second .high
     ∷ r .second .low ∷ r .second .base ∷ r .doubled .w ∷ r .doubled .high ∷ r .doubled .low ∷ r .doubled .base ∷ []
 
 abbrev pub powersOf : WorkedCard → List ℕ
 powersOf c =
     c .sn .down ∷ c .bulk .down ∷ c .side .down ∷ c .nonideal .down ∷ c .ex .down ∷ c .sub .down ∷ c .sf .down
-    ∷ c .rex .down ∷ c .rsub .down ∷ c .reverse .down ∷ []
+    ∷ c .rex .down ∷ c .rsub .down ∷ c .reverse .down ∷ c .ge .down ∷ c .gbc .down ∷ c .gcc .down
+    ∷ c .gblx .down ∷ c .gbli .down ∷ []
 
 abbrev pub ticksOf : Ready → List ℕ
 ticksOf r =
@@ -47,7 +48,7 @@ ticksOf r =
     ∷ r .sub ∷ r .sf ∷ r .reverse ∷ []
 
 abbrev pub switchesOf : WorkedCard → List Bool
-switchesOf c = c .exsub ∷ c .«rcbli_zero» ∷ c .pnp ∷ []
+switchesOf c = c .exsub ∷ c .«rcbli_zero» ∷ c .pnp ∷ c .«rcblx_zero» ∷ c .wide ∷ []
 
 -- ---- and back: the card of such numbers
 
@@ -67,12 +68,19 @@ workedFrom numbers powers switches =
       rex = splitFrom numbers powers 7;
       rsub = splitFrom numbers powers 8;
       reverse = splitFrom numbers powers 9;
-      octave = getD numbers 10 0;
-      second = getD numbers 11 0;
-      knee = getD numbers 12 0;
+      ge = splitFrom numbers powers 10;
+      gbc = splitFrom numbers powers 11;
+      gcc = splitFrom numbers powers 12;
+      gblx = splitFrom numbers powers 13;
+      gbli = splitFrom numbers powers 14;
+      octave = getD numbers 15 0;
+      second = getD numbers 16 0;
+      knee = getD numbers 17 0;
       exsub = getD switches 0 false;
       «rcbli_zero» = getD switches 1 false;
       pnp = getD switches 2 false;
+      «rcblx_zero» = getD switches 3 false;
+      wide = getD switches 4 false;
     }
 
 abbrev pub reciprocalFrom : List ℕ → List ℕ → ℕ → ℕ → Reciprocal
@@ -89,9 +97,9 @@ abbrev pub readyFrom : List ℕ → List ℕ → List ℕ → List Bool → Read
 readyFrom numbers powers ticks switches =
     record {
       card = workedFrom numbers powers switches;
-      plain = reciprocalFrom numbers ticks 13 0;
-      second = reciprocalFrom numbers ticks 17 1;
-      doubled = reciprocalFrom numbers ticks 21 2;
+      plain = reciprocalFrom numbers ticks 18 0;
+      second = reciprocalFrom numbers ticks 22 1;
+      doubled = reciprocalFrom numbers ticks 26 2;
       knee = record { m = getD ticks 3 0; n = getD ticks 4 0 };
       bulk = getD ticks 5 0;
       side = getD ticks 6 0;

@@ -17,13 +17,20 @@ use terms::Ready;
 pub const CARDS: usize = 16;
 
 // How much of each array a place has, and how long the arrays are.
-pub const NUMBERS: usize = 25;
+pub const NUMBERS: usize = 30;
 
-pub const POWERS: usize = 10;
+pub const POWERS: usize = 15;
 
 pub const TICKS: usize = 12;
 
-pub const SWITCHES: usize = 3;
+pub const SWITCHES: usize = 5;
+
+// Which of a card's switches say that R_Cbli is 0, that R_Cblx is, and that the card has series resistors.
+pub const RCBLI_ZERO: usize = 1;
+
+pub const RCBLX_ZERO: usize = 3;
+
+pub const WIDE: usize = 4;
 
 pub const ALL_NUMBERS: usize = NUMBERS * CARDS;
 
@@ -88,12 +95,19 @@ fn worked_at(
         rex: split_at(numbers, powers, i, 7),
         rsub: split_at(numbers, powers, i, 8),
         reverse: split_at(numbers, powers, i, 9),
-        octave: numbers[NUMBERS * i + 10],
-        second: numbers[NUMBERS * i + 11],
-        knee: numbers[NUMBERS * i + 12],
+        ge: split_at(numbers, powers, i, 10),
+        gbc: split_at(numbers, powers, i, 11),
+        gcc: split_at(numbers, powers, i, 12),
+        gblx: split_at(numbers, powers, i, 13),
+        gbli: split_at(numbers, powers, i, 14),
+        octave: numbers[NUMBERS * i + 15],
+        second: numbers[NUMBERS * i + 16],
+        knee: numbers[NUMBERS * i + 17],
         exsub: switches[SWITCHES * i],
-        rcbli_zero: switches[SWITCHES * i + 1],
+        rcbli_zero: switches[SWITCHES * i + RCBLI_ZERO],
         pnp: switches[SWITCHES * i + 2],
+        rcblx_zero: switches[SWITCHES * i + RCBLX_ZERO],
+        wide: switches[SWITCHES * i + WIDE],
     }
 }
 
@@ -110,9 +124,9 @@ pub fn ready_at(
     let l = TICKS * i;
     Ready {
         card: worked_at(numbers, powers, switches, i),
-        plain: reciprocal_at(numbers, ticks, i, 13, 0),
-        second: reciprocal_at(numbers, ticks, i, 17, 1),
-        doubled: reciprocal_at(numbers, ticks, i, 21, 2),
+        plain: reciprocal_at(numbers, ticks, i, 18, 0),
+        second: reciprocal_at(numbers, ticks, i, 22, 1),
+        doubled: reciprocal_at(numbers, ticks, i, 26, 2),
         knee: Exponential {
             m: ticks[l + 3],
             n: ticks[l + 4],
@@ -185,6 +199,11 @@ fn numbers_of(r: Ready) -> [u32; NUMBERS]
         c.rex.a,
         c.rsub.a,
         c.reverse.a,
+        c.ge.a,
+        c.gbc.a,
+        c.gcc.a,
+        c.gblx.a,
+        c.gbli.a,
         c.octave,
         c.second,
         c.knee,
@@ -217,6 +236,11 @@ fn powers_of(c: WorkedCard) -> [u16; POWERS]
         c.rex.down,
         c.rsub.down,
         c.reverse.down,
+        c.ge.down,
+        c.gbc.down,
+        c.gcc.down,
+        c.gblx.down,
+        c.gbli.down,
     ]
 }
 
@@ -246,7 +270,7 @@ fn ticks_of(r: Ready) -> [u64; TICKS]
 fn switches_of(c: WorkedCard) -> [bool; SWITCHES]
     ensures { λ x. ⌜ x ≡ switchesOf c ⌝ }
 {
-    [c.exsub, c.rcbli_zero, c.pnp]
+    [c.exsub, c.rcbli_zero, c.pnp, c.rcblx_zero, c.wide]
 }
 
 pub fn put_ready(

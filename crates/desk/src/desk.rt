@@ -18,8 +18,13 @@ use library::Reading;
 use script::Command;
 use script::MOST_BYTES;
 use script::MOST_NUMBERS;
+use script::MOST_WORDS;
 use script::Series;
 use script::Verb;
+use terms::ROLES;
+
+// A node that is on no board.
+const OFF: i64 = -1;
 
 // The n bytes that were read become the library held, where they are a library.
 fn keep_library(
@@ -154,16 +159,37 @@ fn look_up(board: Board, name: &[u8], out: &mut [u8; ROOM], at: &mut usize)
     put_card(answer, out, at);
 }
 
-// The nodes of a transistor's roles, after its card's number.
-fn roles(v: [i64; MOST_NUMBERS]) -> [i64; 7] {
-    [v[1], v[2], v[3], v[4], v[5], v[6], v[7]]
+// The nodes of a transistor's roles, after its card's number: all eleven, or seven and the others off the board.
+fn roles(v: [i64; MOST_NUMBERS], words: usize) -> [i64; ROLES] {
+    if words == MOST_WORDS {
+        return [
+            v[1],
+            v[2],
+            v[3],
+            v[4],
+            v[5],
+            v[6],
+            v[7],
+            v[8],
+            v[9],
+            v[10],
+            v[11],
+        ];
+    }
+    [v[1], v[2], v[3], v[4], v[5], v[6], v[7], OFF, OFF, OFF, OFF]
 }
 
-fn place(board: Board, v: [i64; MOST_NUMBERS], out: &mut [u8; ROOM], at: &mut usize) -> Board
+fn place(
+    board: Board,
+    v: [i64; MOST_NUMBERS],
+    words: usize,
+    out: &mut [u8; ROOM],
+    at: &mut usize,
+) -> Board
     requires { ⌜ Reached board ⌝ }
     ensures { λ r. ⌜ Reached r ⌝ }
 {
-    let asked = board.place(v[0], roles(v));
+    let asked = board.place(v[0], roles(v, words));
     let answer = asked.answer;
     put_transistor(answer, out, at);
     asked.board
@@ -301,6 +327,7 @@ fn obey_numbers(
     board: Board,
     verb: Verb,
     v: [i64; MOST_NUMBERS],
+    words: usize,
     out: &mut [u8; ROOM],
     at: &mut usize,
 ) -> Board
@@ -308,7 +335,7 @@ fn obey_numbers(
     ensures { λ r. ⌜ Reached r ⌝ }
 {
     match verb {
-        Verb::Place => place(board, v, out, at),
+        Verb::Place => place(board, v, words, out, at),
         Verb::Move => move_to(board, v[0], v[1], out, at),
         Verb::Lift => lift(board, v[0], out, at),
         Verb::Withdraw => withdraw(board, v[0], out, at),
@@ -345,6 +372,6 @@ pub fn obey(
             board
         }
         Verb::Moves => move_all(board, list, out, at),
-        _ => obey_numbers(board, verb, v, out, at),
+        _ => obey_numbers(board, verb, v, words.count, out, at),
     }
 }

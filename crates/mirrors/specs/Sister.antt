@@ -23,12 +23,19 @@ sisterOf c =
       rex = c .rex;
       rsub = c .rsub;
       reverse = c .reverse;
+      ge = c .ge;
+      gbc = c .gbc;
+      gcc = c .gcc;
+      gblx = c .gblx;
+      gbli = c .gbli;
       octave = c .octave;
       second = c .second;
       knee = c .knee;
       exsub = c .exsub;
       «rcbli_zero» = c .«rcbli_zero»;
       pnp = not (c .pnp);
+      «rcblx_zero» = c .«rcblx_zero»;
+      wide = c .wide;
     }
 
 -- a transistor on such a card, on the same nodes

@@ -19,6 +19,7 @@ use Rattle.card.specs.declared.WorkedCard.{WorkedCard}
 use Rattle.terms.specs.inner.Ready.{IsReady, readyOf}
 use Rattle.terms.proofs.Laws.{made-ready}
 use Rattle.terms.specs.Rows.{roles}
+use Rattle.terms.specs.Looked.{lookedAt}
 use Rattle.rows.specs.Outcome.{isOver}
 use Rattle.polarity.specs.Polarity.{outcomeOf}
 use Rattle.totals.specs.Flow.{rolesAt, overAt, overloads, flow, sumOver}
@@ -41,7 +42,7 @@ use Rattle.model.specs.Desk.{Call, load, place, move, lift, withdraw, lo
 use Rattle.model.specs.Model.{cardsOf, transistorsOf, transistorAt, workedOn, Levels, voltsOf, shifted, touched}
 use Rattle.model.specs.Model.{firstOver, settled, leveled, holding, standing, freshBoard}
 use Rattle.model.specs.Model.{loaded, loadedOf, newcomer}
-use Rattle.model.specs.Model.{placed, placedOf, moved, movedOf, lifted, liftedOf, withdrawn, withdrawnOf, looked}
+use Rattle.model.specs.Model.{placed, seenOn, placedOn, placedOf, moved, movedOf, lifted, liftedOf, withdrawn, withdrawnOf, looked}
 use Rattle.model.specs.Model.{lookedOf, showed, showedOf, mayLoad, mayPlace, mayMove, mayLift, mayWithdraw}
 use Rattle.model.specs.Model.{answered, boardAfter, Reached}
 use Rattle.model.specs.inner.Sums.{placeGives, totalsOf}
@@ -407,6 +408,12 @@ invariant-withdrawn {b} n g = go _ refl
               (unused-away (g .holds) (issueOf n) p a (w .unused)) (λ h. absurd (h refl)));
         }
 
+-- what a card looks at is a node for each role
+pub looked-long : (wide : Bool) (nodes : List ℤ) → length nodes ≡ roles → length (lookedAt wide nodes) ≡ roles
+unfolding lookedAt
+looked-long true nodes h = h
+looked-long false nodes h = refl
+
 -- the next number is never 0
 pub begun : {b : Board} → Invariant b → b .next ≡ 0 → ⊥
 begun g e = let h = g .holds .begun in omega arith
@@ -418,10 +425,10 @@ free-empty {b} g h =
     let below : freeTransistor (transistorsOf b) < length (transistorsOf b) = rw (g .holds .transistors-long) h in
     eqb-true _ 0 (first-passes (isTransistor 0) noTransistor (transistorsOf b) below)
 
-invariant-placed : {b : Board} (card : ℤ) (nodes : List ℤ) → length nodes ≡ roles → Invariant b →
-    Invariant (placedOf b card nodes .board)
-unfolding placedOf overloads
-invariant-placed {b} card nodes sized g = go _ refl
+invariant-placed-on : {b : Board} (card : ℤ) (nodes : List ℤ) → length nodes ≡ roles → Invariant b →
+    Invariant (placedOn b card nodes .board)
+unfolding overloads
+invariant-placed-on {b} card nodes sized g = go _ refl
   where
     go : (v : Verdict ℕ) → mayPlace b card nodes ≡ v → Invariant (placed b nodes v .board)
     go (no f) e = g
@@ -451,6 +458,12 @@ invariant-placed {b} card nodes sized g = go _ refl
               (totals-put (cardsOf b) (transistorsOf b) (voltsOf b) (g .holds .balanced) free
               (rw (g .holds .transistors-long) below) t (free-empty g below) (begun g)));
         }
+
+invariant-placed : {b : Board} (card : ℤ) (nodes : List ℤ) → length nodes ≡ roles → Invariant b →
+    Invariant (placedOf b card nodes .board)
+unfolding placedOf
+invariant-placed {b} card nodes sized g =
+    invariant-placed-on card (seenOn b card nodes) (looked-long _ nodes sized) g
 
 invariant-lifted : {b : Board} (n : ℤ) → Invariant b → Invariant (liftedOf b n .board)
 unfolding liftedOf

@@ -1,5 +1,5 @@
 -- Where the tests of placing and lifting lead, with what putting a transistor's currents in, or taking them out, gives.
-use mathlib.Core.Path.{_≡_, refl, sym, ap, _∙_, subst}
+use mathlib.Core.Path.{_≡_, refl, sym, ap, ap₂, _∙_, subst}
 use mathlib.Core.Bool.{Bool, true, false}
 use mathlib.Core.List.{List, map}
 use Prim.Native.Nat.{ℕ, _+_, _*_, _≤_, _<_}
@@ -22,17 +22,19 @@ use Rattle.terms.specs.Rows.{roles}
 use Rattle.totals.specs.Flow.{overAt, flow}
 use Rattle.totals.specs.inner.Sums.{More, Room}
 use Rattle.totals.specs.inner.Sizes.{roomMost}
-use Rattle.given.specs.Arguments.{Found, none, some, issueOf, issuesMost, usedUp}
+use Rattle.given.specs.Arguments.{Found, none, some, issueOf, issuesMost, usedUp, Ties, tiesOf}
+use Rattle.given.specs.Arguments.{wideBy}
+use Rattle.terms.specs.Looked.{lookedAt}
 use Rattle.given.specs.inner.Nodes.{nodeOf}
 use Rattle.deck.specs.Stretch.{written}
 use Rattle.placing.specs.declared.Way.{Way}
 use Rattle.placing.specs.declared.Way.the-variants.{Go, Stop}
 use Rattle.places.specs.Gathered.{Transistor, emptyTransistor, noCard, workedAt}
 use Rattle.places.specs.Finding.{cardPlace, transistorPlace, freeTransistor}
-use Rattle.places.specs.inner.Flat.{firstAt, freePlace, numberPlace, joinedAt}
+use Rattle.places.specs.inner.Flat.{firstAt, freePlace, numberPlace, tiesAt, wideAt}
 use Rattle.places.specs.inner.Parts.{placeOr}
 use Rattle.placing.specs.inner.Placing.{placing, wayOf}
-use Rattle.places.specs.laws.Gather.{card-place, joined-flat, first-transistor, transistor-place}
+use Rattle.places.specs.laws.Gather.{card-place, ties-flat, wide-flat, first-transistor, transistor-place}
 use Rattle.places.specs.laws.Founds.{not-there}
 use Rattle.placing.specs.laws.Ways.{stopped, went}
 use Rattle.flows.specs.Back.{backFlow}
@@ -43,8 +45,8 @@ use Rattle.model.specs.declared.Answer.the-variants.{Issue, Done, Refuse
 use Rattle.model.specs.Board.{Answered}
 use Rattle.model.specs.Counts.{nodesMost, cardsMost, transistorsMost}
 use Rattle.model.specs.Verdict.{liftVerdict}
-use Rattle.model.specs.Model.{cardsOf, transistorsOf, transistorAt, workedOn, voltsOf, refuse, placedOf, mayPlace}
-use Rattle.model.specs.Model.{liftedOf, Reached}
+use Rattle.model.specs.Model.{cardsOf, transistorsOf, transistorAt, workedOn, voltsOf, refuse, seenOn, placedOn}
+use Rattle.model.specs.Model.{mayPlace, liftedOf, Reached}
 use Rattle.model.specs.inner.Lent.{Lends, LendsPlaces, LeavesPlaces}
 use Rattle.model.proofs.Verdicts.{Places, places}
 use Rattle.model.proofs.PlacingTests.{lastly, on-same, then-lastly}
@@ -73,7 +75,7 @@ places-stay a e =
 abbrev pub wayOn : Board → ℕ → List ℕ → Way
 wayOn b n on =
     wayOf (freePlace (b .issues))
-    (placing (numberPlace cardsMost n (b .held)) (joinedAt (b .switches)) on
+    (placing (numberPlace cardsMost n (b .held)) (tiesAt (b .switches)) on
     (leb transistorsMost (freePlace (b .issues))) (usedUp (b .next)))
 
 module _ (b : Board) (k : Reached b) (card : ℤ) (nodes : List ℤ) (long : length nodes ≡ roles) {on : List ℕ}
@@ -84,8 +86,8 @@ module _ (b : Board) (k : Reached b) (card : ℤ) (nodes : List ℤ) (long : len
   abbrev place : Found ℕ
   place = cardPlace (issueOf card) (cardsOf b)
 
-  abbrev joins : ℕ → Bool
-  joins i = workedAt (cardsOf b) i .«rcbli_zero»
+  abbrev joins : ℕ → Ties
+  joins i = tiesOf (workedAt (cardsOf b) i)
 
   abbrev noRoom : Bool
   noRoom = leb transistorsMost (freeTransistor (transistorsOf b))
@@ -98,10 +100,10 @@ module _ (b : Board) (k : Reached b) (card : ℤ) (nodes : List ℤ) (long : len
   same-place =
       card-place (b .held) (b .names) (b .numbers) (b .powers) (b .ticks) (b .switches) (issueOf card)
 
-  same-joins : joins ≡ joinedAt (b .switches)
+  same-joins : joins ≡ tiesAt (b .switches)
   unfolding cardsOf
   same-joins =
-      λ j i. joined-flat (b .held) (b .names) (b .numbers) (b .powers) (b .ticks) (b .switches) i (g .sized .switches) j
+      λ j i. ties-flat (b .held) (b .names) (b .numbers) (b .powers) (b .ticks) (b .switches) i (g .sized .switches) j
 
   same-free : freeTransistor (transistorsOf b) ≡ freePlace (b .issues)
   unfolding transistorsOf
@@ -115,11 +117,10 @@ module _ (b : Board) (k : Reached b) (card : ℤ) (nodes : List ℤ) (long : len
   may-is = then-lastly place joins _ (b .next) nodes _ _
 
   pub place-stops : (f : Refusal) → w ≡ Stop f →
-      LeavesPlaces (placedOf b card nodes) (Refused f) (b .issues) (b .cards) (b .seats) (b .nodes) (b .totals)
+      LeavesPlaces (placedOn b card nodes) (Refused f) (b .issues) (b .cards) (b .seats) (b .nodes) (b .totals)
       (b .next)
-  unfolding placedOf
   place-stops f e =
-      places-stay {b = b} (placedOf b card nodes)
+      places-stay {b = b} (placedOn b card nodes)
       (rw (may-is, stopped (freeTransistor (transistorsOf b)) verdict (sym verdict-is ∙ e)))
 
   module _ {i free : ℕ} (e : w ≡ Go i free) where
@@ -168,18 +169,16 @@ module _ (b : Board) (k : Reached b) (card : ℤ) (nodes : List ℤ) (long : len
       over-is = rw (oe, same-card, on-is)
 
       pub place-over : isOver over ≡ true →
-          LeavesPlaces (placedOf b card nodes) (Refused (drawnBy (b .next) over)) (b .issues) (b .cards) (b .seats)
+          LeavesPlaces (placedOn b card nodes) (Refused (drawnBy (b .next) over)) (b .issues) (b .cards) (b .seats)
           (b .nodes) (b .totals) (b .next)
-      unfolding placedOf
-      place-over o = places-stay {b = b} (placedOf b card nodes) (rw (may-is, found .0, ← over-is, o))
+      place-over o = places-stay {b = b} (placedOn b card nodes) (rw (may-is, found .0, ← over-is, o))
 
       pub places-it : isOver over ≡ false → {l : List ℤ} →
           More nodesMost (b .totals) l (flow (cardOf (deckIn b) i) on (voltsOf b)) →
-          LeavesPlaces (placedOf b card nodes) (Issue (b .next)) (set (b .issues) free (b .next))
+          LeavesPlaces (placedOn b card nodes) (Issue (b .next)) (set (b .issues) free (b .next))
           (set (b .cards) free (getD (b .held) i 0)) (set (b .seats) free i) (written 0 (b .nodes) (roles * free) on
           roles) l
           (b .next + 1)
-      unfolding placedOf
       places-it o {l} more =
           rw (may-is, found .0, ← over-is, o)
           (record {
@@ -262,6 +261,24 @@ module _ (b : Board) (k : Reached b) (z : ℤ) where
           next-is = refl;
         })
 
+-- ---- what the card looks at of the nodes, by the switches and the numbers of the cards
+
+seen-flat : (b : Board) → Reached b → (card : ℤ) (given : List ℤ) → seenOn b card given
+    ≡ lookedAt (wideBy (wideAt (b .switches)) (numberPlace cardsMost (issueOf card) (b .held))) given
+unfolding cardsOf
+seen-flat b k card given =
+    ap₂ (λ (w : ℕ → Bool) (f : Found ℕ). lookedAt (wideBy w f) given)
+    (λ j i. wide-flat (b .held) (b .names) (b .numbers) (b .powers) (b .ticks) (b .switches) i
+    (invariant k .sized .switches) j)
+    (card-place (b .held) (b .names) (b .numbers) (b .powers) (b .ticks) (b .switches) (issueOf card))
+
+pub lent-seen : {b : Board} {numbers powers ticks : List ℕ} {switches : List Bool}
+    {held issues cards seats nodes volts : List ℕ} {totals : List ℤ} {next : ℕ} →
+    LendsPlaces b numbers powers ticks switches held issues cards seats nodes volts totals next → Reached b →
+    (card : ℤ) (given : List ℤ) → seenOn b card given
+    ≡ lookedAt (wideBy (wideAt switches) (numberPlace cardsMost (issueOf card) held)) given
+lent-seen {b} l r card given = rw (l .lends .switches-are, l .held-are) (seen-flat b r card given)
+
 -- ---- the same of arrays that are the board's
 
 module _ {b : Board} {numbers powers ticks : List ℕ} {switches : List Bool} {held issues cards seats nodes volts :
@@ -270,14 +287,14 @@ module _ {b : Board} {numbers powers ticks : List ℕ} {switches : List Bool} {h
     (l : LendsPlaces b numbers powers ticks switches held issues cards seats nodes volts totals next) (r : Reached b)
     (card : ℤ) (given : List ℤ) (long : length given ≡ roles) {on : List ℕ} (on-are : on ≡ map nodeOf given) {w : Way}
     (way-is : w ≡ wayOf (freePlace issues)
-    (placing (numberPlace cardsMost (issueOf card) held) (joinedAt switches) on (leb transistorsMost (freePlace issues))
+    (placing (numberPlace cardsMost (issueOf card) held) (tiesAt switches) on (leb transistorsMost (freePlace issues))
     (usedUp next))) where
   own-way : w ≡ wayOn b (issueOf card) on
   own-way =
       rw (← (l .lends .switches-are), ← (l .lends .issues-are), ← (l .held-are), ← (l .next-is)) way-is
 
   pub lent-stops : (f : Refusal) → w ≡ Stop f →
-      LeavesPlaces (placedOf b card given) (Refused f) issues cards seats nodes totals next
+      LeavesPlaces (placedOn b card given) (Refused f) issues cards seats nodes totals next
   lent-stops f e =
       rw (
         l .lends .issues-are,
@@ -326,7 +343,7 @@ module _ {b : Board} {numbers powers ticks : List ℕ} {switches : List Bool} {h
           ) oe
 
       pub lent-over : isOver over ≡ true →
-          LeavesPlaces (placedOf b card given) (Refused (drawnBy next over)) issues cards seats nodes totals next
+          LeavesPlaces (placedOn b card given) (Refused (drawnBy next over)) issues cards seats nodes totals next
       lent-over o =
           rw (
             l .lends .issues-are,
@@ -342,7 +359,7 @@ module _ {b : Board} {numbers powers ticks : List ℕ} {switches : List Bool} {h
       pub lent-places : isOver over ≡ false → {t : List ℤ} →
           More nodesMost totals t
           (flow (cardOf (deckOf numbers powers ticks switches) i) on (map givenBack volts)) →
-          LeavesPlaces (placedOf b card given) (Issue next) (set issues free next) (set cards free (getD held i 0))
+          LeavesPlaces (placedOn b card given) (Issue next) (set issues free next) (set cards free (getD held i 0))
           (set seats free i) (written 0 nodes (roles * free) on roles) t (next + 1)
       lent-places o {t} more =
           let own : More nodesMost (b .totals) t (flow (cardOf (deckIn b) i) on (voltsOf b)) =

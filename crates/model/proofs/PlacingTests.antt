@@ -1,6 +1,6 @@
 -- How the test of the currents comes after placing's other tests.
 use mathlib.Core.Path.{_≡_, refl, ap}
-use mathlib.Core.Bool.{Bool, true, false, cond, _&&_, _||_}
+use mathlib.Core.Bool.{Bool, true, false, cond, _||_}
 use mathlib.Core.List.{List, [], _∷_, map}
 use Prim.Native.Nat.{ℕ, zero, suc}
 use lib.Dec.{leb}
@@ -11,14 +11,14 @@ use Rattle.refusal.specs.declared.Refusal.the-variants.{NoRoom, OutOfRange, Spl
 use Rattle.refusal.specs.declared.Refusal.the-variants.{NumbersUsedUp}
 use Rattle.refusal.specs.Order.{Verdict, no, yes, refuseIf}
 use Rattle.refusal.specs.Clash.{clash}
-use Rattle.terms.specs.Rows.{C1, C4, roleIndex}
+use Rattle.terms.specs.Rows.{C1, C3, C4, roleIndex}
 use Rattle.model.specs.Counts.{nodesMost}
-use Rattle.given.specs.Arguments.{Found, none, some, offNode, someNodeOff, apart}
+use Rattle.given.specs.Arguments.{Found, none, some, offNode, someNodeOff, Ties, torn}
 use Rattle.rows.specs.declared.Over.{Over}
 use Rattle.model.specs.Verdict.{placeVerdict, refuseOver}
 use Rattle.given.specs.Lists.{anyOf}
 use Rattle.given.specs.inner.Nodes.{nodeOf}
-use Rattle.placing.specs.inner.Placing.{apartOn, placing}
+use Rattle.placing.specs.inner.Placing.{tornOn, placing}
 use Rattle.model.proofs.Verdicts.{on-node}
 
 abbrev pub lastly : {A : Type 0} → Verdict A → (A → Over) → ℕ → Verdict A
@@ -52,7 +52,7 @@ size-at (z ∷ nodes) zero = refl
 size-at (z ∷ nodes) (suc k) = size-at nodes k
 
 pub then-lastly :
-    {A : Type 0} (found : Found A) (joins : A → Bool) (over : A → Over) (next : ℕ) (nodes : List ℤ)
+    {A : Type 0} (found : Found A) (joins : A → Ties) (over : A → Over) (next : ℕ) (nodes : List ℤ)
     (noRoom used : Bool) →
     placeVerdict found joins over next nodes noRoom used
     ≡ lastly (placing found joins (map nodeOf nodes) noRoom used) over next
@@ -70,12 +70,12 @@ then-lastly (some a) joins over next nodes noRoom used = rw (off-same nodes) (go
 
     go : (t : Bool) → someNodeOff nodes ≡ t →
         refuseIf t OutOfRange
-        (refuseIf (joins a && apart nodes) SplitCollector
+        (refuseIf (torn (joins a) nodes) SplitCollector
         (refuseIf noRoom NoRoom (refuseIf used NumbersUsedUp (refuseOver next (over a) (yes a))))) ≡ lastly
         (refuseIf t OutOfRange
-        (refuseIf (joins a && apartOn (map nodeOf nodes)) SplitCollector
+        (refuseIf (tornOn (joins a) (map nodeOf nodes)) SplitCollector
         (refuseIf noRoom NoRoom (refuseIf used NumbersUsedUp (yes a))))) over next
     go true e = refl
     go false e =
-        rw (on-same nodes e, size-at nodes (roleIndex C4), size-at nodes (roleIndex C1))
-        (chain (joins a && apart nodes) noRoom used)
+        rw (on-same nodes e, size-at nodes (roleIndex C4), size-at nodes (roleIndex C1), size-at nodes (roleIndex C3))
+        (chain (torn (joins a) nodes) noRoom used)

@@ -1,6 +1,6 @@
 -- What a call that is taken has passed: each test of its order.
 use mathlib.Core.Path.{_≡_, refl, ap, _∙_}
-use mathlib.Core.Bool.{Bool, true, false, cond, not, _&&_, _||_}
+use mathlib.Core.Bool.{Bool, true, false, cond, not, _||_}
 use mathlib.Core.List.{List}
 use Prim.Native.Nat.{ℕ, _≤_, _<_}
 use native.Mathlib.Omega.{arith}
@@ -16,7 +16,7 @@ use Rattle.settle.specs.declared.First.{First}
 use lib.Dec.{leb, ltb}
 use borrow.Author.Tests.{leb-false}
 use Rattle.model.specs.Counts.{nodesMost}
-use Rattle.given.specs.Arguments.{Found, none, some, offNode, someNodeOff, apart}
+use Rattle.given.specs.Arguments.{Found, none, some, offNode, someNodeOff, Ties, torn}
 use Rattle.given.specs.Pairs.{arePairs, somePairOff, Shift, shiftsOf}
 use Rattle.given.specs.inner.Nodes.{nodeOf}
 use Rattle.model.specs.Verdict.{loadVerdict, placeVerdict, moveVerdict, liftVerdict, withdrawVerdict, nodeVerdict}
@@ -44,24 +44,24 @@ loads name {bytes} {noRoom} {used} {c} e =
         let s = passes-if used _ _ _ (r .1) in
         let same : d ≡ c = cc in record { judged = j ∙ ap yes same; room = r .0; number = s .0 }
 
-pub record Places {A : Type 0} (found : Found A) (joins : A → Bool) (over : A → Over) (nodes : List ℤ)
+pub record Places {A : Type 0} (found : Found A) (joins : A → Ties) (over : A → Over) (nodes : List ℤ)
     (noRoom used : Bool) (a : A) : Type 0 where
   pub there : found ≡ some a
   pub on : someNodeOff nodes ≡ false
-  pub joined : joins a && apart nodes ≡ false
+  pub joined : torn (joins a) nodes ≡ false
   pub room : noRoom ≡ false
   pub number : used ≡ false
   pub quiet : isOver (over a) ≡ false
 
 pub places :
-    {A : Type 0} (found : Found A) {joins : A → Bool} {over : A → Over} (next : ℕ) {nodes : List ℤ}
+    {A : Type 0} (found : Found A) {joins : A → Ties} {over : A → Over} (next : ℕ) {nodes : List ℤ}
     {noRoom used : Bool} {a : A} →
     placeVerdict found joins over next nodes noRoom used ≡ yes a → Places found joins over nodes noRoom used a
 unfolding placeVerdict
 places none next e = clash cc
 places (some b) {joins} {over} next {nodes} {noRoom} {used} {a} e =
     let p = passes-if (someNodeOff nodes) _ _ _ e in
-    let q = passes-if (joins b && apart nodes) _ _ _ (p .1) in
+    let q = passes-if (torn (joins b) nodes) _ _ _ (p .1) in
     let r = passes-if noRoom _ _ _ (q .1) in
     let s = passes-if used _ _ _ (r .1) in
     let t = passes-if (isOver (over b)) _ _ _ (s .1) in

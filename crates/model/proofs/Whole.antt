@@ -8,7 +8,7 @@ use Rattle.given.specs.Pairs.{Shift}
 use Rattle.model.specs.Board.{Board}
 use Rattle.model.specs.declared.Answer.{Answer}
 use Rattle.model.specs.Board.{Answered}
-use Rattle.model.specs.Model.{leveled, placed, placedOf, mayPlace, moved, movedOf, mayMove, lifted, liftedOf}
+use Rattle.model.specs.Model.{leveled, placed, seenOn, placedOf, mayPlace, moved, movedOf, mayMove, lifted, liftedOf}
 use Rattle.model.specs.Model.{mayLift}
 use Rattle.model.specs.inner.Lent.{Lends, LendsPlaces, LeavesLevels, LeavesPlaces}
 
@@ -60,9 +60,9 @@ OnlyPlaces b c = c ≡ withPlaces b (c .issues) (c .cards) (c .seats) (c .nodes)
 
 place-only : (b : Board) (card : ℤ) (nodes : List ℤ) → OnlyPlaces b (placedOf b card nodes .board)
 unfolding placedOf
-place-only b card nodes = go (mayPlace b card nodes)
+place-only b card nodes = go (mayPlace b card (seenOn b card nodes))
   where
-    go : (v : Verdict ℕ) → OnlyPlaces b (placed b nodes v .board)
+    go : (v : Verdict ℕ) → OnlyPlaces b (placed b (seenOn b card nodes) v .board)
     go (no f) = refl
     go (yes i) = refl
 

@@ -2,7 +2,7 @@
 -- with, the voltages and the next issue number.
 -- No place, no array and no stored total is known here.
 use mathlib.Core.Path.{_≡_}
-use mathlib.Core.Bool.{Bool, true, false, cond, not, _&&_}
+use mathlib.Core.Bool.{Bool, true, false, cond, not}
 use mathlib.Core.List.{List, [], _∷_, map}
 use Prim.Native.Nat.{ℕ, suc}
 use lib.Dec.{eqb, leb}
@@ -17,9 +17,10 @@ use Rattle.card.specs.Judge.{judgeOf}
 use Rattle.clip.specs.Record.{rightLength}
 use Rattle.card.specs.declared.WorkedCard.{WorkedCard}
 use Rattle.terms.specs.Rows.{roles}
+use Rattle.terms.specs.Looked.{lookedAt}
 use Rattle.totals.specs.Flow.{flow, sumOver}
 use Rattle.given.specs.Lists.{anyOf, larger}
-use Rattle.given.specs.Arguments.{Found, none, some, issueOf, offNode, someNodeOff, apart, known, usedUp}
+use Rattle.given.specs.Arguments.{Found, none, some, issueOf, offNode, someNodeOff, tiesOf, torn, known, usedUp}
 use Rattle.given.specs.Pairs.{arePairs, somePairOff, Shift, shiftsOf, shiftedIn}
 use Rattle.model.specs.Counts.{nodesMost, cardsMost, transistorsMost}
 use Rattle.model.specs.Faults.{Fault, refuseFirst, faultsOf, faultsAmong}
@@ -115,6 +116,10 @@ loaded d name (yes c) =
           };
     }
 
+-- what a card looks at of the nodes that are given
+abbrev pub lookedBy : Held → List ℤ → List ℤ
+lookedBy h nodes = lookedAt (h .worked .wide) nodes
+
 -- a new transistor, which keeps the card as it is now
 abbrev pub placed : Desk → List ℤ → Verdict Held → Step
 placed d nodes (no f) = refuse d f
@@ -125,7 +130,7 @@ placed d nodes (yes h) =
           record {
             cards = d .cards;
             standing =
-                record { issue = d .next; card = h .issue; worked = h .worked; nodes = map natAbs nodes } ∷ d .standing;
+                record { issue = d .next; card = h .issue; worked = h .worked; nodes = map natAbs (lookedBy h nodes) } ∷ d .standing;
             volts = d .volts;
             next = suc (d .next);
           };
@@ -201,15 +206,15 @@ mayLoad d name bytes =
     (λ (c : WorkedCard). refuseIf (leb cardsMost (length (d .cards))) NoRoom
     (refuseIf (usedUp (d .next)) NumbersUsedUp (yes c)))))
 
--- Placing: 12, 13, 14, 11, 17, then 15 or 18 for the first that would overload, with the number to come
+-- Placing: 12, then on the nodes that the card looks at 13, 14, 11, 17, then 15 or 18 for the first that would overload, with the number to come
 abbrev pub mayPlace : Desk → ℤ → List ℤ → Verdict Held
 mayPlace d card nodes =
     andThen (known (heldAs (issueOf card) (d .cards)))
-    (λ (h : Held). refuseIf (someNodeOff nodes) OutOfRange
-    (refuseIf (h .worked .«rcbli_zero» && apart nodes) SplitCollector
+    (λ (h : Held). refuseIf (someNodeOff (lookedBy h nodes)) OutOfRange
+    (refuseIf (torn (tiesOf (h .worked)) (lookedBy h nodes)) SplitCollector
     (refuseIf (leb transistorsMost (length (d .standing))) NoRoom
     (refuseIf (usedUp (d .next)) NumbersUsedUp
-    (refuseFirst (faultsOf (d .next) (h .worked) (map natAbs nodes) (d .volts)) (yes h))))))
+    (refuseFirst (faultsOf (d .next) (h .worked) (map natAbs (lookedBy h nodes)) (d .volts)) (yes h))))))
 
 -- Moving voltages together: 1, 13 for any pair, then 15 or 18 for the first that would overload where they end, of all
 -- transistors that stand

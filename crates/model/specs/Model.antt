@@ -13,9 +13,10 @@ use Rattle.volts.specs.Volts.{givenBack, keptAs}
 use Rattle.card.specs.declared.WorkedCard.{WorkedCard}
 use Rattle.terms.specs.inner.Ready.{readyOf}
 use Rattle.terms.specs.Rows.{roles}
+use Rattle.terms.specs.Looked.{lookedAt}
 use Rattle.totals.specs.Flow.{flow, overAt, withMore}
 use Rattle.given.specs.Lists.{anyOf}
-use Rattle.given.specs.Arguments.{issueOf, usedUp}
+use Rattle.given.specs.Arguments.{issueOf, usedUp, tiesOf, wideBy}
 use Rattle.given.specs.Pairs.{Shift, shiftsOf, shiftedIn}
 use Rattle.deck.specs.Stretch.{written}
 use Rattle.deck.specs.Layout.{numbersEach, powersEach, ticksEach, switchesEach, numbersOf, powersOf, ticksOf}
@@ -210,14 +211,22 @@ placed b nodes (yes i) =
       answer = Issue (b .next);
     }
 
+-- what the card that is asked for looks at of the nodes
+abbrev pub seenOn : Board → ℤ → List ℤ → List ℤ
+seenOn b card nodes =
+    lookedAt (wideBy (λ (i : ℕ). workedAt (cardsOf b) i .wide) (cardPlace (issueOf card) (cardsOf b))) nodes
+
 abbrev pub mayPlace : Board → ℤ → List ℤ → Verdict ℕ
 mayPlace b card nodes =
-    placeVerdict (cardPlace (issueOf card) (cardsOf b)) (λ (i : ℕ). workedAt (cardsOf b) i .«rcbli_zero»)
+    placeVerdict (cardPlace (issueOf card) (cardsOf b)) (λ (i : ℕ). tiesOf (workedAt (cardsOf b) i))
     (λ (i : ℕ). overAt (workedAt (cardsOf b) i) (map natAbs nodes) (voltsOf b)) (b .next) nodes
     (leb transistorsMost (freeTransistor (transistorsOf b))) (usedUp (b .next))
 
+abbrev pub placedOn : Board → ℤ → List ℤ → Answered
+placedOn b card nodes = placed b nodes (mayPlace b card nodes)
+
 unfoldable pub placedOf : Board → ℤ → List ℤ → Answered
-placedOf b card nodes = placed b nodes (mayPlace b card nodes)
+placedOf b card nodes = placedOn b card (seenOn b card nodes)
 
 abbrev pub moved : Board → Verdict (List Shift) → Answered
 moved b (no f) = refuse b f

@@ -1,6 +1,6 @@
 -- Which refusal a call gets on the board, each in the order of its rule: one test a clause, from plain facts about what
 -- its places hold. The desk states its own orders; they are proved the same.
-use mathlib.Core.Bool.{Bool, _&&_, not}
+use mathlib.Core.Bool.{Bool, not}
 use mathlib.Core.List.{List}
 use Prim.Native.Nat.{ℕ}
 use lib.Dec.{eqb}
@@ -14,7 +14,7 @@ use Rattle.card.specs.Judge.{judgeOf}
 use Rattle.clip.specs.Record.{rightLength}
 use Rattle.rows.specs.declared.Over.{Over}
 use Rattle.rows.specs.Outcome.{isOver, drawnBy}
-use Rattle.given.specs.Arguments.{Found, known, offNode, someNodeOff, apart}
+use Rattle.given.specs.Arguments.{Found, known, offNode, someNodeOff, Ties, torn}
 use Rattle.given.specs.Pairs.{arePairs, somePairOff, Shift, shiftsOf}
 use Rattle.settle.specs.declared.First.{First}
 
@@ -34,13 +34,13 @@ loadVerdict name bytes noRoom usedUp = loadOrder name bytes (judgeOf bytes) noRo
 abbrev pub refuseOver : {A : Type 0} → ℕ → Over → Verdict A → Verdict A
 refuseOver issue over next = refuseIf (isOver over) (drawnBy issue over) next
 
--- Placing: 12, 13, 14, 11, 17, 15 or 18 of the number to come; C4 and C1 are joined where R_Cbli is 0
+-- Placing: 12, 13, 14, 11, 17, 15 or 18 of the number to come; `ties` says which roles a card holds together
 unfoldable pub placeVerdict :
-    {A : Type 0} → Found A → (A → Bool) → (A → Over) → ℕ → List ℤ → Bool → Bool → Verdict A
-placeVerdict {A} found joined over next nodes noRoom usedUp =
+    {A : Type 0} → Found A → (A → Ties) → (A → Over) → ℕ → List ℤ → Bool → Bool → Verdict A
+placeVerdict {A} found ties over next nodes noRoom usedUp =
     andThen (known found)
     (λ (a : A). refuseIf (someNodeOff nodes) OutOfRange
-    (refuseIf (joined a && apart nodes) SplitCollector
+    (refuseIf (torn (ties a) nodes) SplitCollector
     (refuseIf noRoom NoRoom
     (refuseIf usedUp NumbersUsedUp
     (refuseOver next (over a) (yes a))))))

@@ -29,7 +29,9 @@ pub fn place(
     ensures { λ r. ⌜ ((b : Board) → Reached b → LendsPlaces b (now (numbers .entry)) (now (powers .entry)) (now (ticks .entry)) (now (switches .entry)) (now (held .entry)) (now (issues .entry)) (now (cards .entry)) (now (seats .entry)) (now (nodes .entry)) (now (volts .entry)) (now (totals .entry)) (now (next .entry)) → LeavesPlaces (placedOf b card roles) r (now (issues .exit)) (now (cards .exit)) (now (seats .exit)) (now (nodes .exit)) (now (totals .exit)) (now (next .exit))) ⌝ }
 {
     let n = given::issue_of(card);
-    let on = given::nodes_of(roles);
+    let wide = placing::is_wide(held, switches, n);
+    let seen = terms::looked_at(wide, roles);
+    let on = given::nodes_of(seen);
     let issue = *next;
     let way = placing::may_place(held, switches, issues, issue, n, &on);
     match way {

@@ -12,7 +12,7 @@ use Rattle.words.specs.Words.{wordAt}
 
 -- the most numbers that a command takes
 abbrev pub mostNumbers : ℕ
-mostNumbers = 8
+mostNumbers = 12
 
 abbrev pub isNumber : Parsed → Bool
 isNumber (parsed.Number z) = true

@@ -8,7 +8,7 @@ use words::Words;
 use words::word;
 
 // The most numbers that a command has.
-pub const MOST_NUMBERS: usize = 8;
+pub const MOST_NUMBERS: usize = 12;
 
 fn is_number(word: &[u8]) -> bool
     ensures { λ r. ⌜ r ≡ isNumber (parsedOf (now (word .entry))) ⌝ }

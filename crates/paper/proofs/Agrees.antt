@@ -21,6 +21,7 @@ use Rattle.card.specs.Judge.{judgeOf}
 use Rattle.card.specs.inner.Worked.{IsWorked}
 use Rattle.card.proofs.WorkedCards.{judged-is-worked}
 use Rattle.terms.specs.Rows.{roles}
+use Rattle.terms.specs.Looked.{lookedAt}
 use Rattle.scaling.specs.Scaled.{expOf}
 use Rattle.rows.specs.Ticks.{rootFor}
 use Rattle.rows.specs.Outcome.{outcomeAcross}
@@ -44,7 +45,7 @@ use Rattle.model.specs.Verdict.{loadOrder, loadVerdict, placeVerdict, moveVerdi
 use Rattle.given.specs.Pairs.{somePairOff, shiftsOf, shiftedIn}
 use Rattle.model.specs.Model.{cardsOf, transistorsOf, freshBoard, loaded, loadedOf, placedOf, movedOf}
 use Rattle.paper.specs.Words.{recordOf}
-use Rattle.paper.specs.Cases.{theCard, theBoard, theStage, lifts, Case, boardCase, stageCase, cases}
+use Rattle.paper.specs.Cases.{theCard, onSeven, theBoard, theStage, lifts, Case, boardCase, stageCase, cases}
 
 -- ---- the board: its card is worked once, and the calls go on from that
 
@@ -59,7 +60,7 @@ abbrev ratio : Split
 ratio = record { a = 1073741824; down = keptPower (negsuc 67) }
 
 abbrev worked : WorkedCard
-worked = record { sn = current; bulk = current; side = none; nonideal = none; ex = current; sub = none; sf = none; rex = ratio; rsub = ratio; reverse = none; octave = 16000000; second = 16000000; knee = 5000000; exsub = false; «rcbli_zero» = true; pnp = false }
+worked = record { sn = current; bulk = current; side = none; nonideal = none; ex = current; sub = none; sf = none; rex = ratio; rsub = ratio; reverse = none; ge = none; gbc = none; gcc = none; gblx = none; gbli = none; octave = 16000000; second = 16000000; knee = 5000000; exsub = false; «rcbli_zero» = true; pnp = false; «rcblx_zero» = true; wide = false }
 
 card-is : judgeOf (recordOf theCard) ≡ yes worked
 unfolding recordOf judgeOf clipOf finiteUp clippedUp clippedAt ofBits lt eq ne le whole mul div sub toUnsigned toSigned neg size
@@ -77,14 +78,14 @@ loadedFrom judged =
 
 runFrom : Board → Board
 runFrom b =
-    movedOf (movedOf (placedOf b (pos 1) (pos 0 ∷ pos 1 ∷ pos 1 ∷ pos 2 ∷ pos 2 ∷ pos 2 ∷ pos 3 ∷ []) .board) (pos 1 ∷ pos 16000 ∷ []) .board) (pos 2 ∷ pos 16000 ∷ []) .board
+    movedOf (movedOf (placedOf b (pos 1) (onSeven (pos 0 ∷ pos 1 ∷ pos 1 ∷ pos 2 ∷ pos 2 ∷ pos 2 ∷ pos 3 ∷ [])) .board) (pos 1 ∷ pos 16000 ∷ []) .board) (pos 2 ∷ pos 16000 ∷ []) .board
 
 board-from : theBoard ≡ runFrom (loadedFrom (judgeOf (recordOf theCard)))
 unfolding theBoard runFrom loadedFrom loadedOf loadVerdict
 board-from = refl
 
 totals-from : take 4 (runFrom (loadedFrom (yes worked)) .totals) ≡ negsuc 2047 ∷ pos 1024 ∷ pos 1024 ∷ pos 0 ∷ []
-unfolding runFrom loadedFrom loadedOf placedOf movedOf freshBoard recordOf entryOf entries expOf rootFor rootOf rootBits readyOf outcomeAcross outcomeOf asked padded placeVerdict moveVerdict overAt overloads rowsGive flow sumBelow withMore listUp anyOf first stretch written readyAt cardsIn transistorsIn backFlow changeBy changes firstBelow cardsOf transistorsOf somePairOff shiftsOf shiftedIn
+unfolding runFrom loadedFrom loadedOf placedOf lookedAt movedOf freshBoard recordOf entryOf entries expOf rootFor rootOf rootBits readyOf outcomeAcross outcomeOf asked padded placeVerdict moveVerdict overAt overloads rowsGive flow sumBelow withMore listUp anyOf first stretch written readyAt cardsIn transistorsIn backFlow changeBy changes firstBelow cardsOf transistorsOf somePairOff shiftsOf shiftedIn
 totals-from = refl
 
 board-row : boardCase .worked ≡ boardCase .paper
@@ -97,8 +98,8 @@ stageFrom : Board → Board
 stageFrom b =
     movedOf
     (placedOf
-    (placedOf b (pos 1) (pos 2 ∷ pos 1 ∷ pos 1 ∷ pos 3 ∷ pos 3 ∷ pos 3 ∷ pos 0 ∷ []) .board)
-    (pos 1) (pos 1 ∷ pos 2 ∷ pos 2 ∷ pos 3 ∷ pos 3 ∷ pos 3 ∷ pos 0 ∷ []) .board)
+    (placedOf b (pos 1) (onSeven (pos 2 ∷ pos 1 ∷ pos 1 ∷ pos 3 ∷ pos 3 ∷ pos 3 ∷ pos 0 ∷ [])) .board)
+    (pos 1) (onSeven (pos 1 ∷ pos 2 ∷ pos 2 ∷ pos 3 ∷ pos 3 ∷ pos 3 ∷ pos 0 ∷ [])) .board)
     (pos 3 ∷ pos 2000000 ∷ []) .board
 
 stage-from : theStage ≡ stageFrom (loadedFrom (judgeOf (recordOf theCard)))
@@ -106,7 +107,7 @@ unfolding theStage stageFrom loadedFrom loadedOf loadVerdict
 stage-from = refl
 
 stage-lifts : lifts (stageFrom (loadedFrom (yes worked))) ≡ pos 15 ∷ pos 15 ∷ pos 0 ∷ []
-unfolding stageFrom loadedFrom loadedOf placedOf movedOf freshBoard recordOf entryOf entries expOf rootFor rootOf rootBits readyOf outcomeAcross outcomeOf asked padded placeVerdict moveVerdict overAt overloads rowsGive flow sumBelow withMore listUp anyOf first stretch written readyAt cardsIn transistorsIn backFlow changeBy changes firstBelow cardsOf transistorsOf somePairOff shiftsOf shiftedIn
+unfolding stageFrom loadedFrom loadedOf placedOf lookedAt movedOf freshBoard recordOf entryOf entries expOf rootFor rootOf rootBits readyOf outcomeAcross outcomeOf asked padded placeVerdict moveVerdict overAt overloads rowsGive flow sumBelow withMore listUp anyOf first stretch written readyAt cardsIn transistorsIn backFlow changeBy changes firstBelow cardsOf transistorsOf somePairOff shiftsOf shiftedIn
 stage-lifts = refl
 
 -- a stage that cannot be lifted one node after the other can be lifted together

@@ -1,6 +1,6 @@
 -- The worked cases that are proved, as one list. Each works a value from the very definitions that the contracts
 -- cite; `paper-agrees` in proofs/ is the theorem.
-use mathlib.Core.List.{List, [], _∷_}
+use mathlib.Core.List.{List, [], _∷_, _++_}
 use Prim.Native.Nat.{ℕ}
 use lib.ListN.{getD, take, replicate}
 use lib.IntN.{ℤ, pos, negsuc, negℤ}
@@ -70,7 +70,7 @@ withSn s (no f) = []
 withSn s (yes c) =
     overNumbers
     (outcomeOf
-    (record { sn = s; bulk = c .bulk; side = c .side; nonideal = c .nonideal; ex = c .ex; sub = c .sub; sf = c .sf; rex = c .rex; rsub = c .rsub; reverse = c .reverse; octave = c .octave; second = c .second; knee = c .knee; exsub = c .exsub; «rcbli_zero» = c .«rcbli_zero»; pnp = c .pnp })
+    (record { sn = s; bulk = c .bulk; side = c .side; nonideal = c .nonideal; ex = c .ex; sub = c .sub; sf = c .sf; rex = c .rex; rsub = c .rsub; reverse = c .reverse; ge = c .ge; gbc = c .gbc; gcc = c .gcc; gblx = c .gblx; gbli = c .gbli; octave = c .octave; second = c .second; knee = c .knee; exsub = c .exsub; «rcbli_zero» = c .«rcbli_zero»; pnp = c .pnp; «rcblx_zero» = c .«rcblx_zero»; wide = c .wide })
     (replicate roles (pos 0))
     .over)
 
@@ -78,12 +78,16 @@ withSn s (yes c) =
 abbrev pub clipShows : ℕ → List ℕ → List ℤ
 clipShows i s = pos (maskOf s) ∷ pos (toBits binary64 (getD (numbersOf s) i nan)) ∷ []
 
+-- the nodes of a transistor of version 1, and for the roles that it has not none of the board's
+abbrev pub onSeven : List ℤ → List ℤ
+onSeven nodes = nodes ++ replicate 4 (negsuc 0)
+
 -- the paper's board: the card loaded as a1, one transistor placed, nodes 1 and 2 moved to 16,000 microvolts
 unfoldable pub theBoard : Board
 unfolding freshBoard recordOf loadedOf placedOf movedOf
 theBoard =
     let loaded = loadedOf freshBoard (0x61 ∷ 0x31 ∷ []) (recordOf theCard) .board in
-    let placed = placedOf loaded (pos 1) (pos 0 ∷ pos 1 ∷ pos 1 ∷ pos 2 ∷ pos 2 ∷ pos 2 ∷ pos 3 ∷ []) .board in
+    let placed = placedOf loaded (pos 1) (onSeven (pos 0 ∷ pos 1 ∷ pos 1 ∷ pos 2 ∷ pos 2 ∷ pos 2 ∷ pos 3 ∷ [])) .board in
     movedOf (movedOf placed (pos 1 ∷ pos 16000 ∷ []) .board) (pos 2 ∷ pos 16000 ∷ []) .board
 
 -- a stage: two transistors of the card, the base of each on the other's emitter, and their collectors at 2 V
@@ -91,8 +95,8 @@ unfoldable pub theStage : Board
 unfolding freshBoard recordOf loadedOf placedOf movedOf
 theStage =
     let loaded = loadedOf freshBoard (0x61 ∷ 0x31 ∷ []) (recordOf theCard) .board in
-    let one = placedOf loaded (pos 1) (pos 2 ∷ pos 1 ∷ pos 1 ∷ pos 3 ∷ pos 3 ∷ pos 3 ∷ pos 0 ∷ []) .board in
-    let two = placedOf one (pos 1) (pos 1 ∷ pos 2 ∷ pos 2 ∷ pos 3 ∷ pos 3 ∷ pos 3 ∷ pos 0 ∷ []) .board in
+    let one = placedOf loaded (pos 1) (onSeven (pos 2 ∷ pos 1 ∷ pos 1 ∷ pos 3 ∷ pos 3 ∷ pos 3 ∷ pos 0 ∷ [])) .board in
+    let two = placedOf one (pos 1) (onSeven (pos 1 ∷ pos 2 ∷ pos 2 ∷ pos 3 ∷ pos 3 ∷ pos 3 ∷ pos 0 ∷ [])) .board in
     movedOf two (pos 3 ∷ pos 2000000 ∷ []) .board
 
 -- the number of a refusal; 0 for what is done

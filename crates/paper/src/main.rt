@@ -21,7 +21,7 @@ fn told_number(a: Admission) -> i64 {
 
 // The reply for a record with the base at v microvolts and every other role at 0.
 fn at_base(bytes: [u8; RECORD], v: i64) -> Reply {
-    branch::currents(&bytes, &[0, v, v, 0, 0, 0, 0])
+    branch::currents(&bytes, &[0, v, v, 0, 0, 0, 0, 0, 0, 0, 0])
 }
 
 fn refusal_at(bytes: [u8; RECORD], v: i64) -> i64 {
@@ -74,7 +74,7 @@ fn stand(b: Board) -> Answered
     requires { ⌜ Reached b ⌝ }
     ensures { λ r. ⌜ Reached (r .board) ⌝ }
 {
-    b.place(1, [0, 1, 1, 2, 2, 2, 3])
+    b.place(1, [0, 1, 1, 2, 2, 2, 3, -1, -1, -1, -1])
 }
 
 fn run_board() {
@@ -97,8 +97,8 @@ fn run_board() {
 // Two of the paper's transistors, the base of each on the other's emitter: which of its nodes can be lifted by 2 V.
 fn run_stage() {
     let loaded = Board::fresh().load(b"a1", &records::paper());
-    let one = loaded.board.place(1, [2, 1, 1, 3, 3, 3, 0]);
-    let two = one.board.place(1, [1, 2, 2, 3, 3, 3, 0]);
+    let one = loaded.board.place(1, [2, 1, 1, 3, 3, 3, 0, -1, -1, -1, -1]);
+    let two = one.board.place(1, [1, 2, 2, 3, 3, 3, 0, -1, -1, -1, -1]);
     let stage = two.board.move_to(3, 2000000);
     let base = stage.board.move_to(1, 2000000);
     let alone = base.answer;

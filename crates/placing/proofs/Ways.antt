@@ -1,6 +1,6 @@
 -- Placing's way through its tests.
 use mathlib.Core.Path.{_≡_}
-use mathlib.Core.Bool.{Bool, true, false, _&&_}
+use mathlib.Core.Bool.{Bool, true, false}
 use mathlib.Core.List.{List}
 use Prim.Native.Nat.{ℕ, _≤_, _<_}
 use lib.Dec.{leb}
@@ -12,14 +12,14 @@ use Rattle.placing.specs.declared.Way.the-variants.{Go, Stop}
 use Rattle.given.specs.Lists.{anyOf}
 use Rattle.given.specs.Arguments.{none, some, issuesMost, usedUp}
 use Rattle.places.specs.Counts.{cardsMost, transistorsMost}
-use Rattle.places.specs.inner.Flat.{numberPlace, freePlace, joinedAt}
-use Rattle.placing.specs.inner.Placing.{apartOn, placing, wayOf}
+use Rattle.places.specs.inner.Flat.{numberPlace, freePlace, tiesAt}
+use Rattle.placing.specs.inner.Placing.{tornOn, placing, wayOf}
 
 module _ (held : List ℕ) (switches : List Bool) (issues : List ℕ) (next n : ℕ) (on : List ℕ) where
   abbrev way : Way
   way =
       wayOf (freePlace issues)
-      (placing (numberPlace cardsMost n held) (joinedAt switches) on (leb transistorsMost (freePlace issues))
+      (placing (numberPlace cardsMost n held) (tiesAt switches) on (leb transistorsMost (freePlace issues))
       (usedUp next))
 
   pub stop-unknown : numberPlace cardsMost n held ≡ none → Stop Unknown ≡ way
@@ -32,11 +32,11 @@ module _ (held : List ℕ) (switches : List Bool) (issues : List ℕ) (next n : 
     stop-off o = rw (e, o)
 
     module _ (o : anyOf (leb nodesMost) on ≡ false) where
-      pub stop-split : joinedAt switches i && apartOn on ≡ true → Stop SplitCollector ≡ way
+      pub stop-split : tornOn (tiesAt switches i) on ≡ true → Stop SplitCollector ≡ way
       unfolding placing
       stop-split s = rw (e, o, s)
 
-      module _ (s : joinedAt switches i && apartOn on ≡ false) where
+      module _ (s : tornOn (tiesAt switches i) on ≡ false) where
         pub stop-full : transistorsMost ≤ freePlace issues → Stop NoRoom ≡ way
         unfolding placing
         stop-full h = rw (e, o, s, le-leb _ _ h)

@@ -25,6 +25,9 @@ const PLACES: u64 = 1024;
 
 const LOW: u64 = TICKS_MOST / PLACES;
 
+// How many of the rows are junctions'; those of the leads follow.
+const JUNCTIONS: usize = 8;
+
 // Below this floor, a ratio of 1/64, three terms of the root's series are the root or one less.
 const NEAR: u64 = UNIT / 64;
 
@@ -128,13 +131,17 @@ fn divided(plus: u64, minus: u64, left: u64, right: u64) -> i64
     whole::difference(plus, minus)
 }
 
-// Each row's ticks.
+// Each row's ticks. Two loops, of the junctions and of the leads, are each short enough to be unrolled; one over all rows is not.
 fn all_divided(x: Terms) -> [i64; BRANCHES]
     requires { ⌜ Fine x ⌝ }
     ensures { λ r. ⌜ r ≡ allTicks x ⌝ }
 {
     let mut ticks = [0i64; BRANCHES];
-    for k in 0..BRANCHES {
+    for k in 0..JUNCTIONS {
+        let t = divided(x.plus[k], x.minus[k], x.left[k], x.right[k]);
+        ticks[k] = t;
+    }
+    for k in JUNCTIONS..BRANCHES {
         let t = divided(x.plus[k], x.minus[k], x.left[k], x.right[k]);
         ticks[k] = t;
     }

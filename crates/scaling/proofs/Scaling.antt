@@ -18,8 +18,9 @@ use Rattle.octave.specs.Table.{places}
 use Rattle.octave.specs.Position.{octaveFrom}
 use Rattle.octave.specs.Exponential.{bias, exponentialOf}
 use Rattle.octave.specs.laws.Places.{exponential-mantissa, exponent-is}
-use Rattle.scaling.specs.Scaled.{Scaled, valueAt, expOf, times, wholeTicks, wholeParts, tickLimit, ratioLimit}
-use Rattle.scaling.specs.inner.Shifts.{aloneOf, expAt}
+use Rattle.scaling.specs.Scaled.{Scaled, valueAt, expOf, times, wholeNumber, wholeTicks, wholeParts, tickLimit}
+use Rattle.scaling.specs.Scaled.{ratioLimit}
+use Rattle.scaling.specs.inner.Shifts.{aloneOf, throughOf, expAt}
 use Rattle.scaling.specs.inner.Shifts.{UpTo, Sized, scaledOf, moreParts}
 
 -- ---- numbers up to a limit
@@ -129,6 +130,21 @@ module _ {s : Split} {g : Exponential} (i : IsSplit s) (z : Sized g) where
 -- T by itself
 pub alone-is : (x : Split) → heldAt (suc tickLimit) (floorScale (x .a) (subℕ (splitBias + 50) (x .down))) ≡ aloneOf x
 alone-is x = ap (λ (z : ℤ). heldAt (suc tickLimit) (floorScale (x .a) z)) (sym (alone-power (x .down)))
+
+-- and of a conductance times microvolts
+pub through-is : (x : Split) (d : ℕ)
+    → heldAt (suc tickLimit) (floorScale (x .a * d) (subℕ (splitBias + 50) (x .down))) ≡ throughOf x d
+through-is x d =
+    ap (λ (z : ℤ). heldAt (suc tickLimit) (floorScale (x .a * d) z))
+    (sym (alone-power (x .down)) ∙ ap (λ (z : ℤ). z +ℤ pos 50) (sym (plus-none (x .down))))
+  where
+    plus-none : (down : ℕ) → subℕ splitBias down +ℤ pos 0 ≡ subℕ splitBias down
+    plus-none down =
+        ap (λ (z : ℤ). subℕ splitBias down +ℤ z) (as-sub 0) ∙ sub-add splitBias down 0 0
+        ∙ sub-eq (splitBias + 0) (down + 0) splitBias down (omega arith)
+
+pub through-upto : (x : Split) (d : ℕ) → UpTo tickLimit (throughOf x d) (wholeTicks (times (valueAt x) (wholeNumber d)))
+through-upto x d = upto-held tickLimit (wholeTicks (times (valueAt x) (wholeNumber d))) (lit< tt)
 
 pub alone-upto : (x : Split) → UpTo tickLimit (aloneOf x) (wholeTicks (valueAt x))
 alone-upto x = upto-held tickLimit (wholeTicks (valueAt x)) (lit< tt)

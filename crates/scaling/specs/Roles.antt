@@ -12,10 +12,14 @@ pub data Role : Type 0 where
   C2 : Role
   C4 : Role
   S : Role
+  E : Role
+  B : Role
+  C : Role
+  C3 : Role
 
 -- in the order in which a placing names them
 abbrev pub allRoles : List Role
-allRoles = E1 ∷ B1 ∷ B2 ∷ C1 ∷ C2 ∷ C4 ∷ S ∷ []
+allRoles = E1 ∷ B1 ∷ B2 ∷ C1 ∷ C2 ∷ C4 ∷ S ∷ E ∷ B ∷ C ∷ C3 ∷ []
 
 abbrev pub roles : ℕ
 roles = length allRoles
@@ -29,3 +33,7 @@ roleIndex C1 = 3
 roleIndex C2 = 4
 roleIndex C4 = 5
 roleIndex S = 6
+roleIndex E = 7
+roleIndex B = 8
+roleIndex C = 9
+roleIndex C3 = 10

@@ -24,6 +24,10 @@ expOf v w = record { digits = mantissaOf (partOf v w); power = wholeOf v w -ℤ 
 abbrev pub times : Scaled → Scaled → Scaled
 times x y = record { digits = x .digits * y .digits; power = x .power +ℤ y .power }
 
+-- a whole number, as a voltage's microvolts
+abbrev pub wholeNumber : ℕ → Scaled
+wholeNumber n = record { digits = n; power = pos 0 }
+
 -- binary places of a tick, 2^-50 ampere, and of the unit in which ratios count, 2^-20
 abbrev pub tickPlaces : ℕ
 tickPlaces = 50

@@ -4,14 +4,14 @@ ghost use mathlib.Core.List.{map};
 ghost use lib.ListN.{getD};
 ghost use lib.IntN.{pos, _-ℤ_};
 ghost use Rattle.volts.specs.Volts.{givenBack};
-ghost use Rattle.scaling.specs.inner.Shifts.{aloneOf, IsExp, Scalable, Junction, scaledOf};
+ghost use Rattle.scaling.specs.inner.Shifts.{aloneOf, throughOf, Drop, IsExp, Scalable, Junction, scaledOf};
 use float::Split;
 use octave::Exponential;
 use octave::Reciprocal;
 use octave::Table;
 
-// E1, B1, B2, C1, C2, C4, S.
-pub const ROLES: usize = 7;
+// E1, B1, B2, C1, C2, C4, S, E, B, C, C3.
+pub const ROLES: usize = 11;
 
 // The most that a T may be.
 pub const TICKS_MOST: u64 = 9007199254740992;
@@ -38,6 +38,14 @@ pub fn alone(x: Split) -> u64
     ensures { λ r. ⌜ r ≡ aloneOf x ⌝ }
 {
     whole::floor_scale(x.a as u64, ALONE, x.down as u64, TICKS_OVER)
+}
+
+// T of a conductance times so many microvolts, held likewise.
+pub fn through(x: Split, microvolts: u64) -> u64
+    requires { ⌜ Drop x microvolts ⌝ }
+    ensures { λ r. ⌜ r ≡ throughOf x microvolts ⌝ }
+{
+    whole::floor_scale((x.a as u64) * microvolts, ALONE, x.down as u64, TICKS_OVER)
 }
 
 // A value times an exponential: in ticks, or with `more` binary places fewer.

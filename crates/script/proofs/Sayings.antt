@@ -1,8 +1,8 @@
 -- What a line says, from the steps that read it.
 use mathlib.Core.Path.{_≡_, _∙_}
-use mathlib.Core.Bool.{Bool, true, false, _&&_}
+use mathlib.Core.Bool.{Bool, true, false, _||_}
 use mathlib.Core.List.{List}
-use Prim.Native.Nat.{ℕ, _-_, _<_, _≤_}
+use Prim.Native.Nat.{ℕ, _<_, _≤_}
 use borrow.Author.Tests.{eq-eqb, ne-eqb, lt-ltb, le-ltb}
 use lib.Dec.{eqb}
 use lib.ListN.{length}
@@ -15,12 +15,11 @@ use Rattle.verbs.specs.declared.Row.{Row}
 use Rattle.verbs.specs.declared.Verb.{Verb}
 use Rattle.verbs.specs.declared.Verb.the-variants.{Nothing, TooLong, Error}
 use Rattle.verbs.specs.declared.Wants.{Wants}
-use Rattle.verbs.specs.declared.Wants.the-variants.{Texts, Numbers, Pairs, NameAndHex}
+use Rattle.verbs.specs.declared.Wants.the-variants.{Texts, Numbers, Either, Pairs, NameAndHex}
 use Rattle.words.specs.Words.{noWords, wordsOf, wordAt}
 use Rattle.verbs.specs.Table.{rowNamed}
-use Rattle.numbered.specs.Numbers.{areNumbers}
-use Rattle.script.specs.Command.{longestLine, mostBytes, passedOver, said, saidPairs, verbIf, hexOf, saidTo}
-use Rattle.script.specs.Command.{spelledTo, SaysTo, commandOf, bufferOf, Says}
+use Rattle.script.specs.Command.{longestLine, mostBytes, passedOver, said, hasNumbers, saidPairs, verbIf, hexOf}
+use Rattle.script.specs.Command.{saidTo, spelledTo, SaysTo, commandOf, bufferOf, Says}
 
 -- ---- to a row
 
@@ -31,10 +30,16 @@ module _ (line : List ℕ) (w : Words) {old : List ℕ} {v : Verb} {r : Command}
   said-texts e f g = record { command = rw (e, ← f) g; buffer = rw e }
 
   pub said-numbers : {want : Wants} {u : Verb} {n : ℕ} {b : Bool} → want ≡ Numbers n
-      → b ≡ eqb (w .count) n && areNumbers line w 1 (n - 1) → u ≡ verbIf b v → r ≡ said line w u 0
+      → b ≡ hasNumbers line w n → u ≡ verbIf b v → r ≡ said line w u 0
       → SaysTo line w v want old r old
   unfolding saidTo spelledTo
   said-numbers e h f g = record { command = rw (e, ← h, ← f) g; buffer = rw e }
+
+  pub said-either : {want : Wants} {u : Verb} {m n : ℕ} {b : Bool} → want ≡ Either m n
+      → b ≡ hasNumbers line w m || hasNumbers line w n → u ≡ verbIf b v → r ≡ said line w u 0
+      → SaysTo line w v want old r old
+  unfolding saidTo spelledTo
+  said-either e h f g = record { command = rw (e, ← h, ← f) g; buffer = rw e }
 
   pub said-list : {want : Wants} → want ≡ Pairs → r ≡ saidPairs line w v → SaysTo line w v want old r old
   unfolding saidTo spelledTo

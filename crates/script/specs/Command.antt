@@ -14,7 +14,7 @@ use Rattle.verbs.specs.declared.Row.{Row}
 use Rattle.verbs.specs.declared.Verb.{Verb}
 use Rattle.verbs.specs.declared.Verb.the-variants.{Nothing, TooLong, Error}
 use Rattle.verbs.specs.declared.Wants.{Wants}
-use Rattle.verbs.specs.declared.Wants.the-variants.{Texts, Numbers, Pairs, NameAndHex}
+use Rattle.verbs.specs.declared.Wants.the-variants.{Texts, Numbers, Either, Pairs, NameAndHex}
 use Rattle.words.specs.Words.{noWords, wordsOf, wordAt}
 use Rattle.numbered.specs.Numbers.{mostNumbers, areNumbers, numbersTo}
 use Rattle.series.specs.declared.Series.{Series}
@@ -75,10 +75,15 @@ abbrev pub saidIf : Bool → List ℕ → Words → Verb → Command
 saidIf true line w v = saidHex line w v (hexOf line w)
 saidIf false line w v = said line w Error 0
 
+-- the line has n words, those after the first numbers
+abbrev pub hasNumbers : List ℕ → Words → ℕ → Bool
+hasNumbers line w n = eqb (w .count) n && areNumbers line w 1 (n - 1)
+
 -- what the line says to a row
 unfoldable pub saidTo : List ℕ → Words → Verb → Wants → Command
 saidTo line w v (Texts n) = said line w (verbIf (eqb (w .count) n) v) 0
-saidTo line w v (Numbers n) = said line w (verbIf (eqb (w .count) n && areNumbers line w 1 (n - 1)) v) 0
+saidTo line w v (Numbers n) = said line w (verbIf (hasNumbers line w n) v) 0
+saidTo line w v (Either m n) = said line w (verbIf (hasNumbers line w m || hasNumbers line w n) v) 0
 saidTo line w v Pairs = saidPairs line w v
 saidTo line w v NameAndHex = saidIf (eqb (w .count) 3) line w v
 
@@ -90,6 +95,7 @@ spelledIf false line w old = old
 unfoldable pub spelledTo : List ℕ → Words → Wants → List ℕ → List ℕ
 spelledTo line w (Texts n) old = old
 spelledTo line w (Numbers n) old = old
+spelledTo line w (Either m n) old = old
 spelledTo line w Pairs old = old
 spelledTo line w NameAndHex old = spelledIf (eqb (w .count) 3) line w old
 

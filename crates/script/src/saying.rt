@@ -1,11 +1,8 @@
 // What a line says, its words parted.
 ghost use mathlib.Core.Path.{_≡_};
-ghost use mathlib.Core.Bool.{_&&_};
-ghost use Prim.Native.Nat.{_-_};
-ghost use lib.Dec.{eqb};
+ghost use mathlib.Core.Bool.{_||_};
 ghost use lib.ListN.{length};
-ghost use Rattle.numbered.specs.Numbers.{areNumbers};
-ghost use Rattle.script.specs.Command.{mostBytes, passedOver, said, arePairs, saidPairs, SaysTo, verbIf};
+ghost use Rattle.script.specs.Command.{mostBytes, passedOver, said, hasNumbers, arePairs, saidPairs, SaysTo, verbIf};
 use crate::Command;
 use crate::Verb;
 use hex::Hex;
@@ -50,12 +47,23 @@ fn verb_if(good: bool, verb: Verb) -> Verb
 
 // Whether the line has n words, those after the first numbers.
 fn has_numbers(line: &[u8], words: Words, n: usize) -> bool
-    ensures { λ r. ⌜ r ≡ (eqb (words .count) n && areNumbers (now (line .entry)) words 1 (n - 1)) ⌝ }
+    ensures { λ r. ⌜ r ≡ hasNumbers (now (line .entry)) words n ⌝ }
 {
     if words.count == n {
         are_numbers(line, words, n)
     } else {
         false
+    }
+}
+
+// Whether it has m words so, or n.
+fn has_either(line: &[u8], words: Words, m: usize, n: usize) -> bool
+    ensures { λ r. ⌜ r ≡ (hasNumbers (now (line .entry)) words m || hasNumbers (now (line .entry)) words n) ⌝ }
+{
+    if has_numbers(line, words, m) {
+        true
+    } else {
+        has_numbers(line, words, n)
     }
 }
 
@@ -114,6 +122,7 @@ pub(crate) fn said_to(
     match wants {
         Wants::Texts(n) => said(line, words, verb_if(words.count == n, verb), 0),
         Wants::Numbers(n) => said(line, words, verb_if(has_numbers(line, words, n), verb), 0),
+        Wants::Either(m, n) => said(line, words, verb_if(has_either(line, words, m, n), verb), 0),
         Wants::Pairs => said_pairs(line, words, verb),
         Wants::NameAndHex => said_hex(line, words, verb, bytes),
     }

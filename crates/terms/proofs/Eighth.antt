@@ -19,7 +19,7 @@ use Rattle.terms.specs.Rows.{Role, B1, C4, reverse, row8}
 use Rattle.terms.specs.Values.{tickOf, sumAt}
 use Rattle.terms.specs.inner.Terms.{Whole}
 
-nothing : (z : ℤ) → floorScale 0 z ≡ 0
+pub nothing : (z : ℤ) → floorScale 0 z ≡ 0
 nothing (pos e) = zero-mul (2 ^ e)
 nothing (negsuc e) = zero-div (2 ^ suc e)
 

@@ -1,3 +1,4 @@
 pub mod Readied
 pub mod Eighth
+pub mod Series
 pub mod Laws

@@ -48,12 +48,18 @@ pub record Splits (c : WorkedCard) : Type 0 where
   pub rex : IsSplit (c .rex)
   pub rsub : IsSplit (c .rsub)
   pub reverse : IsSplit (c .reverse)
+  pub ge : IsSplit (c .ge)
+  pub gbc : IsSplit (c .gbc)
+  pub gcc : IsSplit (c .gcc)
+  pub gblx : IsSplit (c .gblx)
+  pub gbli : IsSplit (c .gbli)
 
 pub splits : {c : WorkedCard} → IsWorked c → Splits c
 splits h =
     let a = h .splits in
     let b = a .1 .1 .1 in
     let d = b .1 .1 .1 in
+    let f = d .1 .1 .1 .1 in
     record {
       sn = a .0;
       bulk = a .1 .0;
@@ -65,6 +71,11 @@ splits h =
       rex = d .1 .0;
       rsub = d .1 .1 .0;
       reverse = d .1 .1 .1 .0;
+      ge = f .0;
+      gbc = f .1 .0;
+      gcc = f .1 .1 .0;
+      gblx = f .1 .1 .1 .0;
+      gbli = f .1 .1 .1 .1 .0;
     }
 
 module _ {r : Ready} (h : IsReady r) where

@@ -1,4 +1,5 @@
 pub mod Rows
 pub mod Ends
 pub mod Values
+pub mod Looked
 pub mod inner

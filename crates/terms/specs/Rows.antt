@@ -1,10 +1,10 @@
 -- The branches of a transistor as data: where each starts and ends, the T's it counts, and what it is divided by.
 -- No branch is written anywhere else in specs/.
 use mathlib.Core.Bool.{Bool, true, false}
-use mathlib.Core.List.{List, [], _∷_}
+use mathlib.Core.List.{List, [], _∷_, _++_}
 use Prim.Native.Nat.{ℕ}
 use lib.ListN.{length}
-pub use Rattle.scaling.specs.Roles.{Role, E1, B1, B2, C1, C2, C4, S, allRoles, roles, roleIndex}
+pub use Rattle.scaling.specs.Roles.{Role, E1, B1, B2, C1, C2, C4, S, E, B, C, C3, allRoles, roles, roleIndex}
 
 -- the worked values of a card
 pub data Value : Type 0 where
@@ -18,16 +18,23 @@ pub data Value : Type 0 where
   rEx : Value
   rSub : Value
   reverse : Value
+  gE : Value
+  gBc : Value
+  gCc : Value
+  gBlx : Value
+  gBli : Value
 
 -- the octave, and the second octave
 pub data Span : Type 0 where
   plain : Span
   second : Span
 
--- a value by itself, or times the exponential of a junction's voltage
+-- a value by itself, or times the exponential of a junction's voltage; or times the voltage from one role to another, as
+-- far as that is above 0
 pub data Term : Type 0 where
   alone : Value → Term
   across : Value → Span → Role → Role → Term
+  through : Value → Role → Role → Term
 
 -- what a divisor is a sum of: 2^20, or the root for a ratio at a junction's voltage
 pub data Summand : Type 0 where
@@ -102,9 +109,36 @@ abbrev pub row8 : Row
 row8 =
     record { from = B1; to = C4; plus = across reverse plain B1 C4; minus = alone reverse; divisor = exps reverse B1 C4 }
 
--- the branches of a card with this EXSUB, in order
+-- a series resistor from p to q: what it lets through of the voltage from p to q, less what it does of that from q to p.
+-- One of them is nothing, so that this is the sign of the voltage times T of its size (`resistor-is` in leads/proofs)
+abbrev pub resistor : Value → Role → Role → Row
+resistor g p q = record { from = p; to = q; plus = through g p q; minus = through g q p; divisor = undivided }
+
+-- R_E, R_Bc, R_Cc, R_Cblx and R_Cbli
+abbrev pub row9 : Row
+row9 = resistor gE E E1
+
+abbrev pub row10 : Row
+row10 = resistor gBc B B1
+
+abbrev pub row11 : Row
+row11 = resistor gCc C C3
+
+abbrev pub row12 : Row
+row12 = resistor gBlx C3 C4
+
+abbrev pub row13 : Row
+row13 = resistor gBli C4 C1
+
+-- the branches of a card with this EXSUB, in order: its junctions, and its leads
+abbrev pub junctionRows : Bool → List Row
+junctionRows exsub = row1 ∷ row2 ∷ row3 ∷ row4 ∷ row5 ∷ row6 exsub ∷ row7 ∷ row8 ∷ []
+
+abbrev pub leadRows : List Row
+leadRows = row9 ∷ row10 ∷ row11 ∷ row12 ∷ row13 ∷ []
+
 abbrev pub rowsFor : Bool → List Row
-rowsFor exsub = row1 ∷ row2 ∷ row3 ∷ row4 ∷ row5 ∷ row6 exsub ∷ row7 ∷ row8 ∷ []
+rowsFor exsub = junctionRows exsub ++ leadRows
 
 -- how many there are
 abbrev pub branches : ℕ

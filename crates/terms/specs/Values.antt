@@ -4,14 +4,14 @@ use mathlib.Core.List.{List}
 use Prim.Native.Nat.{ℕ, _*_}
 use lib.Dec.{ltb}
 use lib.ListN.{getD}
-use lib.IntN.{ℤ, pos, subℕ, _-ℤ_}
+use lib.IntN.{ℤ, pos, negsuc, subℕ, _-ℤ_}
 use Rattle.volts.specs.Volts.{span}
 use Rattle.card.specs.declared.WorkedCard.{WorkedCard}
-use Rattle.scaling.specs.Scaled.{Scaled, valueAt, expOf, times, wholeTicks, wholeParts}
+use Rattle.scaling.specs.Scaled.{Scaled, valueAt, expOf, times, wholeNumber, wholeTicks, wholeParts}
 use Rattle.reverse.specs.Sum.{sumParts, overSum, sumOver}
 use Rattle.terms.specs.Rows.{Role, roleIndex, Value, sN, bulk, side, nonideal, ex, sub, sf, rEx, rSub, reverse}
-use Rattle.terms.specs.Rows.{Span}
-use Rattle.terms.specs.Rows.{plain, second, Term, alone, across, Summand, unit, root}
+use Rattle.terms.specs.Rows.{gE, gBc, gCc, gBlx, gBli, Span, plain, second, Term, alone, across, through}
+use Rattle.terms.specs.Rows.{Summand, unit, root}
 
 -- the worked values by their names
 abbrev pub valueOf : WorkedCard → Value → Scaled
@@ -25,6 +25,11 @@ valueOf c sf = valueAt (c .sf)
 valueOf c rEx = valueAt (c .rex)
 valueOf c rSub = valueAt (c .rsub)
 valueOf c reverse = valueAt (c .reverse)
+valueOf c gE = valueAt (c .ge)
+valueOf c gBc = valueAt (c .gbc)
+valueOf c gCc = valueAt (c .gcc)
+valueOf c gBlx = valueAt (c .gblx)
+valueOf c gBli = valueAt (c .gbli)
 
 -- the voltage of a junction: that of its first role less that of its second
 abbrev pub biasOf : List ℤ → Role → Role → ℤ
@@ -34,10 +39,16 @@ abbrev pub octaveFor : WorkedCard → Span → ℕ
 octaveFor c plain = c .octave
 octaveFor c second = c .second
 
+-- how far a voltage is above 0
+abbrev pub rise : ℤ → ℕ
+rise (pos n) = n
+rise (negsuc n) = 0
+
 -- a term's T
 abbrev pub tickOf : WorkedCard → (Role → Role → ℤ) → Term → ℕ
 tickOf c v (alone x) = wholeTicks (valueOf c x)
 tickOf c v (across x span p q) = wholeTicks (times (valueOf c x) (expOf (v p q) (octaveFor c span)))
+tickOf c v (through x p q) = wholeTicks (times (valueOf c x) (wholeNumber (rise (v p q))))
 
 -- floor(r * G(V) * 2^20) for a ratio; 0 for the summand that has none
 abbrev pub ratioOf : WorkedCard → (Role → Role → ℤ) → Summand → ℕ

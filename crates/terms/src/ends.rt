@@ -17,6 +17,14 @@ pub const C4: usize = 5;
 
 pub const S: usize = 6;
 
+pub const E: usize = 7;
+
+pub const B: usize = 8;
+
+pub const C: usize = 9;
+
+pub const C3: usize = 10;
+
 // The roles at which the branches start.
 pub fn from_roles() -> [u8; BRANCHES]
     ensures { λ r. ⌜ r ≡ fromRoles ⌝ }
@@ -30,6 +38,11 @@ pub fn from_roles() -> [u8; BRANCHES]
         B1 as u8,
         S as u8,
         B1 as u8,
+        E as u8,
+        B as u8,
+        C as u8,
+        C3 as u8,
+        C4 as u8,
     ]
 }
 
@@ -44,7 +57,12 @@ pub fn to_roles() -> [u8; BRANCHES]
         E1 as u8,
         C4 as u8,
         S as u8,
-        C1 as u8,
+        C1 as u8, // row 7
         C4 as u8,
+        E1 as u8,
+        B1 as u8,
+        C3 as u8,
+        C4 as u8,
+        C1 as u8,
     ]
 }

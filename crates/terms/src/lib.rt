@@ -4,23 +4,28 @@ ghost use Rattle.card.specs.inner.Worked.{IsWorked};
 ghost use Rattle.terms.specs.inner.Ready.{readyOf};
 
 mod values; // values.rt: T's and ratios at given voltages
+mod resistors; // resistors.rt: T's of the series resistors
 mod ends; // ends.rt: where the branches start and end
 mod empty; // empty.rt: a ready card of zeros
+mod looked; // looked.rt: what a card looks at of what is given for the roles
 
 use card::WorkedCard;
 pub use empty::no_ready;
 pub use ends::C1;
+pub use ends::C3;
 pub use ends::C4;
 pub use ends::from_roles;
 pub use ends::to_roles;
+pub use looked::looked_at;
 use octave::Exponential;
 use octave::Reciprocal;
+use reverse::Pair;
 pub use scaling::PART_PLACES;
 pub use scaling::ROLES;
 pub use scaling::TICKS_MOST;
 pub use values::all_terms;
 
-pub const BRANCHES: usize = 8;
+pub const BRANCHES: usize = 13;
 
 // A card with what depends on it alone: the octaves' reciprocals, the exponential of V_Lr, and each T without an exponential.
 pub struct Ready {
@@ -44,6 +49,15 @@ pub struct Terms {
     pub minus: [u64; BRANCHES],
     pub left: [u64; BRANCHES],
     pub right: [u64; BRANCHES],
+}
+
+// What the series resistors add and take away, from E to E1 and so on: one of two numbers is the T, and the other 0.
+pub struct Leads {
+    pub e: Pair,
+    pub b: Pair,
+    pub c: Pair,
+    pub blx: Pair,
+    pub bli: Pair,
 }
 
 // What is worked once for a card.

@@ -18,6 +18,7 @@ use crate::ends::C2;
 use crate::ends::C4;
 use crate::ends::E1;
 use crate::ends::S;
+use crate::resistors::all_leads;
 use octave::Table;
 use reverse::Pair;
 use scaling::PARTS;
@@ -81,8 +82,23 @@ pub fn all_terms(t: &Table, r: Ready, v: &[u32; ROLES]) -> Terms
     let back = faint(c.rex, b2c2, PARTS);
     let x = term_x(t, r, v);
     let eighth = term_8(t, r, v);
+    let leads = all_leads(c, v);
     Terms {
-        plus: [forward, bulk, side, nonideal, ex, sub, sf, eighth.plus],
+        plus: [
+            forward,
+            bulk,
+            side,
+            nonideal,
+            ex,
+            sub,
+            sf,
+            eighth.plus,
+            leads.e.plus,
+            leads.b.plus,
+            leads.c.plus,
+            leads.blx.plus,
+            leads.bli.plus,
+        ],
         minus: [
             reverse,
             r.bulk,
@@ -92,8 +108,13 @@ pub fn all_terms(t: &Table, r: Ready, v: &[u32; ROLES]) -> Terms
             x,
             r.sf,
             eighth.minus,
+            leads.e.minus,
+            leads.b.minus,
+            leads.c.minus,
+            leads.blx.minus,
+            leads.bli.minus,
         ],
-        left: [knee, 0, 0, 0, 0, 0, 0, 0],
-        right: [back, 0, 0, 0, exratio, subratio, 0, 0],
+        left: [knee, 0, 0, 0, 0, 0, 0, 0, 0, 0, 0, 0, 0],
+        right: [back, 0, 0, 0, exratio, subratio, 0, 0, 0, 0, 0, 0, 0],
     }
 }

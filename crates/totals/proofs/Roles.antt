@@ -10,7 +10,7 @@ use lib.Dec.{eqb, lit<}
 use lib.ListN.{length, getD, replicate, length-map}
 use lib.IntN.{ℤ, pos, negℤ, _+ℤ_, _-ℤ_, +ℤ-idl, +ℤ-idr, +ℤ-assoc, +ℤ-comm, negℤ-+ℤ, negℤ-negℤ}
 use borrow.Author.Tests.{eqb-true, eqb-false, ne-eqb}
-use Rattle.terms.specs.Rows.{Role, E1, B1, B2, C1, C2, C4, S, Row, roleIndex, roles, branches}
+use Rattle.terms.specs.Rows.{Role, E1, B1, B2, C1, C2, C4, S, E, B, C, C3, Row, roleIndex, roles, branches}
 use Rattle.scaling.specs.Scaled.{tickLimit}
 use Rattle.terms.specs.Ends.{fromsOf, tosOf}
 use Rattle.totals.specs.Gives.{nodesMost, atNode, rowsGive}
@@ -151,6 +151,10 @@ role-below C1 = lit< tt
 role-below C2 = lit< tt
 role-below C4 = lit< tt
 role-below S = lit< tt
+role-below E = lit< tt
+role-below B = lit< tt
+role-below C = lit< tt
+role-below C3 = lit< tt
 
 wired-by : (end : Row → Role) (rows : List Row) → Wired roles (map (λ (r : Row). roleIndex (end r)) rows)
 wired-by end rows = record { wired = go rows }

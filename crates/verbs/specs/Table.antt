@@ -9,7 +9,7 @@ use Rattle.verbs.specs.declared.Verb.{Verb}
 use Rattle.verbs.specs.declared.Verb.the-variants.{Library, Find, Clip, Load, Record, Place}
 use Rattle.verbs.specs.declared.Verb.the-variants.{Move, Moves, Lift, Withdraw, Lookup, Node, Sheet, Error}
 use Rattle.verbs.specs.declared.Wants.{Wants}
-use Rattle.verbs.specs.declared.Wants.the-variants.{Texts, Numbers, Pairs, NameAndHex}
+use Rattle.verbs.specs.declared.Wants.the-variants.{Texts, Numbers, Either, Pairs, NameAndHex}
 use Rattle.verbs.specs.declared.Row.{Row}
 use Rattle.spelling.specs.Bytes.{bytes}
 
@@ -24,7 +24,7 @@ row v w = record { verb = v; wants = w }
 abbrev entry : String → Verb → Wants → Entry
 entry word v w = record { word = bytes word; row = row v w }
 
--- each number is how many words a line of the command has, the first counted
+-- each number is how many words a line of the command has, the first counted; a placing has one of two
 abbrev pub table : List Entry
 table =
     entry "library" Library (Texts 2)
@@ -32,7 +32,7 @@ table =
     ∷ entry "clip" Clip (Texts 2)
     ∷ entry "load" Load (Texts 2)
     ∷ entry "record" Record NameAndHex
-    ∷ entry "place" Place (Numbers 9)
+    ∷ entry "place" Place (Either 9 13)
     ∷ entry "move" Move (Numbers 3)
     ∷ entry "moves" Moves Pairs
     ∷ entry "lift" Lift (Numbers 2)

@@ -24,11 +24,12 @@ pub enum Verb {
     Error,
 }
 
-// What the words of a command have to be, beside the first: any, or numbers, as many as make so many words in all; pairs
-// of numbers, as many as there are; or a name and hex digits.
+// What the words of a command have to be, beside the first: any, or numbers, as many as make so many words in all, or
+// one of two; pairs of numbers, as many as there are; or a name and hex digits.
 pub enum Wants {
     Texts(usize),
     Numbers(usize),
+    Either(usize, usize),
     Pairs,
     NameAndHex,
 }
@@ -115,7 +116,7 @@ fn row_at(i: usize) -> Row
         },
         5 => Row {
             verb: Verb::Place,
-            wants: Wants::Numbers(9),
+            wants: Wants::Either(9, 13),
         },
         6 => Row {
             verb: Verb::Move,

@@ -1,4 +1,5 @@
--- A record of version 2 that says no more than one of version 1 has the same currents, and overloads by the same.
+-- A record of version 2 that says no more than one of version 1 has the same currents in branches 1 to 8, and of those
+-- the same overloads first.
 use mathlib.Core.Path.{_≡_, refl, sym, ap, ap₂, _∙_}
 use mathlib.Core.Bool.{Bool, true, false, not}
 use mathlib.Core.List.{List, [], _∷_, map}
@@ -27,46 +28,49 @@ use Rattle.card.specs.Octave.{octaveGood}
 use Rattle.card.specs.Judge.{at, judgedNumbers, level, level504, octave, sparesGood, settingsGood, withinReach, cardOf}
 use Rattle.card.specs.Judge.{judgeOf}
 use Rattle.card.specs.laws.Tells.{judge-order}
-use Rattle.card.specs.laws.Version.{SaysNoMore, atKnee, judgedAtKnee}
+use Rattle.card.specs.laws.Version.{SaysNoMore, withLeads, judgedWithLeads}
 use Rattle.card.proofs.Versions.{versions-agree}
 use Rattle.rows.specs.declared.Outcome.{Outcome}
-use Rattle.terms.specs.Rows.{Role, Row, row1, row2, row3, row4, row5, row6, row7, row8, rowsFor}
+use Rattle.terms.specs.Rows.{Role, Row, row1, row2, row3, row4, row5, row6, row7, row8, junctionRows}
 use Rattle.rows.specs.Ticks.{rowTicks}
 use Rattle.rows.specs.Outcome.{ratioLimit, someAbove, ratiosIn, overTicks, firstOver, outcomeAt, outcomeAcross}
 use Rattle.polarity.specs.Polarity.{seenBy, turnedOutcome, outcomeOf}
 use Rattle.branch.specs.Currents.{atOutcome, atVolts, currentsOf}
 
--- ---- without a reverse current V_Lr says nothing
+-- ---- without a reverse current V_Lr says nothing, and the resistors have rows of their own
 
-module _ (k : ℕ) (c : WorkedCard) (v : Role → Role → ℤ) where
-  -- a row that comes out the same at another V_Lr
+module _ (d c : WorkedCard) (v : Role → Role → ℤ) where
+  -- a row that comes out the same with another V_Lr and with resistors
   record Blind (r : Row) : Type 0 where
-    over : overTicks (atKnee k c) v r (r .divisor) ≡ overTicks c v r (r .divisor)
-    ratio : someAbove ratioLimit (ratiosIn (atKnee k c) v (r .divisor)) ≡ someAbove ratioLimit (ratiosIn c v (r .divisor))
-    ticks : rowTicks (atKnee k c) v r ≡ rowTicks c v r
+    over : overTicks (withLeads d c) v r (r .divisor) ≡ overTicks c v r (r .divisor)
+    ratio :
+        someAbove ratioLimit (ratiosIn (withLeads d c) v (r .divisor))
+        ≡ someAbove ratioLimit (ratiosIn c v (r .divisor))
+    ticks : rowTicks (withLeads d c) v r ≡ rowTicks c v r
 
   abbrev AllBlind : List Row → Type 0
   AllBlind [] = Unit {0}
   AllBlind (r ∷ rows) = Blind r × AllBlind rows
 
-  first-same : (rows : List Row) (n : ℕ) → AllBlind rows → firstOver (atKnee k c) v n rows ≡ firstOver c v n rows
+  first-same : (rows : List Row) (n : ℕ) → AllBlind rows → firstOver (withLeads d c) v n rows ≡ firstOver c v n rows
   first-same [] n b = refl
   first-same (r ∷ rows) n b = rw (b .0 .over, b .0 .ratio, first-same rows (suc n) (b .1))
 
-  ticks-same : (rows : List Row) → AllBlind rows → map (rowTicks (atKnee k c) v) rows ≡ map (rowTicks c v) rows
+  ticks-same : (rows : List Row) → AllBlind rows → map (rowTicks (withLeads d c) v) rows ≡ map (rowTicks c v) rows
   ticks-same [] b = refl
   ticks-same (r ∷ rows) b = let here = b .0 .ticks in let rest = ticks-same rows (b .1) in λ i. here i ∷ rest i
 
-  plain : {r : Row} → overTicks (atKnee k c) v r (r .divisor) ≡ overTicks c v r (r .divisor) →
-      someAbove ratioLimit (ratiosIn (atKnee k c) v (r .divisor)) ≡ someAbove ratioLimit (ratiosIn c v (r .divisor)) →
-      rowTicks (atKnee k c) v r ≡ rowTicks c v r → Blind r
+  plain : {r : Row} → overTicks (withLeads d c) v r (r .divisor) ≡ overTicks c v r (r .divisor) →
+      someAbove ratioLimit (ratiosIn (withLeads d c) v (r .divisor))
+      ≡ someAbove ratioLimit (ratiosIn c v (r .divisor)) →
+      rowTicks (withLeads d c) v r ≡ rowTicks c v r → Blind r
   plain a b t = record { over = a; ratio = b; ticks = t }
 
   six : (x : Bool) → Blind (row6 x)
   six true = plain refl refl refl
   six false = plain refl refl refl
 
-  all-blind : (x : Bool) → c .reverse .a ≡ 0 → AllBlind (rowsFor x)
+  all-blind : (x : Bool) → c .reverse .a ≡ 0 → AllBlind (junctionRows x)
   all-blind x e = (
     plain {r = row1} refl refl refl,
     (
@@ -87,14 +91,20 @@ module _ (k : ℕ) (c : WorkedCard) (v : Role → Role → ℤ) where
     ),
   )
 
-knee-alone : (k : ℕ) (c : WorkedCard) (volts : List ℤ) → c .reverse .a ≡ 0 →
-    outcomeOf (atKnee k c) volts ≡ outcomeOf c volts
-unfolding outcomeOf outcomeAcross
-knee-alone k c volts e =
-    let v = seenBy c volts in
-    let b = all-blind k c v (c .exsub) e in
-    ap (turnedOutcome (c .pnp))
-    (ap₂ outcomeAt (first-same k c v (rowsFor (c .exsub)) 1 b) (ticks-same k c v (rowsFor (c .exsub)) b))
+-- ---- two cards whose junctions do the same at every voltage: the same ticks in branches 1 to 8, and the same of them
+-- overloads first, by the same kind
+
+pub record SameJunctions (c d : WorkedCard) : Type 0 where
+  pub polarity : d .pnp ≡ c .pnp
+  pub over : (v : Role → Role → ℤ) →
+      firstOver d v 1 (junctionRows (d .exsub)) ≡ firstOver c v 1 (junctionRows (c .exsub))
+  pub ticks : (v : Role → Role → ℤ) →
+      map (rowTicks d v) (junctionRows (d .exsub)) ≡ map (rowTicks c v) (junctionRows (c .exsub))
+
+-- refused alike, or two such cards
+abbrev pub Alike : Verdict WorkedCard → Verdict WorkedCard → Type 0
+Alike (no f) j = j ≡ no f
+Alike (yes c) j = (d : WorkedCard) × (j ≡ yes d) × SameJunctions c d
 
 none-left : (s : Bool) → splitA (round binary64 s 0 1) ≡ 0
 unfolding round units odd size
@@ -137,19 +147,22 @@ reverse-none s c n e =
     ∙ ap (λ (x : Float). splitA (mul binary64 x (at (judgedNumbers s) number.mult))) (missing-ibr s n)
     ∙ none-of (at (judgedNumbers s) number.mult)
 
--- the same refusals, and the same ticks in all branches: at every voltage, the overloads with their branches too
-pub versions-same-currents : {s t : List ℕ} → SaysNoMore s t → (volts : List ℤ) → currentsOf t volts ≡ currentsOf s volts
-unfolding currentsOf
-versions-same-currents {s} {t} p volts =
-    ap (λ (j : Verdict WorkedCard). andThen j (λ (c : WorkedCard). atVolts c volts)) (versions-agree p)
-    ∙ go (judgeOf s) refl
+-- judged alike, and taken with the same currents in branches 1 to 8 at every voltage; the resistors are version 2's own
+pub versions-same-currents : {s t : List ℕ} → SaysNoMore s t → Alike (judgeOf s) (judgeOf t)
+versions-same-currents {s} {t} p = go (judgeOf s) refl (versions-agree p)
   where
-    k : ℕ
-    k = kneeOf (clippedAt t number.vlr)
+    own : WorkedCard
+    own = cardOf (judgedNumbers t)
 
-    go : (j : Verdict WorkedCard) → judgeOf s ≡ j →
-        andThen (judgedAtKnee k j) (λ (c : WorkedCard). atVolts c volts) ≡ andThen j (λ (c : WorkedCard). atVolts c volts)
-    go (no f) e = refl
-    go (yes c) e =
-        ap (λ (o : Outcome). refuseIf (someOff volts) OutOfRange (atOutcome o))
-        (knee-alone k c volts (reverse-none s c (p .first) e))
+    go : (j : Verdict WorkedCard) → judgeOf s ≡ j → judgeOf t ≡ judgedWithLeads own j → Alike j (judgeOf t)
+    go (no f) e a = a
+    go (yes c) e a =
+        let none = reverse-none s c (p .first) e in (
+          withLeads own c,
+          a,
+          record {
+            polarity = refl;
+            over = λ v. first-same own c v (junctionRows (c .exsub)) 1 (all-blind own c v (c .exsub) none);
+            ticks = λ v. ticks-same own c v (junctionRows (c .exsub)) (all-blind own c v (c .exsub) none);
+          },
+        )

@@ -9,7 +9,7 @@ use Rattle.words.specs.declared.Words.{Words}
 
 -- the most words that a command has
 abbrev pub mostWords : ℕ
-mostWords = 9
+mostWords = 13
 
 -- where a word begins, and the place after its last byte
 pub record Span : Type 0 where

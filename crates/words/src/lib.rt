@@ -9,7 +9,7 @@ pub use parting::no_words;
 pub use parting::words_of;
 
 // The most words that a command has.
-pub const MOST_WORDS: usize = 9;
+pub const MOST_WORDS: usize = 13;
 
 // Where the first words of a line begin, and the places after them. `count` is how many there are; one more than the
 // most stands for any more.

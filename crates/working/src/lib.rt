@@ -1,10 +1,13 @@
-// The ten worked values of a card, in f64 with one rounding per operation.
+// The fifteen worked values of a card, in f64 with one rounding per operation.
 ghost use mathlib.Core.Path.{_≡_};
 ghost use lib.Ieee.Scale.{finite};
-ghost use Rattle.working.specs.Work.{workedOf, sfOf, valuesOf, all, allFinite};
+ghost use Rattle.working.specs.Work.{conductanceOf, workedOf, sfOf, valuesOf, all, allFinite};
 
 // How many values are worked.
-const VALUES: usize = 10;
+const VALUES: usize = 15;
+
+// Microvolts of a volt.
+pub const MICROVOLTS: f64 = 1000000.0;
 
 // Clipped parameters, under the names that document 003 gives them.
 pub struct Parameters {
@@ -19,6 +22,11 @@ pub struct Parameters {
     pub icss: f64,
     pub iks: f64,
     pub ibr: f64,
+    pub re: f64,
+    pub rbc: f64,
+    pub rcc: f64,
+    pub rcblx: f64,
+    pub rcbli: f64,
 }
 
 pub struct Worked {
@@ -32,6 +40,12 @@ pub struct Worked {
     pub rex: f64,
     pub rsub: f64,
     pub reverse: f64,
+    // what each resistor lets through at a microvolt
+    pub ge: f64,
+    pub gbc: f64,
+    pub gcc: f64,
+    pub gblx: f64,
+    pub gbli: f64,
 }
 
 // A negative I_CSs stands for the substrate current itself.
@@ -39,6 +53,17 @@ fn substrate(icss: f64, mult: f64, sub: f64) -> f64
     ensures { λ r. ⌜ r ≡ sfOf icss mult sub ⌝ }
 {
     if icss < 0.0 { sub } else { icss * mult }
+}
+
+// What a resistor lets through at a microvolt; a resistance of 0 has no such value.
+fn conductance(mult: f64, r: f64) -> f64
+    ensures { λ g. ⌜ g ≡ conductanceOf mult r ⌝ }
+{
+    if r == 0.0 {
+        0.0
+    } else {
+        mult / (r * MICROVOLTS)
+    }
 }
 
 pub fn work(p: Parameters) -> Worked
@@ -58,6 +83,11 @@ pub fn work(p: Parameters) -> Worked
         rex: (4.0 * p.is) / p.ik,
         rsub: (4.0 * p.is) / p.iks,
         reverse: p.ibr * p.mult,
+        ge: conductance(p.mult, p.re),
+        gbc: conductance(p.mult, p.rbc),
+        gcc: conductance(p.mult, p.rcc),
+        gblx: conductance(p.mult, p.rcblx),
+        gbli: conductance(p.mult, p.rcbli),
     }
 }
 
@@ -76,6 +106,11 @@ fn values(w: Worked) -> [f64; VALUES]
         w.rex,
         w.rsub,
         w.reverse,
+        w.ge,
+        w.gbc,
+        w.gcc,
+        w.gblx,
+        w.gbli,
     ]
 }
 
@@ -93,7 +128,7 @@ fn each_finite(x: [f64; VALUES]) -> bool
     true
 }
 
-// Whether all ten are finite.
+// Whether all fifteen are finite.
 pub fn all_finite(w: Worked) -> bool
     ensures { λ r. ⌜ r ≡ allFinite w ⌝ }
 {

@@ -18,6 +18,7 @@ use Rattle.card.specs.laws.Tells.{judge-order}
 use Rattle.branch.specs.declared.Admission.{Admission}
 use Rattle.branch.specs.declared.Admission.the-variants.{Given, Refused}
 use Rattle.branch.specs.declared.Reply.{Reply}
+use Rattle.terms.specs.Looked.{lookedAt}
 use Rattle.rows.specs.declared.Over.{Over}
 use Rattle.rows.specs.declared.Over.the-variants.{Within, Ticks, Injection}
 use Rattle.rows.specs.Outcome.{isOver, drawnBy}
@@ -34,7 +35,8 @@ overNumber (Injection k) = 18
 
 -- of a worked card at voltages
 abbrev pub voltsNumber : WorkedCard → List ℤ → ℕ
-voltsNumber c volts = numberIf (someOff volts) 13 (overNumber (outcomeOf c volts .over))
+voltsNumber c volts =
+    let seen = lookedAt (c .wide) volts in numberIf (someOff seen) 13 (overNumber (outcomeOf c seen .over))
 
 -- on clipped numbers, then from the bytes: loading's tests go first
 abbrev pub numbersNumber : Bool → List Float → List ℤ → ℕ

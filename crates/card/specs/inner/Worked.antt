@@ -22,10 +22,11 @@ pub record GoodMlf (x : List Float) : Type 0 where
   pub number : T (finite (mlf x))
   pub least : T (le tenth (mlf x))
 
--- the ten splits in a row
+-- the fifteen splits in a row
 abbrev pub splitsOf : WorkedCard → List Split
 splitsOf c =
-    c .sn ∷ c .bulk ∷ c .side ∷ c .nonideal ∷ c .ex ∷ c .sub ∷ c .sf ∷ c .rex ∷ c .rsub ∷ c .reverse ∷ []
+    c .sn ∷ c .bulk ∷ c .side ∷ c .nonideal ∷ c .ex ∷ c .sub ∷ c .sf ∷ c .rex ∷ c .rsub ∷ c .reverse
+    ∷ c .ge ∷ c .gbc ∷ c .gcc ∷ c .gblx ∷ c .gbli ∷ []
 
 -- the least that a tenth of an octave can be
 abbrev pub secondLeast : ℕ

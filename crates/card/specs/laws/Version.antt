@@ -1,4 +1,4 @@
--- A record of version 2 that says no more than one of version 1, V_Lr apart.
+-- A record of version 2 that says no more than one of version 1, V_Lr and the series resistors apart.
 use mathlib.Core.Path.{_≡_}
 use mathlib.Core.Bool.{true}
 use mathlib.Core.List.{List}
@@ -11,10 +11,11 @@ use Rattle.clip.specs.Limits.{zero, one, wide, narrow}
 use Rattle.clip.specs.Record.{isWide, isNarrow, wordAt, numberAt}
 use Rattle.clip.specs.Clip.{clippedAt}
 use Rattle.card.specs.Knee.{kneeGood}
-use Rattle.card.specs.Judge.{sparesGood}
+use Rattle.working.specs.Work.{workedOf, leadsOf, all}
+use Rattle.card.specs.Judge.{judgedNumbers, parametersOf, sparesGood}
 
 -- s is of version 1 and t of version 2, with the same sixteen words; of its own words t has numbers, I_Br is 0 when
--- clipped, the polarity is +1, the spare words are good, and V_Lr is within 5 V
+-- clipped, the polarity is +1, the spare words are good, V_Lr is within 5 V, and each resistor has a finite conductance
 pub record SaysNoMore (s t : List ℕ) : Type 0 where
   pub first : isNarrow s ≡ true
   pub second : isWide t ≡ true
@@ -24,10 +25,11 @@ pub record SaysNoMore (s t : List ℕ) : Type 0 where
   pub polarity : clippedAt t number.polarity ≡ one
   pub spares : sparesGood t ≡ true
   pub vlr : kneeGood (clippedAt t number.vlr) ≡ true
+  pub leads : all finite (leadsOf (workedOf (parametersOf (judgedNumbers t)))) ≡ true
 
--- a card with another V_Lr
-abbrev pub atKnee : ℕ → WorkedCard → WorkedCard
-atKnee v c = record {
+-- a card with the V_Lr and the series resistors of another
+abbrev pub withLeads : WorkedCard → WorkedCard → WorkedCard
+withLeads d c = record {
   sn = c .sn;
   bulk = c .bulk;
   side = c .side;
@@ -38,14 +40,21 @@ atKnee v c = record {
   rex = c .rex;
   rsub = c .rsub;
   reverse = c .reverse;
+  ge = d .ge;
+  gbc = d .gbc;
+  gcc = d .gcc;
+  gblx = d .gblx;
+  gbli = d .gbli;
   octave = c .octave;
   second = c .second;
-  knee = v;
+  knee = d .knee;
   exsub = c .exsub;
   «rcbli_zero» = c .«rcbli_zero»;
   pnp = c .pnp;
+  «rcblx_zero» = c .«rcblx_zero»;
+  wide = d .wide;
 }
 
-abbrev pub judgedAtKnee : ℕ → Verdict WorkedCard → Verdict WorkedCard
-judgedAtKnee v (no f) = no f
-judgedAtKnee v (yes c) = yes (atKnee v c)
+abbrev pub judgedWithLeads : WorkedCard → Verdict WorkedCard → Verdict WorkedCard
+judgedWithLeads d (no f) = no f
+judgedWithLeads d (yes c) = yes (withLeads d c)

@@ -1,49 +1,62 @@
 -- `worked_at` reads a worked card, value by value.
 use Prim.Native.Nat.{_<_}
 use native.Mathlib.Omega.{arith}
+use lib.Dec.{lit<}
 use borrow.Author.Needs.{needs}
 use Rattle.deck.proofs.Readings.{number-is, first-switch, switch-is}
 use Rattle.deck.proofs.worked_at.Statement.{statement}
 use Rattle.deck.proofs.worked_at.Tie as tie
 
--- earlier places, from later ones
-abbrev split10 : tie.After-t41 → tie.After-split-at10
-split10 c = let two = c .before .before in two .before .before .before
+-- earlier places, from later ones, the splits by fives
+abbrev split15 : tie.After-t61 → tie.After-split-at15
+split15 c = let four = c .before .before .before .before in four .before .before .before .before
 
-abbrev split7 : tie.After-split-at10 → tie.After-split-at7
-split7 c = c .before .before .before
+abbrev split10 : tie.After-split-at15 → tie.After-split-at10
+split10 c = c .before .before .before .before .before
 
-abbrev split4 : tie.After-split-at10 → tie.After-split-at4
-split4 c = split7 c .before .before .before
+abbrev before10 : tie.After-split-at10 → tie.Start
+before10 c = let five = c .before .before .before .before .before in five .before .before .before .before .before
 
-abbrev start : tie.After-split-at10 → tie.Start
-start c = let one = split4 c .before .before .before in one .before
+abbrev split5 : tie.After-split-at15 → tie.After-split-at5
+split5 c = split10 c .before .before .before .before .before
+
+abbrev start : tie.After-split-at15 → tie.Start
+start c = before10 (split10 c)
 
 -- the place is one of the deck's
-there : (c : tie.After-split-at10) → start c .args .i < 16
+there : (c : tie.After-split-at15) → start c .args .i < 16
 there c = start c .pre
 
 returns : tie.Need-returns
 returns c =
-    let t = split10 (c .before) in
+    let t = split15 c in
     let s = start t in
+    let numbers = s .args .numbers .now in
+    let switches = s .args .switches .now in
     λ j. record {
-      sn = split4 t .before .before .before .split-at .ensures j;
-      bulk = split4 t .before .before .split-at2 .ensures j;
-      side = split4 t .before .split-at3 .ensures j;
-      nonideal = split4 t .split-at4 .ensures j;
-      ex = split7 t .before .before .split-at5 .ensures j;
-      sub = split7 t .before .split-at6 .ensures j;
-      sf = split7 t .split-at7 .ensures j;
-      rex = t .before .before .split-at8 .ensures j;
-      rsub = t .before .split-at9 .ensures j;
-      reverse = t .split-at10 .ensures j;
-      octave = number-is (s .args .numbers .now) (s .args .i) 10 (omega arith) j;
-      second = number-is (s .args .numbers .now) (s .args .i) 11 (omega arith) j;
-      knee = number-is (s .args .numbers .now) (s .args .i) 12 (omega arith) j;
-      exsub = first-switch (s .args .switches .now) (s .args .i) j;
-      «rcbli_zero» = switch-is (s .args .switches .now) (s .args .i) 1 (omega arith) j;
-      pnp = switch-is (s .args .switches .now) (s .args .i) 2 (omega arith) j;
+      sn = split5 t .before .before .before .before .split-at .ensures j;
+      bulk = split5 t .before .before .before .split-at2 .ensures j;
+      side = split5 t .before .before .split-at3 .ensures j;
+      nonideal = split5 t .before .split-at4 .ensures j;
+      ex = split5 t .split-at5 .ensures j;
+      sub = split10 t .before .before .before .before .split-at6 .ensures j;
+      sf = split10 t .before .before .before .split-at7 .ensures j;
+      rex = split10 t .before .before .split-at8 .ensures j;
+      rsub = split10 t .before .split-at9 .ensures j;
+      reverse = split10 t .split-at10 .ensures j;
+      ge = t .before .before .before .before .split-at11 .ensures j;
+      gbc = t .before .before .before .split-at12 .ensures j;
+      gcc = t .before .before .split-at13 .ensures j;
+      gblx = t .before .split-at14 .ensures j;
+      gbli = t .split-at15 .ensures j;
+      octave = number-is numbers (s .args .i) 15 (omega arith) j;
+      second = number-is numbers (s .args .i) 16 (omega arith) j;
+      knee = number-is numbers (s .args .i) 17 (omega arith) j;
+      exsub = first-switch switches (s .args .i) j;
+      «rcbli_zero» = switch-is switches (s .args .i) 1 (omega arith) j;
+      pnp = switch-is switches (s .args .i) 2 (omega arith) j;
+      «rcblx_zero» = switch-is switches (s .args .i) 3 (omega arith) j;
+      wide = switch-is switches (s .args .i) 4 (omega arith) j;
     }
 
 pub worked-at-spec : {M : Type 1} → statement M
@@ -60,6 +73,11 @@ worked-at-spec =
     (λ c κs. search needs)
     (λ c κs. search needs)
     (λ c κs. search needs)
+    (λ c κs. (before10 c .pre, lit< tt))
+    (λ c κs. (before10 (c .before) .pre, lit< tt))
+    (λ c κs. (before10 (c .before .before) .pre, lit< tt))
+    (λ c κs. (before10 (c .before .before .before) .pre, lit< tt))
+    (λ c κs. (before10 (c .before .before .before .before) .pre, lit< tt))
     (λ c. let h = there c in omega arith)
     (λ c. let h = there c in omega arith)
     (λ c. let h = there c in omega arith)
@@ -77,7 +95,13 @@ worked-at-spec =
     (λ c. let d = c .before in let h = there (d .before .before .before) in omega arith)
     (λ c. let d = c .before in let h = there (d .before .before .before) in omega arith)
     (λ c. let d = c .before in let h = there (d .before .before .before) in omega arith)
-    (λ c. let h = there (split10 c) in omega arith)
-    (λ c. let h = there (split10 c) in omega arith)
-    (λ c. let h = there (split10 c) in omega arith)
+    (λ c. let d = c .before .before in let h = there (d .before .before .before) in omega arith)
+    (λ c. let d = c .before .before in let h = there (d .before .before .before) in omega arith)
+    (λ c. let d = c .before .before in let h = there (d .before .before .before) in omega arith)
+    (λ c. let d = c .before .before .before in let h = there (d .before .before .before) in omega arith)
+    (λ c. let d = c .before .before .before in let h = there (d .before .before .before) in omega arith)
+    (λ c. let d = c .before .before .before in let h = there (d .before .before .before) in omega arith)
+    (λ c. let d = c .before .before .before .before in let h = there (d .before .before .before) in omega arith)
+    (λ c. let d = c .before .before .before .before in let h = there (d .before .before .before) in omega arith)
+    (λ c. let d = c .before .before .before .before in let h = there (d .before .before .before) in omega arith)
     returns)

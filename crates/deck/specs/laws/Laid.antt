@@ -53,12 +53,21 @@ module _ (numbers powers ticks : List ℕ) (switches : List Bool) (i : ℕ) (r :
         stretch-apart false switches (switchesOf (r .card)) switchesEach i j e,
       )
 
--- R_Cbli is 0
-pub ready-joined : (numbers powers ticks : List ℕ) (switches : List Bool) (i : ℕ) →
-    readyAt numbers powers ticks switches i .card .«rcbli_zero» ≡ getD switches (switchesEach * i + 1) false
-unfolding readyAt
-ready-joined numbers powers ticks switches i =
-    getD-stretch false switches (switchesEach * i) switchesEach 1 (omega arith)
+-- R_Cbli is 0, R_Cblx is 0, and there are series resistors
+module _ (numbers powers ticks : List ℕ) (switches : List Bool) (i : ℕ) where
+  pub ready-joined :
+      readyAt numbers powers ticks switches i .card .«rcbli_zero» ≡ getD switches (switchesEach * i + 1) false
+  unfolding readyAt
+  ready-joined = getD-stretch false switches (switchesEach * i) switchesEach 1 (omega arith)
+
+  pub ready-close :
+      readyAt numbers powers ticks switches i .card .«rcblx_zero» ≡ getD switches (switchesEach * i + 3) false
+  unfolding readyAt
+  ready-close = getD-stretch false switches (switchesEach * i) switchesEach 3 (omega arith)
+
+  pub ready-wide : readyAt numbers powers ticks switches i .card .wide ≡ getD switches (switchesEach * i + 4) false
+  unfolding readyAt
+  ready-wide = getD-stretch false switches (switchesEach * i) switchesEach 4 (omega arith)
 
 pub ready-fresh : (n p t s i : ℕ) →
     readyAt (replicate n 0) (replicate p 0) (replicate t 0) (replicate s false) i ≡ noReady

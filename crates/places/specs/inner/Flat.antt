@@ -11,7 +11,7 @@ use Rattle.rows.specs.inner.FromTerms.{listUp}
 use Rattle.deck.specs.Stretch.{stretch}
 use Rattle.deck.specs.Layout.{switchesEach}
 use Rattle.given.specs.Lists.{anyOf, larger}
-use Rattle.given.specs.Arguments.{Found, none}
+use Rattle.given.specs.Arguments.{Found, none, Ties}
 use Rattle.places.specs.Counts.{cardsMost, transistorsMost}
 use Rattle.places.specs.Finding.{first, foundAt, onCard, onNode, issueIf}
 use Rattle.places.specs.Sets.{setOf}
@@ -64,6 +64,13 @@ standsAtIn n issues nodes i = onNode n (getD issues i 0) (stretch 0 nodes (roles
 abbrev pub namingIn : ℕ → List ℕ → List ℕ → ℕ
 namingIn n issues nodes = setOf (standsAtIn n issues nodes) transistorsMost
 
--- R_Cbli is 0 on the card at place i
-abbrev pub joinedAt : List Bool → ℕ → Bool
-joinedAt switches i = getD switches (switchesEach * i + 1) false
+-- which roles the card at place i holds together, and whether it has all eleven
+abbrev pub tiesAt : List Bool → ℕ → Ties
+tiesAt switches i =
+    record {
+      joined = getD switches (switchesEach * i + 1) false;
+      close = getD switches (switchesEach * i + 3) false;
+    }
+
+abbrev pub wideAt : List Bool → ℕ → Bool
+wideAt switches i = getD switches (switchesEach * i + 4) false

@@ -2,25 +2,27 @@
 use mathlib.Core.Path.{_≡_, refl, sym, ap, _∙_}
 use mathlib.Core.Bool.{Bool, true, false, cond, _||_}
 use mathlib.Core.List.{List}
-use Prim.Native.Nat.{ℕ, zero, suc, _*_, _<_}
+use Prim.Native.Nat.{ℕ, zero, suc, _+_, _*_, _<_}
 use native.Mathlib.Nat.{zero-add}
 use native.Mathlib.Omega.{arith}
 use lib.Dec.{eqb, ltb}
 use lib.ListN.{length, getD, List·getD-eq-default}
 use borrow.Author.Tests.{ltb-true, ltb-false}
 use Rattle.rows.specs.inner.FromTerms.{listUp}
-use Rattle.deck.specs.Layout.{switchesEach}
+use Rattle.deck.specs.Layout.{switchesEach, readyAt}
 use Rattle.deck.specs.laws.Ups.{length-up, getD-up}
-use Rattle.deck.specs.laws.Laid.{ready-joined}
+use Rattle.deck.specs.laws.Laid.{ready-joined, ready-close, ready-wide}
 use Rattle.given.specs.Lists.{anyOf, larger}
-use Rattle.given.specs.Arguments.{none}
+use Rattle.card.specs.declared.WorkedCard.{WorkedCard}
+use Rattle.card.specs.Judge.{noWorked}
+use Rattle.given.specs.Arguments.{none, tiesOf}
 use Rattle.places.specs.Counts.{cardsMost, transistorsMost}
 use Rattle.places.specs.Gathered.{Card, cardIn, cardsIn, noCard, workedAt}
 use Rattle.places.specs.Gathered.{Transistor, transistorIn, transistorsIn, noTransistor}
 use Rattle.places.specs.Finding.{first, foundAt, isCard, isTransistor, cardPlace, transistorPlace}
 use Rattle.places.specs.Finding.{standsOn, standsAt, issueIf, highestAt}
 use Rattle.places.specs.Sets.{setOf}
-use Rattle.places.specs.inner.Flat.{isAt, firstAt, numberPlace, joinedAt}
+use Rattle.places.specs.inner.Flat.{isAt, firstAt, numberPlace, tiesAt, wideAt}
 use Rattle.places.specs.inner.Flat.{standsOnAt, anyOn, largest, highestIn, namingIn}
 use Rattle.places.specs.laws.Members.{set-same}
 
@@ -73,20 +75,32 @@ module _ (held names numbers powers ticks : List ℕ) (switches : List Bool) whe
   unfolding cardsIn
   highest-flat asked = highest-up asked (cardIn held names numbers powers ticks switches) cardsMost 0
 
-  -- past the last place neither joins anything
-  pub joined-flat : (i : ℕ) → length switches ≡ switchesEach * cardsMost →
-      workedAt cards i .«rcbli_zero» ≡ joinedAt switches i
-  joined-flat i long = go (ltb i cardsMost) refl
+  -- a switch: past the last place none is set
+  switch-flat : (f : WorkedCard → Bool) (k : ℕ) → f noWorked ≡ false →
+      ((i : ℕ) → f (readyAt numbers powers ticks switches i .card) ≡ getD switches (switchesEach * i + k) false) →
+      (i : ℕ) → length switches ≡ switchesEach * cardsMost →
+      f (workedAt cards i) ≡ getD switches (switchesEach * i + k) false
+  switch-flat f k unset is i long = go (ltb i cardsMost) refl
     where
-      go : (t : Bool) → ltb i cardsMost ≡ t → workedAt cards i .«rcbli_zero» ≡ joinedAt switches i
-      go true e =
-          ap (λ (c : Card). c .ready .card .«rcbli_zero») (card-there i (ltb-true i cardsMost e))
-          ∙ ready-joined numbers powers ticks switches i
+      go : (t : Bool) → ltb i cardsMost ≡ t → f (workedAt cards i) ≡ getD switches (switchesEach * i + k) false
+      go true e = ap (λ (c : Card). f (c .ready .card)) (card-there i (ltb-true i cardsMost e)) ∙ is i
       go false e =
           let h = ltb-false i cardsMost e in
           let l = length-cards in
-          ap (λ (c : Card). c .ready .card .«rcbli_zero») (List·getD-eq-default cards noCard (omega arith))
+          ap (λ (c : Card). f (c .ready .card)) (List·getD-eq-default cards noCard (omega arith)) ∙ unset
           ∙ sym (List·getD-eq-default switches false (omega arith))
+
+  pub ties-flat : (i : ℕ) → length switches ≡ switchesEach * cardsMost → tiesOf (workedAt cards i) ≡ tiesAt switches i
+  ties-flat i long =
+      let a = switch-flat (λ (c : WorkedCard). c .«rcbli_zero») 1 refl (ready-joined numbers powers ticks switches) i
+      long in
+      let b = switch-flat (λ (c : WorkedCard). c .«rcblx_zero») 3 refl (ready-close numbers powers ticks switches) i
+      long in
+      λ j. record { joined = a j; close = b j }
+
+  pub wide-flat : (i : ℕ) → length switches ≡ switchesEach * cardsMost → workedAt cards i .wide ≡ wideAt switches i
+  wide-flat i long =
+      switch-flat (λ (c : WorkedCard). c .wide) 4 refl (ready-wide numbers powers ticks switches) i long
 
 -- ---- transistors
 

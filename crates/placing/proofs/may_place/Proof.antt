@@ -1,6 +1,6 @@
 -- `may_place` makes placing's tests in their order.
 use mathlib.Core.Path.{_≡_, sym, ap, subst, _∙_}
-use mathlib.Core.Bool.{false, _&&_}
+use mathlib.Core.Bool.{false}
 use Prim.Native.Nat.{ℕ, _≤_, _<_}
 use lib.Dec.{eqb, leb}
 use borrow.Author.Needs.{needs}
@@ -8,8 +8,8 @@ use Rattle.totals.specs.Gives.{nodesMost}
 use Rattle.given.specs.Lists.{anyOf}
 use Rattle.given.specs.Arguments.{some}
 use Rattle.places.specs.Counts.{cardsMost, transistorsMost}
-use Rattle.places.specs.inner.Flat.{firstAt, numberPlace, joinedAt}
-use Rattle.placing.specs.inner.Placing.{apartOn}
+use Rattle.places.specs.inner.Flat.{firstAt, numberPlace, tiesAt}
+use Rattle.placing.specs.inner.Placing.{tornOn}
 use Rattle.places.specs.laws.Founds.{not-there, is-there}
 use Rattle.placing.proofs.Ways.{stop-unknown, stop-off, stop-split, stop-full, stop-used-up, goes}
 use Rattle.placing.proofs.may_place.Statement.{statement}
@@ -38,8 +38,8 @@ on : (c : tie.Else2) → anyOf (leb nodesMost) (start (else1 c) .args .on .now) 
 on c = sym (c .before .any-off .ensures) ∙ c .if2 .left
 
 joined : (c : tie.Else3) →
-    joinedAt (start (else1 (else2 c)) .args .switches .now) (else1 (else2 c) .before .card-at .result)
-    && apartOn (start (else1 (else2 c)) .args .on .now) ≡ false
+    tornOn (tiesAt (start (else1 (else2 c)) .args .switches .now) (else1 (else2 c) .before .card-at .result))
+    (start (else1 (else2 c)) .args .on .now) ≡ false
 joined c = sym (c .before .is-split .ensures) ∙ c .if3 .left
 
 returns : tie.Need-returns

@@ -6,7 +6,7 @@ use lib.Dec.{ltb}
 use lib.ListN.{length}
 use lib.IntN.{ℤ, subℕ}
 use Rattle.whole.specs.Scale.{heldAt}
-use Rattle.volts.specs.Volts.{AllNear}
+use Rattle.volts.specs.Volts.{span, AllNear}
 use Rattle.float.specs.declared.Split.{Split}
 use Rattle.float.specs.Split.{IsSplit}
 use Rattle.octave.specs.declared.Exponential.{Exponential}
@@ -16,11 +16,21 @@ use Rattle.octave.specs.Exponential.{bias}
 use Rattle.octave.specs.inner.Reciprocal.{IsReciprocal}
 use Rattle.octave.specs.laws.Places.{exponentMost}
 use Rattle.scaling.specs.Roles.{roles}
-use Rattle.scaling.specs.Scaled.{Scaled, valueAt, expOf, tickPlaces, partPlaces, wholeTicks, tickLimit}
+use Rattle.scaling.specs.Scaled.{Scaled, valueAt, expOf, times, wholeNumber, tickPlaces}
+use Rattle.scaling.specs.Scaled.{partPlaces, wholeTicks, tickLimit}
 
 -- T of a value by itself, held at the first number that is too much
 abbrev pub aloneOf : Split → ℕ
 aloneOf x = heldAt (suc tickLimit) (wholeTicks (valueAt x))
+
+-- T of a conductance times so many microvolts, held likewise
+abbrev pub throughOf : Split → ℕ → ℕ
+throughOf x d = heldAt (suc tickLimit) (wholeTicks (times (valueAt x) (wholeNumber d)))
+
+-- asked by `through`: a worked value, and no more microvolts than from one node to another
+pub record Drop (x : Split) (d : ℕ) : Type 0 where
+  pub split : IsSplit x
+  pub near : d ≤ span
 
 -- the exponential m * 2^(n - 30) as the code has it, with n raised by a bias
 unfoldable pub expAt : Exponential → Scaled

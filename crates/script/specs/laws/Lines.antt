@@ -5,11 +5,11 @@ use Prim.Native.Nat.{ℕ, _<_}
 use Prim.Native.String.{String}
 use borrow.Author.Tests.{lt-ltb}
 use lib.IntN.{pos, negsuc}
-use lib.ListN.{length}
+use lib.ListN.{length, replicate}
 use Rattle.spelling.specs.Number.{parsedOf, parsedWith, allDigits, decimalFrom}
 use Rattle.hex.specs.Hex.{spells, allPairs, pairsOf}
 use Rattle.verbs.specs.declared.Verb.{Verb}
-use Rattle.verbs.specs.declared.Verb.the-variants.{Record, Moves, Lift, Withdraw, Sheet, Nothing, TooLong, Error}
+use Rattle.verbs.specs.declared.Verb.the-variants.{Record, Place, Moves, Lift, Withdraw, Sheet, Nothing, TooLong, Error}
 use Rattle.spelling.specs.Bytes.{bytes}
 use Rattle.words.specs.Words.{spansFrom, withWord, withWords, wordsOf, partOf}
 use Rattle.verbs.specs.Table.{placeIn, rowNamed}
@@ -27,7 +27,8 @@ verbOf line = commandOf (bytes line) .verb
 
 -- blank, a comment, two verbs and what is none of them: a tab parts no words, a minus alone is no number, a word too
 -- many, half a byte; then bytes, no bytes, a line of one word, and a word that only begins like a command's; lists of no
--- pair and of two, an odd one, and one with a word that is no number
+-- pair and of two, an odd one, and one with a word that is no number;
+-- placings on seven nodes and on eleven, on eight, and on eleven of which one is no number
 pub said-verbs : map verbOf
     ("   "
     ∷ "  # lift 1"
@@ -45,14 +46,18 @@ pub said-verbs : map verbOf
     ∷ "moves  3 -5   3 5"
     ∷ "moves 3 5 3"
     ∷ "moves 3 x"
+    ∷ "place 1 0 1 1 2 2 2 3"
+    ∷ "place 1 0 1 1 2 2 2 3 4 5 6 7"
+    ∷ "place 1 0 1 1 2 2 2 3 4"
+    ∷ "place 1 0 1 1 2 2 2 3 4 5 6 x"
     ∷ [])
     ≡ Nothing ∷ Nothing ∷ Lift ∷ Withdraw ∷ Error ∷ Error ∷ Error ∷ Error ∷ Record ∷ Record ∷ Sheet ∷ Error
-    ∷ Moves ∷ Moves ∷ Error ∷ Error ∷ []
+    ∷ Moves ∷ Moves ∷ Error ∷ Error ∷ Place ∷ Place ∷ Error ∷ Error ∷ []
 unfolding spansFrom withWord withWords wordsOf partOf parsedOf parsedWith allDigits decimalFrom spells allPairs pairsOf placeIn rowNamed areNumbers numbersTo allNumbers writtenFrom seriesOf said saidPairs hexOf saidTo commandOf
 said-verbs = refl
 
 -- numbers, with spaces wherever they may be
 pub said-numbers : commandOf (bytes "  move  3   -250000 ") .numbers
-    ≡ pos 3 ∷ negsuc 249999 ∷ pos 0 ∷ pos 0 ∷ pos 0 ∷ pos 0 ∷ pos 0 ∷ pos 0 ∷ []
+    ≡ pos 3 ∷ negsuc 249999 ∷ replicate 10 (pos 0)
 unfolding spansFrom withWord withWords wordsOf partOf parsedOf parsedWith allDigits decimalFrom placeIn rowNamed areNumbers numbersTo said saidTo commandOf
 said-numbers = refl

@@ -3,15 +3,22 @@ use mathlib.Core.Path.{_≡_}
 use mathlib.Core.Bool.{false, _||_}
 use mathlib.Core.List.{List, [], _∷_}
 use Prim.Native.Nat.{ℕ, suc, _^_, _<_}
-use lib.ListN.{getD}
+use lib.ListN.{length, getD}
 use lib.IntN.{ℤ, subℕ}
-use Rattle.scaling.specs.Scaled.{tickLimit, ratioLimit}
+use Rattle.volts.specs.Volts.{AllNear}
+use Rattle.float.specs.declared.Split.{Split}
+use Rattle.float.specs.Split.{IsSplit}
+use Rattle.scaling.specs.Scaled.{valueAt, times, wholeNumber, wholeTicks, tickLimit, ratioLimit}
 use Rattle.scaling.specs.inner.Shifts.{UpTo}
 use Rattle.card.specs.declared.WorkedCard.{WorkedCard}
+use Rattle.card.specs.inner.Worked.{IsWorked}
 use Rattle.terms.specs.declared.Terms.{Terms}
+use Rattle.terms.specs.declared.Leads.{Leads}
+use Rattle.reverse.specs.declared.Pair.{Pair}
 use Rattle.reverse.specs.inner.Pairs.{eitherOver}
-use Rattle.terms.specs.Rows.{Role, Value, Divisor, undivided, sumOf, exps, Row, rowsFor}
-use Rattle.terms.specs.Values.{tickOf, ratioOf, expsTicks, expsOver}
+use Rattle.terms.specs.Rows.{Role, roles, Value, Divisor, undivided, sumOf, exps, Row}
+use Rattle.terms.specs.Rows.{row9, row10, row11, row12, row13, rowsFor}
+use Rattle.terms.specs.Values.{rise, tickOf, ratioOf, expsTicks, expsOver}
 
 -- the floors of the two ratios of a divisor; 0 where there is none
 abbrev pub leftOf : WorkedCard → (Role → Role → ℤ) → Divisor → ℕ
@@ -47,6 +54,33 @@ pub record RowTerms (c : WorkedCard) (v : Role → Role → ℤ) (r : Row) (p m 
   pub counted : Counted c v r (r .divisor) p m
   pub left : UpTo ratioLimit l (leftOf c v (r .divisor))
   pub right : UpTo ratioLimit g (rightOf c v (r .divisor))
+
+-- asked by `lead`: a worked value, and the kept voltages of the roles, two of which it stands between
+pub record Lead (g : Split) (v : List ℕ) (p q : ℕ) : Type 0 where
+  pub split : IsSplit g
+  pub long : length v ≡ roles
+  pub near : AllNear v
+  pub from : p < roles
+  pub to : q < roles
+
+-- what `lead` gives for a voltage from one role to the other, and the same from the other to the one
+pub record Led (g : Split) (there back : ℤ) (x : Pair) : Type 0 where
+  pub plus : UpTo tickLimit (x .plus) (wholeTicks (times (valueAt g) (wholeNumber (rise there))))
+  pub minus : UpTo tickLimit (x .minus) (wholeTicks (times (valueAt g) (wholeNumber (rise back))))
+
+-- asked by `all_leads`: a worked card, and the kept voltages of its roles
+pub record Wired (c : WorkedCard) (v : List ℕ) : Type 0 where
+  pub worked : IsWorked c
+  pub long : length v ≡ roles
+  pub near : AllNear v
+
+-- what it gives: the two numbers of each resistor's row
+pub record LeadsOf (c : WorkedCard) (v : Role → Role → ℤ) (x : Leads) : Type 0 where
+  pub ninth : Counted c v row9 undivided (x .e .plus) (x .e .minus)
+  pub tenth : Counted c v row10 undivided (x .b .plus) (x .b .minus)
+  pub eleventh : Counted c v row11 undivided (x .c .plus) (x .c .minus)
+  pub twelfth : Counted c v row12 undivided (x .blx .plus) (x .blx .minus)
+  pub thirteenth : Counted c v row13 undivided (x .bli .plus) (x .bli .minus)
 
 -- the terms from place k on are those of the rows, one after the other
 pub data RowsAt (c : WorkedCard) (v : Role → Role → ℤ) (x : Terms) : ℕ → List Row → Type 0 where

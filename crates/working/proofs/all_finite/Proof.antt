@@ -1,4 +1,4 @@
--- `working::all_finite` meets its contract: each of the ten in their row.
+-- `working::all_finite` meets its contract: each of the fifteen in their row.
 use mathlib.Core.Path.{ap, _∙_}
 use lib.Ieee.Scale.{finite}
 use borrow.Author.Needs.{needs}

@@ -4,4 +4,13 @@ use Rattle.working.proofs.work.Statement.{statement}
 use Rattle.working.proofs.work.Tie as tie
 
 pub work-spec : {M : Type 1} → statement M
-work-spec = tie.close (tie.spec (λ c κs. search needs) (λ c. cc))
+work-spec =
+    tie.close
+    (tie.spec
+    (λ c κs. search needs)
+    (λ c κs. search needs)
+    (λ c κs. search needs)
+    (λ c κs. search needs)
+    (λ c κs. search needs)
+    (λ c κs. search needs)
+    (λ c. cc))

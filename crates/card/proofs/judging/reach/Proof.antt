@@ -70,12 +70,13 @@ microvolts-requires c κs = near (tested (passed (c .before .before) .before))
 
 returns-3 : tie.Need-returns-3
 returns-3 c =
-    let cut = c .before .before .before in
+    let tests = c .before in
+    let cut = tests .before .before .before .before in
     let n = cut .before .before .before in
     let all = passed n .before in
     let k = known all in
-    taken (numbers k) _ (is-second k) (near (tested all)) _ (is-worked all) _ _ _ (n .nanovolts .ensures)
-    (cut .microvolts .ensures) (c .card .ensures) (finite-told all ∙ passed n .if2 .taken)
+    taken (numbers k) _ (is-second k) (near (tested all)) _ (is-worked all) _ _ _ _ (n .nanovolts .ensures)
+    (cut .microvolts .ensures) (tests .has-leads .ensures) (c .card .ensures) (finite-told all ∙ passed n .if2 .taken)
 
 returns-4 : tie.Need-returns-4
 returns-4 c =
@@ -106,6 +107,8 @@ reach-spec =
     microvolts-requires
     (λ c. search needs)
     (λ c. search needs)
+    (λ c. search needs)
+    (λ c κs. search needs)
     (λ c κs. search needs)
     returns-3
     returns-4)

@@ -5,16 +5,20 @@ use Prim.Native.Nat.{ℕ, _≤_, _<_}
 use native.Mathlib.Omega.{arith}
 use lib.Dec.{leb}
 use lib.ListN.{length}
+use lib.IntN.{ℤ}
 use borrow.Author.Needs.{needs}
 use mir.Syntax.{w64}
 use mir.ValLaws.{toZ-ofZ}
+use mathlib.Core.Bool.{Bool}
 use Rattle.terms.specs.Rows.{roles}
-use Rattle.given.specs.Arguments.{issueOf, issuesMost, usedUp}
-use Rattle.places.specs.inner.Flat.{freePlace, numberPlace, joinedAt}
+use Rattle.terms.specs.Looked.{lookedAt}
+use Rattle.given.specs.Arguments.{issueOf, issuesMost, usedUp, wideBy}
+use Rattle.places.specs.inner.Flat.{freePlace, numberPlace, tiesAt, wideAt}
 use Rattle.placing.specs.inner.Placing.{placing, wayOf}
 use Rattle.model.specs.Counts.{cardsMost, transistorsMost}
 use Rattle.model.proofs.Placing.{lent-stops, lent-free, lent-number, lent-card, lent-works, lent-over}
-use Rattle.model.proofs.Placing.{lent-places}
+use Rattle.model.specs.Model.{placedOf}
+use Rattle.model.proofs.Placing.{lent-places, lent-seen}
 use Rattle.model.proofs.calls.place.Statement.{statement}
 use Rattle.model.proofs.calls.place.Tie as tie
 
@@ -22,8 +26,11 @@ use Rattle.model.proofs.calls.place.Tie as tie
 abbrev asked : tie.After-may-place → tie.After-nodes-of
 asked c = c .before .before .before .before
 
+abbrev looked : tie.After-may-place → tie.After-looked-at
+looked c = asked c .before
+
 abbrev start : tie.After-may-place → tie.Start
-start c = asked c .before .before
+start c = looked c .before .before .before
 
 abbrev went : tie.After-known-told2 → tie.After-may-place
 went c = c .before .before .before
@@ -31,26 +38,42 @@ went c = c .before .before .before
 abbrev worked : tie.After-put-in → tie.After-known-told2
 worked c = c .before .before .before .before .before .before
 
-long : (c : tie.After-may-place) → length (start c .args .roles) ≡ roles
+-- the nodes that the card looks at
+abbrev seen : tie.After-may-place → List ℤ
+seen c = looked c .looked-at .result
+
+long : (c : tie.After-may-place) → length (seen c) ≡ roles
 long c = search needs
 
 number : (c : tie.After-issue-of) → c .issue-of .result ≡ issueOf (c .before .args .card)
 number c = c .issue-of .ensures ∙ ap issueOf (toZ-ofZ w64 (c .before .args .card) (c .before .fits .card))
 
+-- they are the definition's, by the arrays that are lent
+seen-is : (c : tie.After-may-place) →
+    seen c ≡ lookedAt (wideBy (wideAt (start c .args .switches .now))
+    (numberPlace cardsMost (issueOf (start c .args .card)) (start c .args .held .now))) (start c .args .roles)
+seen-is c =
+    let wide = looked c .before in
+    looked c .looked-at .ensures
+    ∙ ap (λ (w : Bool). lookedAt w (start c .args .roles))
+    (wide .is-wide .ensures
+    ∙ ap (λ (n : ℕ). wideBy (wideAt (start c .args .switches .now)) (numberPlace cardsMost n (start c .args .held .now)))
+    (number (wide .before)))
+
 -- the way, by the caller's own numbers
 way-is : (c : tie.After-may-place) →
     c .may-place .result ≡ wayOf (freePlace (start c .args .issues .now))
     (placing (numberPlace cardsMost (issueOf (start c .args .card)) (start c .args .held .now))
-    (joinedAt (start c .args .switches .now)) (asked c .nodes-of .result)
+    (tiesAt (start c .args .switches .now)) (asked c .nodes-of .result)
     (leb transistorsMost (freePlace (start c .args .issues .now))) (usedUp (start c .args .next .now)))
 way-is c =
     c .may-place .ensures
     ∙ ap
     (λ (n : ℕ). wayOf (freePlace (start c .args .issues .now))
     (placing (numberPlace cardsMost n (start c .args .held .now))
-    (joinedAt (start c .args .switches .now)) (asked c .nodes-of .result)
+    (tiesAt (start c .args .switches .now)) (asked c .nodes-of .result)
     (leb transistorsMost (freePlace (start c .args .issues .now))) (usedUp (start c .args .next .now))))
-    (number (asked c .before))
+    (number (looked c .before .before))
 
 -- the places of the card and of the transistor to be, and its number, are in range
 abbrev going : tie.Else1 → tie.After-known-told2
@@ -60,7 +83,7 @@ free-there : (c : tie.Else1) → going c .before .way2 .given .0 .1 .0 < transis
 free-there c =
     let m = went (going c) in
     let p = start m .pre in
-    lent-free (p .2) (p .1) (start m .args .card) (start m .args .roles) (long m) (asked m .nodes-of .ensures)
+    lent-free (p .2) (p .1) (start m .args .card) (seen m) (long m) (asked m .nodes-of .ensures)
     (way-is m)
     (going c .before .way2 .given .1)
 
@@ -68,7 +91,7 @@ card-there : (c : tie.Else1) → going c .before .way2 .given .0 .0 < cardsMost
 card-there c =
     let m = went (going c) in
     let p = start m .pre in
-    lent-card (p .2) (p .1) (start m .args .card) (start m .args .roles) (long m) (asked m .nodes-of .ensures)
+    lent-card (p .2) (p .1) (start m .args .card) (seen m) (long m) (asked m .nodes-of .ensures)
     (way-is m)
     (going c .before .way2 .given .1)
 
@@ -76,7 +99,7 @@ number-there : (c : tie.Else1) → start (went (going c)) .args .next .now ≤ i
 number-there c =
     let m = went (going c) in
     let p = start m .pre in
-    lent-number (p .2) (p .1) (start m .args .card) (start m .args .roles) (long m) (asked m .nodes-of .ensures)
+    lent-number (p .2) (p .1) (start m .args .card) (seen m) (long m) (asked m .nodes-of .ensures)
     (way-is m)
     (going c .before .way2 .given .1)
 
@@ -86,41 +109,45 @@ put-in-requires c κs =
     let m = went k in
     let s = start m in
     let p = s .pre in
-    lent-works (p .2) (p .1) (s .args .card) (s .args .roles) (long m) (asked m .nodes-of .ensures) (way-is m)
+    lent-works (p .2) (p .1) (s .args .card) (seen m) (long m) (asked m .nodes-of .ensures) (way-is m)
     (k .before .way2 .given .1) _
     (c .before .before .before .before .table .ensures)
 
 returns : tie.Need-returns
+unfolding placedOf
 returns c =
     let f = c .before in
     let t = f .before .before in
     let k = worked t in
     let m = went k in
-    λ b r l. rw (c .refusal-of .ensures)
-    (lent-over l r (start m .args .card) _ (long m) (asked m .nodes-of .ensures) (way-is m) (k .before .way2 .given .1)
+    λ b r l. rw (lent-seen l r (start m .args .card) (start m .args .roles) ∙ sym (seen-is m), c .refusal-of .ensures)
+    (lent-over l r (start m .args .card) (seen m) (long m) (asked m .nodes-of .ensures) (way-is m) (k .before .way2 .given .1)
     (t .put-in .ensures .0) (sym (f .before .is-over .ensures) ∙ f .if1 .taken))
 
 returns-2 : tie.Need-returns-2
+unfolding placedOf
 returns-2 c =
     let m = c .before .before .before in
-    λ b r l. lent-stops l r (start m .args .card) _ (long m) (asked m .nodes-of .ensures) (way-is m) _ (c .before .way
-    .given .1)
+    λ b r l. rw (lent-seen l r (start m .args .card) (start m .args .roles) ∙ sym (seen-is m))
+    (lent-stops l r (start m .args .card) (seen m) (long m) (asked m .nodes-of .ensures) (way-is m) _ (c .before .way .given .1))
 
 returns-3 : tie.Need-returns-3
+unfolding placedOf
 returns-3 c =
     let f = c .before .before .before .before in
     let t = f .before .before in
     let k = worked t in
     let m = went k in
-    λ b r l. rw (c .put-nodes .ensures)
-    (lent-places l r (start m .args .card) _ (long m) (asked m .nodes-of .ensures) (way-is m) (k .before .way2 .given
+    λ b r l. rw (lent-seen l r (start m .args .card) (start m .args .roles) ∙ sym (seen-is m), c .put-nodes .ensures)
+    (lent-places l r (start m .args .card) (seen m) (long m) (asked m .nodes-of .ensures) (way-is m) (k .before .way2 .given
     .1)
     (t .put-in .ensures .0) (sym (f .before .is-over .ensures) ∙ f .if1 .left) (t .put-in .ensures .1))
 
 pub place-spec : {M : Type 1} → statement M
 place-spec =
     tie.close
-    (tie.spec (λ c κs. search needs) (λ c κs. search needs) (λ c κs. search needs) (λ c. search needs) (λ c. search
+    (tie.spec (λ c κs. search needs) (λ c κs. search needs) (λ c κs. search needs) (λ c κs. search needs)
+    (λ c κs. search needs) (λ c. search needs) (λ c. search
     needs)
     (λ c κs. search needs) put-in-requires (λ c κs. search needs) (λ c κs. search needs) returns
     (λ c. let h = free-there c in omega arith)

@@ -2,6 +2,7 @@
 use lib.Dec.{lit<, lit≤}
 use borrow.Author.Needs.{needs}
 use Rattle.terms.specs.Rows.{row1, row2, row3, row4, row5, row6, row7, row8}
+use Rattle.terms.specs.Rows.{row9, row10, row11, row12, row13}
 use Rattle.terms.specs.inner.Terms.{none, more}
 use Rattle.scaling.proofs.Scaling.{upto-zero}
 use Rattle.terms.proofs.Readied.{Splits, splits, plain-octave, second-octave}
@@ -128,9 +129,16 @@ term-x-requires c κs = start (emitter (three (all (c .before .before)))) .pre
 term-8-requires : tie.Need-term-8-requires
 term-8-requires c κs = let b = c .before in start (emitter (three (all (b .before .before)))) .pre
 
+all-leads-requires : tie.Need-all-leads-requires
+all-leads-requires c κs =
+    let b = c .before .before in
+    let a = start (emitter (three (all (b .before .before)))) .pre in
+    record { worked = a .ready .worked; long = a .long; near = a .near }
+
 returns : tie.Need-returns
 returns c =
-    let x = c .before in
+    let l = c .all-leads .ensures in
+    let x = c .before .before in
     let w = x .before .before .before in
     let u = all w in
     let e = three u in
@@ -164,8 +172,13 @@ returns c =
           (more {r = row5} (record { counted = (ex, own-ex h); left = upto-zero; right = exratio })
           (more {r = row6 (start at .args .r .card .exsub)} (record { counted = (sub, x .term-x .ensures); left = upto-zero; right = subratio })
           (more {r = row7} (record { counted = (sf, own-sf h); left = upto-zero; right = upto-zero })
-          (more {r = row8} (record { counted = c .term-8 .ensures; left = upto-zero; right = upto-zero })
-          none)))))));
+          (more {r = row8} (record { counted = c .before .term-8 .ensures; left = upto-zero; right = upto-zero })
+          (more {r = row9} (record { counted = l .ninth; left = upto-zero; right = upto-zero })
+          (more {r = row10} (record { counted = l .tenth; left = upto-zero; right = upto-zero })
+          (more {r = row11} (record { counted = l .eleventh; left = upto-zero; right = upto-zero })
+          (more {r = row12} (record { counted = l .twelfth; left = upto-zero; right = upto-zero })
+          (more {r = row13} (record { counted = l .thirteenth; left = upto-zero; right = upto-zero })
+          none))))))))))));
     }
 
 pub all-terms-spec : {M : Type 1} → statement M
@@ -192,4 +205,5 @@ all-terms-spec =
     faint-requires-7
     term-x-requires
     term-8-requires
+    all-leads-requires
     returns)

@@ -1,0 +1,1 @@
+// What series resistors do: theorems only, and no code.
