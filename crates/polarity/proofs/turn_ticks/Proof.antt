@@ -35,7 +35,8 @@ sub-t c = let l = c .before .before in turned-fits (l .before .before .pre) (l .
 loop-again : tie.Need-loop-again Inv-loop μ-loop
 loop-again c =
     let l = c .before .before in
-    (omega arith, filled-more _ (c .before .loop-test .taken) (turned-is (l .before .before .pre) (l .loop .k)) (l .loop .inv .1))
+    let h = c .before .loop-test .taken in
+    (omega arith, filled-more _ (omega arith) (turned-is (l .before .before .pre) (l .loop .k)) (l .loop .inv .1))
 
 returns-2 : tie.Need-returns-2 Inv-loop μ-loop
 returns-2 c =

@@ -33,7 +33,8 @@ sub-over c = c .before .before .before .pre .each (c .before .loop .k)
 loop-again : tie.Need-loop-again Inv-loop μ-loop
 loop-again c =
     let l = c .before .loop in
-    (omega arith, filled-more _ (c .loop-test .taken) refl (l .inv .1))
+    let h = c .loop-test .taken in
+    (omega arith, filled-more _ (omega arith) refl (l .inv .1))
 
 returns-2 : tie.Need-returns-2 Inv-loop μ-loop
 returns-2 c =
