@@ -3,7 +3,8 @@
 //!   bench vectors FOLDER    this implementation against a folder of outside vectors
 //!   bench desk SCRIPT       what the desk must answer to a script
 //!   bench time NAME TIMES   one of the timed runs: root, exponential, currents, saturated, wide, reverse, sister, empty, still,
-//!                           move, refused, all, singly, together, pair, read, find, and the last two with _wide, _alike and _crowded
+//!                           move, refused, all, singly, together, pair, write, read, find, and the last three with _wide, the last
+//!                           two with _alike and _crowded
 //!   bench differ ROUNDS     random inputs through the built programs (`./desk`, `./listing` of the project) and this implementation
 
 mod board;
@@ -350,6 +351,22 @@ fn time_read(times: usize, set: &Names, version: u16) {
     println!("{sum}");
 }
 
+fn time_write(times: usize, set: &Names, version: u16) {
+    let mut l = timed_library(set, version);
+    let (mut names, mut words) = (vec![0; 4096], vec![0; 6144]);
+    library::read(&l, &mut names, &mut words).unwrap();
+    words.truncate((l.len() - 16 - names.len()) / 8);
+    let mut sum = 0;
+    for n in 0..times {
+        let k = n % 4096;
+        names[4086] = 48 + (n % 10) as u8;
+        words[k] = n as u64;
+        let long = library::write(version, std::hint::black_box(&names), &words, &mut l).unwrap();
+        sum = (sum + long as u64 + l[4102] as u64 + l[4112 + 8 * k] as u64) % (1 << 30);
+    }
+    println!("{sum}");
+}
+
 fn time_find(times: usize, set: &Names, version: u16) {
     let (mut l, mut sum) = (timed_library(set, version), 0);
     for n in 0..times {
@@ -379,6 +396,8 @@ fn time(name: &str, times: u64) {
         "pair" => time_pair(times),
         "read" => time_read(times as usize, &PLAIN, 1),
         "find" => time_find(times as usize, &PLAIN, 1),
+        "write" => time_write(times as usize, &PLAIN, 1),
+        "write_wide" => time_write(times as usize, &PLAIN, 2),
         "read_wide" => time_read(times as usize, &PLAIN, 2),
         "find_wide" => time_find(times as usize, &PLAIN, 2),
         "read_alike" => time_read(times as usize, &ALIKE, 1),

@@ -1,29 +1,29 @@
 //! Whole-number arithmetic of the desk, written from its rules alone: the octave's table, positions, roots and quotients.
 
-const POINTS: usize = 64;
-const STEPS: u64 = 1024;
+const POINTS: usize = 256;
+const STEPS: u64 = 256;
 pub const TICK_LIMIT: i64 = 1 << 53;
 pub const RATIO_LIMIT: i64 = 1 << 40;
 
 /// The table of the exponential over one octave: a guess, and its rule with long multiplication.
 fn table() -> [u64; POINTS + 1] {
     std::array::from_fn(|j| {
-        // the greatest t with t^64 <= 2^(1920 + j)
+        // the greatest t with t^256 <= 2^(7680 + j)
         let mut t = (30.0 + j as f64 / POINTS as f64).exp2() as u64;
-        while !power64_at_most(t, 1920 + j) {
+        while !power256_at_most(t, 7680 + j) {
             t -= 1;
         }
-        while power64_at_most(t + 1, 1920 + j) {
+        while power256_at_most(t + 1, 7680 + j) {
             t += 1;
         }
         t
     })
 }
 
-/// Whether x^64 <= 2^bits, exactly.
-fn power64_at_most(x: u64, bits: usize) -> bool {
+/// Whether x^256 <= 2^bits, exactly.
+fn power256_at_most(x: u64, bits: usize) -> bool {
     let mut p = vec![x as u32, (x >> 32) as u32];
-    for _ in 0..6 {
+    for _ in 0..8 {
         p = multiply(&p, &p);
     }
     let mut limit = vec![0u32; bits / 32 + 1];
@@ -107,7 +107,7 @@ pub struct Gain {
 fn gain_at(curve: &Curve, p: i64) -> Gain {
     let f = p as u64 & 0xffff;
     let point = curve[(f / STEPS) as usize];
-    let m = point.low as u64 + ((point.step as u64 * (f % STEPS)) >> 10);
+    let m = point.low as u64 + ((point.step as u64 * (f % STEPS)) >> 8);
     Gain { m, n: p >> 16, p }
 }
 
@@ -262,7 +262,7 @@ mod tests {
     #[test]
     fn the_table_has_the_ends_and_the_middle() {
         let t = table();
-        assert_eq!((t[0], t[32], t[64]), (1 << 30, 1_518_500_249, 1 << 31));
+        assert_eq!((t[0], t[128], t[256]), (1 << 30, 1_518_500_249, 1 << 31));
     }
 
     #[test]

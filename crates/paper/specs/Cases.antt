@@ -8,6 +8,7 @@ use lib.Ieee.{nan, binary64, toBits}
 use Rattle.refusal.specs.Order.{Verdict, no, yes}
 use Rattle.refusal.specs.Told.{numberOf}
 use Rattle.octave.specs.Table.{entryOf}
+use Rattle.octave.specs.Exponential.{exponentialOf}
 use Rattle.float.specs.declared.Split.{Split}
 use Rattle.float.specs.Split.{keptPower}
 use Rattle.card.specs.declared.WorkedCard.{WorkedCard}
@@ -39,6 +40,11 @@ ticksAt (yes c) k v = getD (outcomeOf c (pos 0 ∷ v ∷ v ∷ pos 0 ∷ pos 0 �
 unfoldable pub ideal : ℤ → List ℤ
 unfolding recordOf judgeOf outcomeAcross outcomeOf
 ideal v = ticksAt (judgeOf (recordOf theCard)) 1 v
+
+-- m at v microvolts, for the card's octave: it shows the table where a current's rounding hides it
+unfoldable pub mantissaAt : ℤ → ℤ
+unfolding exponentialOf
+mantissaAt v = pos (exponentialOf v 16000000 .m)
 
 -- a card whose I_s is its I_k, 2^-38, so that 0 microvolts are near the knee
 abbrev knee : List ℕ
@@ -131,11 +137,12 @@ unfolding theStage
 stageCase = record { worked = lifts theStage; paper = pos 15 ∷ pos 15 ∷ pos 0 ∷ [] }
 
 unfoldable pub cases : List Case
-unfolding entryOf ideal five mainAt recordOf judgeOf outcomeAcross outcomeOf clipOf boardCase stageCase
+unfolding entryOf mantissaAt ideal five mainAt recordOf judgeOf outcomeAcross outcomeOf clipOf boardCase stageCase
 cases =
     boardCase
     ∷ stageCase
-    ∷ record { worked = pos (entryOf 0) ∷ pos (entryOf 32) ∷ pos (entryOf 64) ∷ []; paper = pos 1073741824 ∷ pos 1518500249 ∷ pos 2147483648 ∷ [] }
+    ∷ record { worked = pos (entryOf 0) ∷ pos (entryOf 128) ∷ pos (entryOf 256) ∷ []; paper = pos 1073741824 ∷ pos 1518500249 ∷ pos 2147483648 ∷ [] }
+    ∷ record { worked = mantissaAt (negsuc 0) ∷ mantissaAt (pos 1) ∷ mantissaAt (pos 8000) ∷ []; paper = pos 2147370236 ∷ pos 1073787311 ∷ pos 1518500249 ∷ [] }
     ∷ record { worked = ideal (pos 0); paper = pos 0 ∷ [] }
     ∷ record { worked = ideal (pos 16000); paper = pos 1024 ∷ [] }
     ∷ record { worked = ideal (negsuc 15999); paper = negsuc 511 ∷ [] }

@@ -119,8 +119,8 @@ fn wide(x: u32) -> i64 {
 fn run_table() {
     let t = octave::table();
     shown::line(b"t_0", b"", wide(t[0]), 1073741824);
-    shown::line(b"t_32", b"", wide(t[32]), 1518500249);
-    shown::line(b"t_64", b"", wide(t[64]), 2147483648);
+    shown::line(b"t_128", b"", wide(t[128]), 1518500249);
+    shown::line(b"t_256", b"", wide(t[256]), 2147483648);
 }
 
 // The paper's octave, in nanovolts.

@@ -1,0 +1,2 @@
+-- How near a mantissa is to what it stands for.
+pub mod Near
