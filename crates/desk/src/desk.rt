@@ -254,12 +254,7 @@ fn read_node(board: Board, node: i64, out: &mut [u8; ROOM], at: &mut usize)
     put_reading(node, answer, out, at);
 }
 
-fn put_told(
-    answer: board::Answer,
-    ticks: &[i64; BRANCHES],
-    out: &mut [u8; ROOM],
-    at: &mut usize,
-) {
+fn put_told(answer: board::Answer, ticks: &[i64; BRANCHES], out: &mut [u8; ROOM], at: &mut usize) {
     match answer {
         board::Answer::Currents => put_currents(ticks, out, at),
         board::Answer::Refused(f) => put_refused(f, out, at),

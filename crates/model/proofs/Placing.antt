@@ -188,7 +188,7 @@ module _ (b : Board) (k : Reached b) (card : ℤ) (nodes : List ℤ) (long : len
       pub place-over : isOver (o .over) ≡ true →
           LeavesPlaces (placedOn b card nodes) (Refused (drawnBy (b .next) (o .over))) (b .issues) (b .cards) (b .seats)
           (b .nodes) (b .totals) (b .currents) (b .next)
-          place-over h = places-stay {b = b} (placedOn b card nodes) (rw (may-is, found .0, ← over-is, h))
+      place-over h = places-stay {b = b} (placedOn b card nodes) (rw (may-is, found .0, ← over-is, h))
 
       pub places-it : isOver (o .over) ≡ false → {l : List ℤ} →
           More nodesMost (b .totals) l (ticksGive on (o .ticks)) →
@@ -296,8 +296,8 @@ seen-flat b k card given =
     (card-place (b .held) (b .names) (b .numbers) (b .powers) (b .ticks) (b .switches) (issueOf card))
 
 pub lent-seen : {b : Board} {numbers powers ticks : List ℕ} {switches : List Bool}
-    {held issues cards seats nodes volts : List ℕ} {totals : List ℤ} {next : ℕ} →
-    LendsPlaces b numbers powers ticks switches held issues cards seats nodes volts totals next → Reached b →
+    {held issues cards seats nodes volts : List ℕ} {totals currents : List ℤ} {next : ℕ} →
+    LendsPlaces b numbers powers ticks switches held issues cards seats nodes volts totals currents next → Reached b →
     (card : ℤ) (given : List ℤ) → seenOn b card given
     ≡ lookedAt (wideBy (wideAt switches) (numberPlace cardsMost (issueOf card) held)) given
 lent-seen {b} l r card given = rw (l .lends .switches-are, l .held-are) (seen-flat b r card given)

@@ -104,9 +104,9 @@ move-only b pairs = go (mayMove b pairs)
 
 place-plain : (b : Board) (card : ℤ) (nodes : List ℤ) → placedOf b card nodes .ticks ≡ noTicks
 unfolding placedOf
-place-plain b card nodes = go (mayPlace b card nodes)
+place-plain b card nodes = go (mayPlace b card (seenOn b card nodes))
   where
-    go : (v : Verdict ℕ) → placed b nodes v .ticks ≡ noTicks
+    go : (v : Verdict ℕ) → placed b (seenOn b card nodes) v .ticks ≡ noTicks
     go (no f) = refl
     go (yes i) = refl
 

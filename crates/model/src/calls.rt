@@ -40,16 +40,7 @@ pub fn place(
         Way::Stop(f) => Answer::Refused(f),
         Way::Go(at, free) => {
             let table = octave::table();
-            let o = settle::work(
-                &table,
-                numbers,
-                powers,
-                ticks,
-                switches,
-                at,
-                &on,
-                volts,
-            );
+            let o = settle::work(&table, numbers, powers, ticks, switches, at, &on, volts);
             let over = o.over;
             if settle::is_over(over) {
                 return Answer::Refused(settle::refusal_of(issue, over));
