@@ -16,10 +16,10 @@ use Rattle.rows.specs.laws.Filled.{Filled}
 use Rattle.deck.specs.Stretch.{stretch}
 use Rattle.deck.specs.laws.Ups.{length-up, getD-up}
 use Rattle.deck.specs.laws.Stretches.{length-stretch, getD-stretch}
-use Rattle.given.specs.Lists.{anyOf, larger}
+use Rattle.given.specs.Lists.{anyOf, larger, largest}
 use Rattle.given.specs.Arguments.{none, some}
 use Rattle.places.specs.Finding.{first, foundAt}
-use Rattle.places.specs.inner.Flat.{below, isAt, firstAt, largest}
+use Rattle.places.specs.inner.Flat.{below, isAt, firstAt}
 use Rattle.places.specs.inner.Parts.{placeOr}
 
 -- none of the first i passes the test, so that the first that does is looked for in the rest

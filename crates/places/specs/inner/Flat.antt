@@ -10,7 +10,7 @@ use Rattle.terms.specs.Rows.{roles}
 use Rattle.rows.specs.inner.FromTerms.{listUp}
 use Rattle.deck.specs.Stretch.{stretch}
 use Rattle.deck.specs.Layout.{switchesEach}
-use Rattle.given.specs.Lists.{anyOf, larger}
+use Rattle.given.specs.Lists.{anyOf, largest}
 use Rattle.given.specs.Arguments.{Found, none, Ties}
 use Rattle.places.specs.Counts.{cardsMost, transistorsMost}
 use Rattle.places.specs.Finding.{first, foundAt, onCard, onNode, issueIf}
@@ -45,10 +45,6 @@ standsOnAt n issues cards i = onCard n (getD issues i 0) (getD cards i 0)
 -- a transistor stands on the card n
 abbrev pub anyOn : ℕ → List ℕ → List ℕ → Bool
 anyOn n issues cards = anyOf (standsOnAt n issues cards) (below transistorsMost)
-
-unfoldable pub largest : List ℕ → ℕ
-largest [] = 0
-largest (n ∷ ns) = larger n (largest ns)
 
 abbrev pub issueIfAt : List ℕ → List ℕ → List ℕ → ℕ → ℕ
 issueIfAt asked held names i = issueIf asked (getD held i 0) (stretch 0 names (nameLength * i) nameLength)
