@@ -6,12 +6,10 @@ ghost use lib.IntN.{pos};
 ghost use Rattle.name.specs.Name.{nameLength};
 ghost use Rattle.terms.specs.Rows.{roles, branches};
 ghost use Rattle.deck.specs.Stretch.{stretch, written};
-ghost use Rattle.totals.specs.Gives.{nodesMost};
-ghost use Rattle.totals.specs.inner.Sums.{Wired};
 ghost use Rattle.places.specs.Counts.{cardsMost, transistorsMost};
 ghost use Rattle.places.specs.Sets.{withPlace, withoutPlace};
 ghost use Rattle.places.specs.Naming.{joined, parted};
-ghost use Rattle.places.specs.inner.Parts.{NextIn};
+ghost use Rattle.places.specs.inner.Parts.{NextIn, Entering};
 use places::ALL_CURRENTS;
 use places::ALL_NAMES;
 use places::ALL_NODES;
@@ -92,7 +90,7 @@ fn without(set: u64, i: usize) -> u64
 
 // Whoever comes to place i joins the sets of its nodes.
 pub fn join(naming: &mut [u64; NODES], i: usize, on: &[u8; ROLES])
-    requires { ⌜ (i < transistorsMost) × Wired nodesMost (now on) ⌝ }
+    requires { ⌜ Entering (now naming) i (now on) ⌝ }
     ensures { λ _. ⌜ now (naming .exit) ≡ joined (now (naming .entry)) i (now (on .entry)) ⌝ }
 {
     for k in 0..ROLES {
@@ -104,13 +102,13 @@ pub fn join(naming: &mut [u64; NODES], i: usize, on: &[u8; ROLES])
 
 // Whoever leaves it leaves them.
 pub fn leave(naming: &mut [u64; NODES], i: usize, on: &[u8; ROLES])
-    requires { ⌜ (i < transistorsMost) × Wired nodesMost (now on) ⌝ }
+    requires { ⌜ Entering (now naming) i (now on) ⌝ }
     ensures { λ _. ⌜ now (naming .exit) ≡ parted (now (naming .entry)) i (now (on .entry)) ⌝ }
 {
     for k in 0..ROLES {
-        let n = on[k] as usize;
-        let less = without(naming[n], i);
-        naming[n] = less;
+        let m = on[k] as usize;
+        let less = without(naming[m], i);
+        naming[m] = less;
     }
 }
 

@@ -1,16 +1,11 @@
+-- `with` sets a digit, whether it was set or not.
 use borrow.Author.Needs.{needs}
+use Rattle.sets.proofs.Digits.{with-is}
 use Rattle.sets.proofs.with.Statement.{statement}
 use Rattle.sets.proofs.with.Tie as tie
-use Rattle.sets.proofs.with.Reads as reads
-use Rattle.sets.proofs.with.Lts as lts
 
--- src/lib.rt:82:12
-shl-result : tie.Need-shl-result
-shl-result c = search needs
-
--- src/lib.rt:78:1
 returns : tie.Need-returns
-returns c = ?
+returns c = with-is (c .args .set) (c .args .i) (search needs) (search needs)
 
 pub with-spec : {M : Type 1} → statement M
-with-spec = tie.close (tie.spec shl-result returns)
+with-spec = tie.close (tie.spec (λ c. search needs) returns)
