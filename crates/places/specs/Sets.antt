@@ -3,6 +3,7 @@ use mathlib.Core.Bool.{Bool, cond, not, _&&_, _||_}
 use mathlib.Core.List.{List, []}
 use Prim.Native.Nat.{ℕ, zero, suc, _+_, _/_, _%_, _^_}
 use lib.Dec.{eqb}
+use lib.ListN.{length}
 use Rattle.given.specs.Lists.{keepIf}
 use Rattle.places.specs.Counts.{transistorsMost}
 
@@ -18,6 +19,10 @@ setOf p (suc k) = setOf p k + cond (p k) (2 ^ k) 0
 unfoldable pub listOf : {A : Type 0} → (ℕ → Bool) → (ℕ → A) → ℕ → List A
 listOf p f zero = []
 listOf p f (suc k) = keepIf (p k) (f k) (listOf p f k)
+
+-- how many places are in a set
+abbrev pub sizeOf : ℕ → ℕ
+sizeOf set = length (listOf (member set) (λ (i : ℕ). i) transistorsMost)
 
 -- the set with the place i in it, and without it
 unfoldable pub withPlace : ℕ → ℕ → ℕ

@@ -7,7 +7,7 @@ ghost use Rattle.name.specs.Name.{nameLength};
 ghost use Rattle.terms.specs.Rows.{roles, branches};
 ghost use Rattle.deck.specs.Stretch.{stretch, written};
 ghost use Rattle.places.specs.Counts.{cardsMost, transistorsMost};
-ghost use Rattle.places.specs.Sets.{withPlace, withoutPlace};
+ghost use Rattle.places.specs.Sets.{sizeOf, withPlace, withoutPlace};
 ghost use Rattle.places.specs.Naming.{joined, parted};
 ghost use Rattle.places.specs.inner.Parts.{NextIn, Entering};
 use places::ALL_CURRENTS;
@@ -110,6 +110,13 @@ pub fn leave(naming: &mut [u64; NODES], i: usize, on: &[u8; ROLES])
         let less = without(naming[m], i);
         naming[m] = less;
     }
+}
+
+// How many places are in the set.
+pub fn count(set: u64) -> u32
+    ensures { λ r. ⌜ r ≡ sizeOf set ⌝ }
+{
+    u64::count_ones(set)
 }
 
 // How many zeros stand below the lowest digit that is set.

@@ -1,6 +1,6 @@
 -- The same questions put to the flat arrays: where a number stands, who stands on a card, which issue of a name is the
 -- highest, and who names a node.
-use mathlib.Core.Bool.{Bool, false, cond, not}
+use mathlib.Core.Bool.{Bool, false, cond}
 use mathlib.Core.List.{List, [], _∷_}
 use Prim.Native.Nat.{ℕ, _+_, _*_}
 use lib.Dec.{eqb}
@@ -34,10 +34,6 @@ numberPlace most n numbers = cond (eqb n 0) none (foundAt most (firstAt most n n
 -- the first empty place of a transistor
 abbrev pub freePlace : List ℕ → ℕ
 freePlace issues = firstAt transistorsMost 0 issues
-
--- somebody stands at place i
-abbrev pub isTaken : List ℕ → ℕ → Bool
-isTaken issues i = not (eqb (getD issues i 0) 0)
 
 abbrev pub standsOnAt : ℕ → List ℕ → List ℕ → ℕ → Bool
 standsOnAt n issues cards i = onCard n (getD issues i 0) (getD cards i 0)

@@ -2,7 +2,7 @@
 use mathlib.Core.Path.{_≡_, refl, sym, ap, _∙_}
 use mathlib.Core.Bool.{Bool, true, false, cond}
 use mathlib.Core.List.{List, [], _∷_}
-use Prim.Native.Nat.{ℕ, zero, suc, _+_, _*_, _^_, _≤_, _<_}
+use Prim.Native.Nat.{ℕ, zero, suc, _+_, _*_, _^_, _≤_, _<_, zero-le}
 use native.Mathlib.Omega.{arith}
 use lib.Count.{ones, onesIn, ones-cat}
 use lib.Dec.{eqb, ltb}
@@ -34,6 +34,14 @@ pub record At (set i : ℕ) : Type 0 where
   pub most : i ≤ transistorsMost
   pub is : i < transistorsMost → member set i ≡ true
 
+-- the next place is a later one
+pub next-after : {set i j : ℕ} → i < transistorsMost → NextIn set (i + 1) j → i < j
+next-after {set} {i} {j} h n = go (ltb j transistorsMost) refl
+  where
+    go : (t : Bool) → ltb j transistorsMost ≡ t → i < j
+    go true e = let l = n .later (ltb-true j transistorsMost e) in omega arith
+    go false e = let l = ltb-false j transistorsMost e in omega arith
+
 module _ {A : Type 0} {set : ℕ} (f : ℕ → A) where
   pub walk-starts : {i : ℕ} → NextIn set 0 i → At set i × ([] ≡ listOf (member set) f i)
   unfolding listOf
@@ -48,16 +56,9 @@ module _ {A : Type 0} {set : ℕ} (f : ℕ → A) where
   walk-goes {i} {j} a h n = (
     record { most = n .most; is = n .is },
     sym
-        (list-quiet (member set) f (suc i) j after (λ k l m. n .between k (omega arith) m)
+        (list-quiet (member set) f (suc i) j (next-after h n) (λ k l m. n .between k (omega arith) m)
         ∙ ap (λ (t : Bool). keepIf t (f i) (listOf (member set) f i)) (a .is h)),
   )
-    where
-      after : i < j
-      after = go (ltb j transistorsMost) refl
-        where
-          go : (t : Bool) → ltb j transistorsMost ≡ t → i < j
-          go true e = let l = n .later (ltb-true j transistorsMost e) in omega arith
-          go false e = let l = ltb-false j transistorsMost e in omega arith
 
 -- how many there are, by the digits that are set
 pub ones-list : {A : Type 0} (p : ℕ → Bool) (f : ℕ → A) (k : ℕ) → ones (setOf p k) ≡ length (listOf p f k)
@@ -100,3 +101,25 @@ list-grows {A} p f i (suc k) h l = go (eqb i k) refl (p k) refl (λ m. list-grow
     go true e false q before = let w : true ≡ false = sym h ∙ ap p (eqb-true i k e) ∙ q in clash cc
     go false e true q before = let o = eqb-false i k e in let m = before (omega arith) in omega arith
     go false e false q before = let o = eqb-false i k e in before (omega arith)
+
+-- whatever is told of them
+pub list-long : {A B : Type 0} (p : ℕ → Bool) (f : ℕ → A) (g : ℕ → B) (k : ℕ) →
+    length (listOf p f k) ≡ length (listOf p g k)
+unfolding listOf
+list-long p f g zero = refl
+list-long p f g (suc k) = go (p k) (list-long p f g k)
+  where
+    go : (t : Bool) → length (listOf p f k) ≡ length (listOf p g k) →
+        length (keepIf t (f k) (listOf p f k)) ≡ length (keepIf t (g k) (listOf p g k))
+    go true e = ap suc e
+    go false e = e
+
+-- no more than there are places
+pub list-few : {A : Type 0} (p : ℕ → Bool) (f : ℕ → A) (k : ℕ) → length (listOf p f k) ≤ k
+unfolding listOf
+list-few p f zero = zero-le
+list-few {A} p f (suc k) = go (p k) (list-few p f k)
+  where
+    go : (t : Bool) → length (listOf p f k) ≤ k → length (keepIf t (f k) (listOf p f k)) ≤ suc k
+    go true h = omega arith
+    go false h = omega arith
