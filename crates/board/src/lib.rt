@@ -2,13 +2,15 @@
 // Each method asks that calls from a fresh board left the board as it is, and gives the answer with the next board, which is such a board again.
 ghost use mathlib.Core.Path.{_≡_};
 ghost use mathlib.Core.List.{[], _∷_};
-ghost use Rattle.model.specs.Model.{freshBoard, loadedOf, placedOf, movedOf, liftedOf, withdrawnOf, lookedOf, showedOf, openedOf};
+ghost use lib.ListN.{length};
+ghost use Rattle.bytes_le.specs.Buffer.{over};
+ghost use Rattle.model.specs.Model.{freshBoard, loadedOf, placedOf, movedOf, liftedOf, withdrawnOf, lookedOf, showedOf, openedOf, listedOf, summedOf};
 ghost use Rattle.board.specs.Promise.{modelOf, boardOf, givenAs, Reached};
 pub use model::Answer;
 use terms::BRANCHES;
 use terms::ROLES;
 
-// Flat arrays of numbers, so that each can be lent. The first six hold the cards by their places, the last five the transistors.
+// Flat arrays of numbers, so that each can be lent. The first six hold the cards by their places, the last six the transistors, with a set of their places for each node.
 pub struct Board {
     pub numbers: [u32; deck::ALL_NUMBERS],
     pub powers: [u16; deck::ALL_POWERS],
@@ -24,6 +26,8 @@ pub struct Board {
     pub cards: [u32; Board::TRANSISTORS],
     pub seats: [u8; Board::TRANSISTORS],
     pub nodes: [u8; places::ALL_NODES],
+    // for each node the places of the transistors that name it
+    pub naming: [u64; Board::NODES],
     // what each transistor's branches carry, in ticks
     pub currents: [i64; places::ALL_CURRENTS],
 }
@@ -61,6 +65,7 @@ impl Board {
             cards: [0u32; Board::TRANSISTORS],
             seats: [0u8; Board::TRANSISTORS],
             nodes: [0u8; places::ALL_NODES],
+            naming: [0u64; Board::NODES],
             currents: [0i64; places::ALL_CURRENTS],
         }
     }
@@ -121,12 +126,14 @@ impl Board {
         let mut cards = self.cards;
         let mut seats = self.seats;
         let mut on = self.nodes;
+        let mut naming = self.naming;
         let mut currents = self.currents;
         let answer = model::place(
             &mut issues,
             &mut cards,
             &mut seats,
             &mut on,
+            &mut naming,
             &mut totals,
             &mut currents,
             &mut next,
@@ -145,6 +152,7 @@ impl Board {
         self.cards = cards;
         self.seats = seats;
         self.nodes = on;
+        self.naming = naming;
         self.currents = currents;
         Answered {
             board: self,
@@ -166,6 +174,7 @@ impl Board {
         let issues = self.issues;
         let seats = self.seats;
         let nodes = self.nodes;
+        let naming = self.naming;
         let mut volts = self.volts;
         let mut totals = self.totals;
         let mut held = self.currents;
@@ -180,6 +189,7 @@ impl Board {
             &issues,
             &seats,
             &nodes,
+            &naming,
             pairs,
         );
         self.volts = volts;
@@ -212,12 +222,14 @@ impl Board {
         let mut cards = self.cards;
         let mut seats = self.seats;
         let mut nodes = self.nodes;
+        let mut naming = self.naming;
         let mut left = self.currents;
         let answer = model::lift(
             &mut issues,
             &mut cards,
             &mut seats,
             &mut nodes,
+            &mut naming,
             &mut totals,
             &mut left,
             transistor,
@@ -227,6 +239,7 @@ impl Board {
         self.cards = cards;
         self.seats = seats;
         self.nodes = nodes;
+        self.naming = naming;
         self.currents = left;
         Answered {
             board: self,
@@ -304,6 +317,7 @@ impl Board {
             ticks: [0i64; BRANCHES],
         }
     }
+
     // The currents of a transistor's branches, by its issue number: 12.
     pub fn read_currents(self, transistor: i64) -> Answered
         requires { ⌜ Reached self ⌝ }
@@ -319,6 +333,41 @@ impl Board {
             board: self,
             answer,
             ticks,
+        }
+    }
+
+    // Who names a node: the issue numbers of its transistors in rising order, at the start of the list, and how many they are: 13, then 5 where the list has not room for all.
+    pub fn list_node(self, node: i64, list: &mut [u32]) -> Answered
+        requires { ⌜ Reached self ⌝ }
+        ensures { λ r. ⌜ r ≡ givenAs (listedOf (modelOf self) node (length (now (list .entry)))) ⌝ }
+        ensures { λ r. ⌜ Reached (r .board) ⌝ }
+        ensures { λ _. ⌜ now (list .exit) ≡ over (listedOf (modelOf self) node (length (now (list .entry))) .list) (now (list .entry)) ⌝ }
+    {
+        let issues = self.issues;
+        let naming = self.naming;
+        let answer = roster::list_node(&issues, &naming, node, list);
+        Answered {
+            board: self,
+            answer,
+            ticks: [0i64; BRANCHES],
+        }
+    }
+
+    // A node summed up: how many transistors name it, on how many cards, and the largest size of a branch that starts or ends there: 13.
+    pub fn sum_up(self, node: i64) -> Answered
+        requires { ⌜ Reached self ⌝ }
+        ensures { λ r. ⌜ r ≡ givenAs (summedOf (modelOf self) node) ⌝ }
+        ensures { λ r. ⌜ Reached (r .board) ⌝ }
+    {
+        let cards = self.cards;
+        let nodes = self.nodes;
+        let naming = self.naming;
+        let currents = self.currents;
+        let answer = summary::sum_up(&cards, &nodes, &naming, &currents, node);
+        Answered {
+            board: self,
+            answer,
+            ticks: [0i64; BRANCHES],
         }
     }
 }

@@ -6,6 +6,7 @@ use Prim.Native.Nat.{ℕ, _≤_, _<_}
 use lib.ListN.{length, getD}
 use lib.IntN.{ℤ, natAbs}
 use borrow.Author.Tests.{lt-ltb, le-ltb}
+use Rattle.refusal.specs.Order.{Verdict, no, yes}
 use Rattle.refusal.specs.declared.Refusal.the-variants.{OutOfRange, ShortOutput}
 use Rattle.bytes_le.specs.Buffer.{over}
 use Rattle.given.specs.Arguments.{offNode}
@@ -15,10 +16,11 @@ use Rattle.places.specs.Gathered.{Transistor}
 use Rattle.places.specs.Sets.{member, sizeOf}
 use Rattle.places.specs.laws.Walks.{list-same, list-long}
 use Rattle.model.specs.Board.{Board}
+use Rattle.model.specs.declared.Answer.{Answer}
 use Rattle.model.specs.declared.Answer.the-variants.{Listed, Refused}
 use Rattle.model.specs.Counts.{nodesMost, transistorsMost}
 use Rattle.model.specs.Verdict.{listVerdict}
-use Rattle.model.specs.Model.{transistorAt, issuesOn, listedOf}
+use Rattle.model.specs.Model.{transistorAt, noTicks, issuesOn, listed, mayList, listedOf}
 use Rattle.model.proofs.Verdicts.{off-board, on-board}
 use Rattle.model.proofs.Lent.{stands-there}
 use Rattle.roster.specs.inner.Lent.{issuesIn, Lists}
@@ -68,3 +70,15 @@ module _ (b : Board) (z : ℤ) (old : List ℕ) where
           answer-is = rw (on, long) (ap Listed (c ∙ ap length list-is));
           list-is = rw (on, long) (m ∙ ap (λ (x : List ℕ). over x old) list-is);
         }
+
+-- ---- and it changes nothing on the board
+
+pub listed-whole : (b : Board) (n : ℤ) (room : ℕ) {answer : Answer} → answer ≡ listedOf b n room .answer →
+    record { board = b; answer = answer; ticks = noTicks; list = listedOf b n room .list } ≡ listedOf b n room
+unfolding listedOf
+listed-whole b n room {answer} e = go (mayList b n room) e
+  where
+    go : (v : Verdict ℕ) → answer ≡ listed b v .answer →
+        record { board = b; answer = answer; ticks = noTicks; list = listed b v .list } ≡ listed b v
+    go (no f) e = rw e
+    go (yes k) e = rw e

@@ -5,6 +5,7 @@ use mathlib.Core.List.{List}
 use Prim.Native.Nat.{ℕ, _≤_, _<_}
 use lib.ListN.{getD}
 use lib.IntN.{ℤ, natAbs}
+use Rattle.refusal.specs.Order.{Verdict, no, yes}
 use Rattle.refusal.specs.declared.Refusal.the-variants.{OutOfRange}
 use Rattle.given.specs.Arguments.{offNode}
 use Rattle.given.specs.Lists.{largest, different}
@@ -13,11 +14,12 @@ use Rattle.places.specs.Gathered.{Transistor}
 use Rattle.places.specs.Sets.{member, listOf, sizeOf}
 use Rattle.places.specs.laws.Walks.{list-same, list-long}
 use Rattle.model.specs.Board.{Board}
+use Rattle.model.specs.declared.Answer.{Answer}
 use Rattle.model.specs.declared.Answer.the-variants.{Summed, Refused}
 use Rattle.model.specs.Counts.{nodesMost, transistorsMost}
 use Rattle.model.specs.Largest.{sizeAt}
 use Rattle.model.specs.Verdict.{nodeVerdict}
-use Rattle.model.specs.Model.{transistorAt, toldOn, summedOf}
+use Rattle.model.specs.Model.{transistorAt, plain, toldOn, summed, summedOf}
 use Rattle.model.proofs.Verdicts.{off-board, on-board}
 use Rattle.model.proofs.Lent.{stands-there}
 use Rattle.summary.specs.inner.Told.{cardsBelow, sizesBelow, LendsNode}
@@ -61,3 +63,17 @@ module _ (b : Board) (z : ℤ) where
         (told-is (λ (t : Transistor). sizeAt m (t .nodes) (t .currents)) m _
         (λ i k. sym (ap (λ (t : Transistor). sizeAt m (t .nodes) (t .currents)) (stands-there b i k)))) in
         rw on (λ j. Summed (a j) (c j) (d j))
+
+-- ---- and it changes nothing
+
+pub summed-whole : (b : Board) (n : ℤ) {answer : Answer} → answer ≡ summedOf b n .answer → plain b answer ≡ summedOf b n
+unfolding summedOf
+summed-whole b n {answer} e = go (nodeVerdict n) e
+  where
+    go : (v : Verdict ℕ) → answer ≡ summed b v .answer → plain b answer ≡ summed b v
+    go (no f) e = rw e
+    go (yes k) e = rw e
+
+-- a board lends its own arrays
+pub own-node : (b : Board) → LendsNode b (b .cards) (b .nodes) (b .naming) (b .currents)
+own-node b = record { cards-are = refl; nodes-are = refl; naming-are = refl; currents-are = refl }
