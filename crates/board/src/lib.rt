@@ -304,15 +304,16 @@ impl Board {
             ticks: [0i64; BRANCHES],
         }
     }
+
     // The currents of a transistor's branches, by its issue number: 12.
     pub fn read_currents(self, transistor: i64) -> Answered
         requires { ⌜ Reached self ⌝ }
         ensures { λ r. ⌜ r ≡ givenAs (openedOf (modelOf self) transistor) ⌝ }
         ensures { λ r. ⌜ Reached (r .board) ⌝ }
     {
-        let issues = self.issues;
+        let standing = self.issues;
         let currents = self.currents;
-        let reading = reading::read_currents(&issues, &currents, transistor);
+        let reading = reading::read_currents(&standing, &currents, transistor);
         let answer = reading.answer;
         let ticks = reading.ticks;
         Answered {
