@@ -324,9 +324,9 @@ impl Board {
         ensures { λ r. ⌜ r ≡ givenAs (openedOf (modelOf self) transistor) ⌝ }
         ensures { λ r. ⌜ Reached (r .board) ⌝ }
     {
-        let issues = self.issues;
+        let standing = self.issues;
         let currents = self.currents;
-        let reading = reading::read_currents(&issues, &currents, transistor);
+        let reading = reading::read_currents(&standing, &currents, transistor);
         let answer = reading.answer;
         let ticks = reading.ticks;
         Answered {

@@ -70,7 +70,7 @@ reach {from = from} {next = next} h n = go (below-or-not next transistorsMost)
 
 module _ (r : Round) (currents l₀ : List ℤ) where
   -- from a place before on to the next of the set
-  on-to : (from i : ℕ) → from ≤ transistorsMost → NextIn (r .set) from i → {l : List ℤ} {first : First} →
+  on-to : (from i : ℕ) → from ≤ transistorsMost → NextIn (r .marked) from i → {l : List ℤ} {first : First} →
       More nodesMost l₀ l (gained r currents from) → first ≡ firstSo r from → Gone r currents l₀ i l first
   unfolding changes
   on-to from i h next {l} {first} more told =
@@ -81,7 +81,7 @@ module _ (r : Round) (currents l₀ : List ℤ) where
           long = more .long;
           at = λ n b. more .at n b ∙ ap (λ (z : ℤ). getD l₀ n (pos 0) +ℤ z) (same n);
         };
-        first-is = told ∙ sym (rw (sym sum) (first-past (member (r .set)) _ _ from (i - from) (λ j p q. next .between j p
+        first-is = told ∙ sym (rw (sym sum) (first-past (member (r .marked)) _ _ from (i - from) (λ j p q. next .between j p
             (rw sum at q))));
       }
     where
@@ -98,30 +98,30 @@ module _ (r : Round) (currents l₀ : List ℤ) where
           (next .between j p (rw sum at q)))))
 
   -- and what is held from there on
-  held-past : (from i : ℕ) → from ≤ transistorsMost → NextIn (r .set) from i →
+  held-past : (from i : ℕ) → from ≤ transistorsMost → NextIn (r .marked) from i →
       heldFrom r currents from ≡ heldFrom r currents i
   held-past from i h next =
       let e = reach h next in
       let m = next .most in
       let a : transistorsMost - from ≡ (i - from) + (transistorsMost - i) = omega arith in
       let b : from + (i - from) ≡ i = omega arith in
-      ap (λ (k : ℕ). renewed (member (r .set)) (newAt r) currents k from) a
-      ∙ renewed-past (member (r .set)) (newAt r) currents (i - from) (transistorsMost - i) from
+      ap (λ (k : ℕ). renewed (member (r .marked)) (newAt r) currents k from) a
+      ∙ renewed-past (member (r .marked)) (newAt r) currents (i - from) (transistorsMost - i) from
       (λ j p q. next .between j p (rw b at q))
-      ∙ ap (λ (k : ℕ). renewed (member (r .set)) (newAt r) currents (transistorsMost - i) k) b
+      ∙ ap (λ (k : ℕ). renewed (member (r .marked)) (newAt r) currents (transistorsMost - i) k) b
 
   -- ---- the first place
 
-  gone-none : length l₀ ≡ nodesMost → (i : ℕ) → NextIn (r .set) 0 i → Gone r currents l₀ i l₀ nobody
+  gone-none : length l₀ ≡ nodesMost → (i : ℕ) → NextIn (r .marked) 0 i → Gone r currents l₀ i l₀ nobody
   unfolding changes sumBelow firstBelow
   gone-none h i next =
       on-to 0 i zero-le next (record { long = h; at = λ n b. sym (+ℤ-idr (getD l₀ n (pos 0))) }) refl
 
-  pub begins : {table : List ℕ} → table ≡ entries → Settling r currents l₀ → (i : ℕ) → NextIn (r .set) 0 i →
+  pub begins : {table : List ℕ} → table ≡ entries → Settling r currents l₀ → (i : ℕ) → NextIn (r .marked) 0 i →
       Going r table currents l₀ i l₀ nobody
   begins t s i next = record { table-is = t; settling = s; gone = gone-none (s .long) i next }
 
-  pub held-start : (i : ℕ) → NextIn (r .set) 0 i → {first : First} {l held : List ℤ} →
+  pub held-start : (i : ℕ) → NextIn (r .marked) 0 i → {first : First} {l held : List ℤ} →
       Settled r currents l₀ i first l held → Settled r currents l₀ 0 first l held
   held-start i next {first} s =
       record {
@@ -176,7 +176,7 @@ module _ (r : Round) (currents l₀ : List ℤ) where
           )
 
           pub gone-more : {l″ : List ℤ} → More nodesMost l′ l″ (ticksGive on (w .ticks)) → {found : First} →
-              found ≡ earlier first (getD (r .issues) i 0) (w .over) → (next : ℕ) → NextIn (r .set) (i + 1) next →
+              found ≡ earlier first (getD (r .issues) i 0) (w .over) → (next : ℕ) → NextIn (r .marked) (i + 1) next →
               Gone r currents l₀ next l″ found
           unfolding changes sumBelow firstBelow changeBy flow
           gone-more {l″} into {found} f next n =
@@ -203,7 +203,7 @@ module _ (r : Round) (currents l₀ : List ℤ) where
       {l′ : List ℤ} → More nodesMost l l′ (ticksBack on old) → {w : Outcome} →
       Works (cardOf (r .deck) (getD (r .seats) i 0)) on (map givenBack (r .will)) w → {l″ : List ℤ} →
       More nodesMost l′ l″ (ticksGive on (w .ticks)) → {found : First} →
-      found ≡ earlier first (getD (r .issues) i 0) (w .over) → (next : ℕ) → NextIn (r .set) (i + 1) next →
+      found ≡ earlier first (getD (r .issues) i 0) (w .over) → (next : ℕ) → NextIn (r .marked) (i + 1) next →
       Going r table currents l₀ next l″ found
   goes-on g h o e out works into f next n =
       record {
@@ -230,13 +230,13 @@ module _ (r : Round) (currents l₀ : List ℤ) where
       either true = refl
       either false = refl
 
-  module _ {i next : ℕ} (h : i < transistorsMost) (n : NextIn (r .set) (i + 1) next) {first : First}
+  module _ {i next : ℕ} (h : i < transistorsMost) (n : NextIn (r .marked) (i + 1) next) {first : First}
       {l held : List ℤ} (s : Settled r currents l₀ next first l held) where
     -- somebody overloads: what was held is held on
     pub back-over : isOver (first .over) ≡ true → Settled r currents l₀ i first l held
     back-over e = record { first-is = s .first-is; gains = s .gains; held = s .held ∙ rw e }
 
-    pub back-held : isOver (first .over) ≡ false → member (r .set) i ≡ true → {on : List ℕ} →
+    pub back-held : isOver (first .over) ≡ false → member (r .marked) i ≡ true → {on : List ℕ} →
         on ≡ nodesAt (r .nodes) i → {w : Outcome} →
         Works (cardOf (r .deck) (getD (r .seats) i 0)) on (map givenBack (r .will)) w →
         Settled r currents l₀ i first l (written (pos 0) held (branches * i) (w .ticks) branches)
@@ -254,5 +254,5 @@ module _ (r : Round) (currents l₀ : List ℤ) where
         one : transistorsMost - i ≡ suc (transistorsMost - suc i)
         one = omega arith
 
-        rest : held ≡ renewed (member (r .set)) (newAt r) currents (transistorsMost - suc i) (suc i)
+        rest : held ≡ renewed (member (r .marked)) (newAt r) currents (transistorsMost - suc i) (suc i)
         rest = s .held ∙ rw e (sym (held-past (i + 1) next (omega arith) n) ∙ rw (add-one i))

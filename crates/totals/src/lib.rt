@@ -79,14 +79,12 @@ pub fn put(l: &mut [i64; NODES], nodes: &[u8; ROLES], ticks: &[i64; BRANCHES])
     hand_out(l, nodes, &a);
 }
 
-// The same taken away: each branch turned about.
+// The same taken away: put, with every number turned over. So the ends of the branches are looked at in one place, where the compiler knows them.
 pub fn take(l: &mut [i64; NODES], nodes: &[u8; ROLES], ticks: &[i64; BRANCHES])
     requires { ⌜ Givable (now l) (now nodes) (now ticks) ⌝ }
     ensures { λ _. ⌜ More nodesMost (now (l .entry)) (now (l .exit)) (rolesGive (now (nodes .entry)) toRoles fromRoles (now (ticks .entry))) ⌝ }
 {
-    let from = terms::from_roles();
-    let to = terms::to_roles();
-    let mut a = [0i64; ROLES];
-    branches(&mut a, &to, &from, ticks);
-    hand_out(l, nodes, &a);
+    let own = *ticks;
+    let back = polarity::turn_ticks(true, own);
+    put(l, nodes, &back);
 }

@@ -44,17 +44,17 @@ pub record Round : Type 0 where
   pub issues : List ℕ
   pub seats : List ℕ
   pub nodes : List ℕ
-  pub set : ℕ
+  pub marked : ℕ
   pub will : List ℕ
 
 abbrev pub roundOf : Deck → List ℕ → List ℕ → List ℕ → ℕ → List ℕ → Round
 roundOf d issues seats nodes set will =
-    record { deck = d; issues = issues; seats = seats; nodes = nodes; set = set; will = will }
+    record { deck = d; issues = issues; seats = seats; nodes = nodes; marked = set; will = will }
 
 -- what node n gains by the places of the set below k, which hold these currents
 abbrev pub gained : Round → List ℤ → ℕ → ℕ → ℤ
 gained r currents k n =
-    changes (member (r .set)) (cardAt (r .deck) (r .seats)) (nodesAt (r .nodes)) (heldAt currents)
+    changes (member (r .marked)) (cardAt (r .deck) (r .seats)) (nodesAt (r .nodes)) (heldAt currents)
     (map givenBack (r .will)) k n
 
 -- by what a place overloads at the new voltages, and its currents there
@@ -66,18 +66,18 @@ newAt r i = ticksAt (cardAt (r .deck) (r .seats) i) (nodesAt (r .nodes) i) (map 
 
 -- the first of the places of the set below k that overloads
 abbrev pub firstSo : Round → ℕ → First
-firstSo r k = firstBelow (member (r .set)) (λ (j : ℕ). getD (r .issues) j 0) (overOf r) k
+firstSo r k = firstBelow (member (r .marked)) (λ (j : ℕ). getD (r .issues) j 0) (overOf r) k
 
 -- what is held once the places of the set from i on are worked anew
 abbrev pub heldFrom : Round → List ℤ → ℕ → List ℤ
-heldFrom r currents i = renewed (member (r .set)) (newAt r) currents (transistorsMost - i) i
+heldFrom r currents i = renewed (member (r .marked)) (newAt r) currents (transistorsMost - i) i
 
 -- every place of the set can be worked, what it holds is small, and the totals have room on the way
 pub record Settling (r : Round) (currents : List ℤ) (totals : List ℤ) : Type 0 where
   pub will-are : Volts (r .will)
-  pub able : (i : ℕ) → i < transistorsMost → member (r .set) i ≡ true →
+  pub able : (i : ℕ) → i < transistorsMost → member (r .marked) i ≡ true →
       Able (r .deck) (getD (r .seats) i 0) (nodesAt (r .nodes) i)
-  pub small : (i : ℕ) → i < transistorsMost → member (r .set) i ≡ true → Within tickLimit (heldAt currents i)
+  pub small : (i : ℕ) → i < transistorsMost → member (r .marked) i ≡ true → Within tickLimit (heldAt currents i)
   pub long : length totals ≡ nodesMost
   pub room : (k n : ℕ) → k ≤ transistorsMost → n < nodesMost →
       natAbs (getD totals n (pos 0) +ℤ gained r currents k n) ≤ totalMost
@@ -86,7 +86,7 @@ pub record Settling (r : Round) (currents : List ℤ) (totals : List ℤ) : Type
 -- those places give, and first is the first of them that overloads
 pub record Gone (r : Round) (currents l₀ : List ℤ) (i : ℕ) (l : List ℤ) (first : First) : Type 0 where
   pub most : i ≤ transistorsMost
-  pub is : i < transistorsMost → member (r .set) i ≡ true
+  pub is : i < transistorsMost → member (r .marked) i ≡ true
   pub gains : More nodesMost l₀ l (gained r currents i)
   pub first-is : first ≡ firstSo r i
 
