@@ -10,7 +10,8 @@ pub use model::Answer;
 use terms::BRANCHES;
 use terms::ROLES;
 
-// Flat arrays of numbers, so that each can be lent. The first six hold the cards by their places, the last six the transistors, with a set of their places for each node.
+// Flat arrays of numbers, so that each can be lent. The first six hold the cards by their places; then come the transistors, with a set of their places for each node; what a move changes stands last.
+// A method that changes arrays on one side of `next` alone reads it and puts it back: there the compiler parts the struct, and what does not change is not copied.
 pub struct Board {
     pub numbers: [u32; deck::ALL_NUMBERS],
     pub powers: [u16; deck::ALL_POWERS],
@@ -19,15 +20,15 @@ pub struct Board {
     pub names: [u8; places::ALL_NAMES],
     pub held: [u32; Board::CARDS],
     pub next: u32,
-    // as `volts` keeps them
-    pub volts: [u32; Board::NODES],
-    pub totals: [i64; Board::NODES],
     pub issues: [u32; Board::TRANSISTORS],
     pub cards: [u32; Board::TRANSISTORS],
     pub seats: [u8; Board::TRANSISTORS],
     pub nodes: [u8; places::ALL_NODES],
     // for each node the places of the transistors that name it
     pub naming: [u64; Board::NODES],
+    // as `volts` keeps them
+    pub volts: [u32; Board::NODES],
+    pub totals: [i64; Board::NODES],
     // what each transistor's branches carry, in ticks
     pub currents: [i64; places::ALL_CURRENTS],
 }
@@ -175,6 +176,7 @@ impl Board {
         let seats = self.seats;
         let nodes = self.nodes;
         let naming = self.naming;
+        let next = self.next;
         let mut volts = self.volts;
         let mut totals = self.totals;
         let mut held = self.currents;
@@ -192,6 +194,7 @@ impl Board {
             &naming,
             pairs,
         );
+        self.next = next;
         self.volts = volts;
         self.totals = totals;
         self.currents = held;
@@ -217,6 +220,7 @@ impl Board {
         ensures { λ r. ⌜ r ≡ givenAs (liftedOf (modelOf self) transistor) ⌝ }
         ensures { λ r. ⌜ Reached (r .board) ⌝ }
     {
+        let next = self.next;
         let mut totals = self.totals;
         let mut issues = self.issues;
         let mut cards = self.cards;
@@ -234,6 +238,7 @@ impl Board {
             &mut left,
             transistor,
         );
+        self.next = next;
         self.totals = totals;
         self.issues = issues;
         self.cards = cards;

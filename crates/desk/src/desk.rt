@@ -201,7 +201,7 @@ fn move_to(board: Board, node: i64, microvolts: i64, out: &mut [u8; ROOM], at: &
     requires { ⌜ Reached board ⌝ }
     ensures { λ r. ⌜ Reached r ⌝ }
 {
-    let asked = board.move_to(node, microvolts);
+    let asked = board.move_all(&[node, microvolts]);
     let answer = asked.answer;
     put_done(answer, Answer::Moved, out, at);
     asked.board

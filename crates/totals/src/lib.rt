@@ -45,11 +45,14 @@ fn branches(
     }
 }
 
-// x more at the node n.
+// x more at the node n. Many roles give nothing, and a node that several give to waits for each.
 fn add(l: &mut [i64; NODES], n: u8, x: i64)
     requires { ⌜ (n < nodesMost) × Room nodesMost handedMost (now l) × (natAbs x ≤ flowMost) ⌝ }
     ensures { λ _. ⌜ More nodesMost (now (l .entry)) (now (l .exit)) (λ (m : ℕ). atNode n m x) ⌝ }
 {
+    if x == 0 {
+        return;
+    }
     let k = n as usize;
     let y = l[k] + x;
     l[k] = y;
