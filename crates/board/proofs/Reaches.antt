@@ -76,4 +76,4 @@ module _ {b : model.Board} {r : Answered} (k : Reached b) where
       a ≡ listedOf b n (length old) → new ≡ over (listedOf b n (length old) .list) old →
       AllowsList (listedOf b n (length old)) old r new
   unfolding answered
-  after-list n old e d l = let g = gives (who n (length old)) k e d in (g .0, g .1, l)
+  after-list n old e d l = let g = gives (who n (length old)) k e d in (g .0, (g .1, l))

@@ -20,7 +20,7 @@ Allows e r = (r ≡ givenAs e) × Reached (modelOf (r .board))
 
 -- and of a lent buffer that held old: the list of its definition at its start, and beyond it what was there
 abbrev pub AllowsList : model.Answered → List ℕ → Answered → List ℕ → Type 0
-AllowsList e old r new = (r ≡ givenAs e) × Reached (modelOf (r .board)) × (new ≡ over (e .list) old)
+AllowsList e old r new = (r ≡ givenAs e) × (Reached (modelOf (r .board)) × (new ≡ over (e .list) old))
 
 pub unique-fresh : {r s : Board} → (r ≡ boardOf freshBoard) × Reached (modelOf r) →
     (s ≡ boardOf freshBoard) × Reached (modelOf s) → r ≡ s
@@ -58,4 +58,4 @@ module _ (b : model.Board) {r s : Answered} where
   -- and what stands in the buffer after it, whatever stood there before
   pub unique-list : (node : ℤ) (old : List ℕ) {l m : List ℕ} → AllowsList (listedOf b node (length old)) old r l →
       AllowsList (listedOf b node (length old)) old s m → (r ≡ s) × (l ≡ m)
-  unique-list node old p q = (unique-by-equation (p .0) (q .0), unique-by-equation (p .2) (q .2))
+  unique-list node old p q = (unique-by-equation (p .0) (q .0), unique-by-equation (p .1 .1) (q .1 .1))
