@@ -10,7 +10,7 @@ use Rattle.board.proofs.Board.move_all.Tie as tie
 abbrev start : tie.After-naming2 → tie.Start
 start c =
     c .before .before .before .before .before .before .before .before .before .before .before .before .before .before .before
-    .before .before .before .before .before .before .before .before
+    .before .before .before .before .before .before .before
 
 move-all-requires : tie.Need-move-all-requires
 move-all-requires c κs =
