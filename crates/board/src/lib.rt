@@ -226,14 +226,14 @@ impl Board {
         let mut cards = self.cards;
         let mut seats = self.seats;
         let mut nodes = self.nodes;
-        let mut naming = self.naming;
+        let mut sets = self.naming;
         let mut left = self.currents;
         let answer = model::lift(
             &mut issues,
             &mut cards,
             &mut seats,
             &mut nodes,
-            &mut naming,
+            &mut sets,
             &mut totals,
             &mut left,
             transistor,
@@ -244,7 +244,7 @@ impl Board {
         self.cards = cards;
         self.seats = seats;
         self.nodes = nodes;
-        self.naming = naming;
+        self.naming = sets;
         self.currents = left;
         Answered {
             board: self,
@@ -364,11 +364,11 @@ impl Board {
         ensures { λ r. ⌜ r ≡ givenAs (summedOf (modelOf self) node) ⌝ }
         ensures { λ r. ⌜ Reached (r .board) ⌝ }
     {
-        let cards = self.cards;
+        let kinds = self.cards;
         let nodes = self.nodes;
         let naming = self.naming;
         let currents = self.currents;
-        let answer = summary::sum_up(&cards, &nodes, &naming, &currents, node);
+        let answer = summary::sum_up(&kinds, &nodes, &naming, &currents, node);
         Answered {
             board: self,
             answer,

@@ -55,8 +55,8 @@ fn naming_any(naming: &[u64; NODES], pairs: &[i64]) -> u64
     let mut set: u64 = 0;
     let mut i: usize = 0;
     while i + 1 < pairs.len() {
-        let n = given::node_of(pairs[i]) as usize;
-        set = set | naming[n];
+        let named = given::node_of(pairs[i]) as usize;
+        set = set | naming[named];
         i += 2;
     }
     set
