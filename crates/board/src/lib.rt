@@ -348,9 +348,9 @@ impl Board {
         ensures { λ r. ⌜ Reached (r .board) ⌝ }
         ensures { λ _. ⌜ now (list .exit) ≡ over (listedOf (modelOf self) node (length (now (list .entry))) .list) (now (list .entry)) ⌝ }
     {
-        let issues = self.issues;
+        let given = self.issues;
         let naming = self.naming;
-        let answer = roster::list_node(&issues, &naming, node, list);
+        let answer = roster::list_node(&given, &naming, node, list);
         Answered {
             board: self,
             answer,
