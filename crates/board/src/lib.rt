@@ -176,7 +176,7 @@ impl Board {
         let seats = self.seats;
         let nodes = self.nodes;
         let naming = self.naming;
-        let next = self.next;
+        let number = self.next;
         let mut volts = self.volts;
         let mut totals = self.totals;
         let mut held = self.currents;
@@ -194,7 +194,7 @@ impl Board {
             &naming,
             pairs,
         );
-        self.next = next;
+        self.next = number;
         self.volts = volts;
         self.totals = totals;
         self.currents = held;
@@ -220,7 +220,7 @@ impl Board {
         ensures { λ r. ⌜ r ≡ givenAs (liftedOf (modelOf self) transistor) ⌝ }
         ensures { λ r. ⌜ Reached (r .board) ⌝ }
     {
-        let next = self.next;
+        let number = self.next;
         let mut totals = self.totals;
         let mut issues = self.issues;
         let mut cards = self.cards;
@@ -238,7 +238,7 @@ impl Board {
             &mut left,
             transistor,
         );
-        self.next = next;
+        self.next = number;
         self.totals = totals;
         self.issues = issues;
         self.cards = cards;
