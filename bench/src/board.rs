@@ -299,12 +299,17 @@ impl Board {
         }
     }
 
-    pub fn lift(&mut self, issue: i64) -> Result<(), u32> {
+    /// The place of a transistor.
+    fn place_of(&self, issue: i64) -> Result<usize, u32> {
         if issue < 1 {
             return Err(12);
         }
         let is_it = |i: &i64| *i == issue;
-        let place = self.issues.iter().position(is_it).ok_or(12u32)?;
+        self.issues.iter().position(is_it).ok_or(12)
+    }
+
+    pub fn lift(&mut self, issue: i64) -> Result<(), u32> {
+        let place = self.place_of(issue)?;
         let t = self.standing[place];
         self.taken &= !(1 << place);
         for n in t.nodes {
@@ -338,6 +343,11 @@ impl Board {
     /// All voltages and totals.
     pub fn reading(&self) -> ([i64; NODES], [i64; NODES]) {
         (self.volts, self.totals)
+    }
+
+    /// The held currents of a transistor, branch by branch.
+    pub fn currents_of(&self, issue: i64) -> Result<Currents, u32> {
+        Ok(self.currents[self.place_of(issue)?])
     }
 
     pub fn node(&self, n: i64) -> Result<(i64, i64), u32> {

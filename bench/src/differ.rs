@@ -175,7 +175,7 @@ fn script(d: &mut Dice) -> Vec<u8> {
         );
     }
     for _ in 0..120 {
-        let line = match d.roll(16) {
+        let line = match d.roll(18) {
             0 => format!(
                 "record {} {}",
                 String::from_utf8(name(d)).unwrap(),
@@ -203,6 +203,7 @@ fn script(d: &mut Dice) -> Vec<u8> {
             10 => format!("lookup {}", String::from_utf8(name(d)).unwrap()),
             11 => format!("node {}", number(d, 33)),
             12 => "sheet".into(),
+            15 | 16 => format!("currents {}", number(d, 40)),
             _ => d
                 .one_of(&[
                     "",

@@ -189,6 +189,9 @@ impl Desk {
                 let n = number(rest[0])?;
                 told(self.board.node(n), |(v, t)| format!("node {n} {v} {t}"))
             }
+            (b"currents", 1) => told(self.board.currents_of(number(rest[0])?), |i| {
+                i.iter().fold(String::from("currents"), |s, x| format!("{s} {x}"))
+            }),
             (b"sheet", 0) => {
                 let (volts, totals) = self.board.reading();
                 let mut s = String::from("sheet 32");

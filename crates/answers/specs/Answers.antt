@@ -4,8 +4,9 @@ use mathlib.Core.List.{List, [], _∷_, _++_}
 use Prim.Native.Nat.{ℕ}
 use lib.Ieee.{Float, binary64, toBits, eq}
 use lib.ListN.{take}
+use lib.IntN.{ℤ}
 use Rattle.refusal.specs.Told.{told}
-use Rattle.sheet.specs.Digits.{maskDigits, wordDigits, hexDigits}
+use Rattle.sheet.specs.Digits.{maskDigits, wordDigits, hexDigits, signedDigits}
 use Rattle.sheet.specs.Lines.{labelLine, toldLine, nodeLine}
 use Rattle.spelling.specs.Bytes.{space, newline}
 use Rattle.answers.specs.declared.Answer.{Answer}
@@ -41,6 +42,16 @@ errorLine first = bytes "error " ++ (take shownBytes first ++ newline ∷ [])
 -- a file that cannot be read
 unfoldable pub unreadableLine : List ℕ → List ℕ
 unreadableLine path = bytes "error cannot read " ++ (path ++ newline ∷ [])
+
+-- ---- a transistor's currents
+
+-- numbers with a sign, a space before each, and the newline
+unfoldable pub ticksLine : List ℤ → List ℕ
+ticksLine [] = newline ∷ []
+ticksLine (x ∷ l) = space ∷ (signedDigits x ++ ticksLine l)
+
+unfoldable pub currentsLine : List ℤ → List ℕ
+currentsLine ticks = bytes "currents" ++ ticksLine ticks
 
 -- ---- a clipped record
 

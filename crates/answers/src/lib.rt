@@ -1,6 +1,6 @@
 // The line that answers a command, written in a lent buffer.
 ghost use Rattle.answers.specs.Page.{Writes};
-ghost use Rattle.answers.specs.Answers.{answerLine, errorLine, unreadableLine, clipLine};
+ghost use Rattle.answers.specs.Answers.{answerLine, errorLine, unreadableLine, currentsLine, clipLine};
 
 mod page; // page.rt: bytes written in a lent buffer
 mod parts; // parts.rt: what the answers are made of
@@ -10,7 +10,7 @@ use refusal::Refusal;
 // Room for the longest answer, that to `clip`.
 pub const ANSWER_ROOM: usize = 512;
 
-// An answer; that to a `clip`, an unreadable file and a line that is no command are apart.
+// An answer; that to a `clip` and to `currents`, an unreadable file and a line that is no command are apart.
 pub enum Answer {
     Library(u32),
     Offset(usize),
@@ -70,4 +70,12 @@ pub fn clip_line(mask: u32, wide: bool, numbers: &[f64], out: &mut [u8; ANSWER_R
     let start = page::put(b"clip ", out, 0);
     let masked = page::put_text(sheet::mask_digits(mask, wide), out, start);
     parts::put_words(numbers, out, masked)
+}
+
+// The currents of a transistor, a number for each branch.
+pub fn currents_line(ticks: &[i64], out: &mut [u8; ANSWER_ROOM]) -> usize
+    ensures { λ r. ⌜ Writes (currentsLine (now (ticks .entry))) (now (out .entry)) 0 (now (out .exit)) r ⌝ }
+{
+    let start = page::put(b"currents", out, 0);
+    parts::put_ticks(ticks, out, start)
 }

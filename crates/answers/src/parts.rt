@@ -6,7 +6,7 @@ ghost use lib.ListN.{length, take};
 ghost use Rattle.refusal.specs.Told.{told};
 ghost use Rattle.sheet.specs.Lines.{labelLine, toldLine, nodeLine};
 ghost use Rattle.answers.specs.Page.{Writes};
-ghost use Rattle.answers.specs.Answers.{shownBytes, bitsOf, wordsLine};
+ghost use Rattle.answers.specs.Answers.{shownBytes, bitsOf, wordsLine, ticksLine};
 use crate::ANSWER_ROOM;
 use crate::page;
 use refusal::Refusal;
@@ -76,6 +76,20 @@ pub(crate) fn put_words(numbers: &[f64], out: &mut [u8; ANSWER_ROOM], at: usize)
     while i < numbers.len() {
         let spaced = page::put(b" ", out, used);
         used = page::put_text(sheet::word_digits(bits(numbers[i])), out, spaced);
+        i += 1;
+    }
+    page::put(b"\n", out, used)
+}
+
+// Each number, a space before each, and the newline.
+pub(crate) fn put_ticks(ticks: &[i64], out: &mut [u8; ANSWER_ROOM], at: usize) -> usize
+    ensures { λ r. ⌜ Writes (ticksLine (now (ticks .entry))) (now (out .entry)) at (now (out .exit)) r ⌝ }
+{
+    let mut used = at;
+    let mut i = 0;
+    while i < ticks.len() {
+        let spaced = page::put(b" ", out, used);
+        used = page::put_text(sheet::signed_digits(ticks[i]), out, spaced);
         i += 1;
     }
     page::put(b"\n", out, used)

@@ -6,9 +6,9 @@ use lib.ListN.{length}
 use lib.IntN.{ℤ}
 use Rattle.terms.specs.Rows.{roles}
 use Rattle.model.specs.Board as model
-use Rattle.model.specs.Desk.{Call, load, place, move, lift, withdraw, lookUp, node}
+use Rattle.model.specs.Desk.{Call, load, place, move, lift, withdraw, lookUp, node, currents}
 use Rattle.model.specs.Model.{freshBoard, loadedOf, placedOf, movedOf, liftedOf, withdrawnOf, lookedOf, showedOf}
-use Rattle.model.specs.Model.{answered, boardAfter, Reached}
+use Rattle.model.specs.Model.{openedOf, answered, boardAfter, Reached}
 use Rattle.board.specs.declared.Board.{Board}
 use Rattle.board.specs.declared.Answered.{Answered}
 use Rattle.board.specs.Promise.{modelOf, boardOf, givenAs}
@@ -62,3 +62,7 @@ module _ {b : model.Board} {r : Answered} (k : Reached b) where
   pub after-node : (n : ℤ) {a : model.Answered} → r ≡ givenAs a → a ≡ showedOf b n → Allows (showedOf b n) r
   unfolding answered
   after-node n e d = gives (node n) k e d
+
+  pub after-currents : (n : ℤ) {a : model.Answered} → r ≡ givenAs a → a ≡ openedOf b n → Allows (openedOf b n) r
+  unfolding answered
+  after-currents n e d = gives (currents n) k e d

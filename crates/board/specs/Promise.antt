@@ -21,6 +21,7 @@ modelOf b =
       cards = b .cards;
       seats = b .seats;
       nodes = b .nodes;
+      currents = b .currents;
     }
 
 -- and the board whose arrays hold them
@@ -40,14 +41,15 @@ boardOf b =
       cards = b .cards;
       seats = b .seats;
       nodes = b .nodes;
+      currents = b .currents;
     }
 
 -- a model's board and answer handed back, and seen again
 abbrev pub givenAs : Answered → answered.Answered
-givenAs a = record { board = boardOf (a .board); answer = a .answer }
+givenAs a = record { board = boardOf (a .board); answer = a .answer; ticks = a .ticks }
 
 abbrev pub takenAs : answered.Answered → Answered
-takenAs r = record { board = modelOf (r .board); answer = r .answer }
+takenAs r = record { board = modelOf (r .board); answer = r .answer; ticks = r .ticks }
 
 -- some calls from a fresh board leave this board
 abbrev pub Reached : code.Board → Type 0

@@ -6,7 +6,7 @@ use lib.IntN.{ℤ}
 use Rattle.refusal.specs.Unique.{unique-by-equation}
 use Rattle.model.specs.Board as model
 use Rattle.model.specs.Model.{freshBoard, loadedOf, placedOf, movedOf, liftedOf, withdrawnOf, lookedOf, showedOf}
-use Rattle.model.specs.Model.{Reached}
+use Rattle.model.specs.Model.{openedOf, Reached}
 use Rattle.board.specs.declared.Board.{Board}
 use Rattle.board.specs.declared.Answered.{Answered}
 use Rattle.board.specs.Promise.{modelOf, boardOf, givenAs}
@@ -42,3 +42,6 @@ module _ (b : model.Board) {r s : Answered} where
 
   pub unique-node : (node : ℤ) → Allows (showedOf b node) r → Allows (showedOf b node) s → r ≡ s
   unique-node node p q = unique-by-equation (p .0) (q .0)
+
+  pub unique-currents : (transistor : ℤ) → Allows (openedOf b transistor) r → Allows (openedOf b transistor) s → r ≡ s
+  unique-currents transistor p q = unique-by-equation (p .0) (q .0)

@@ -2,12 +2,13 @@
 // Each method asks that calls from a fresh board left the board as it is, and gives the answer with the next board, which is such a board again.
 ghost use mathlib.Core.Path.{_≡_};
 ghost use mathlib.Core.List.{[], _∷_};
-ghost use Rattle.model.specs.Model.{freshBoard, loadedOf, placedOf, movedOf, liftedOf, withdrawnOf, lookedOf, showedOf};
+ghost use Rattle.model.specs.Model.{freshBoard, loadedOf, placedOf, movedOf, liftedOf, withdrawnOf, lookedOf, showedOf, openedOf};
 ghost use Rattle.board.specs.Promise.{modelOf, boardOf, givenAs, Reached};
 pub use model::Answer;
+use terms::BRANCHES;
 use terms::ROLES;
 
-// Flat arrays of numbers, so that each can be lent. The first six hold the cards by their places, the last four the transistors.
+// Flat arrays of numbers, so that each can be lent. The first six hold the cards by their places, the last five the transistors.
 pub struct Board {
     pub numbers: [u32; deck::ALL_NUMBERS],
     pub powers: [u16; deck::ALL_POWERS],
@@ -23,11 +24,15 @@ pub struct Board {
     pub cards: [u32; Board::TRANSISTORS],
     pub seats: [u8; Board::TRANSISTORS],
     pub nodes: [u8; places::ALL_NODES],
+    // what each transistor's branches carry, in ticks
+    pub currents: [i64; places::ALL_CURRENTS],
 }
 
+// An answer; the numbers of `Answer::Currents` stand beside it, and are 0 beside every other.
 pub struct Answered {
     pub board: Board,
     pub answer: Answer,
+    pub ticks: [i64; BRANCHES],
 }
 
 impl Board {
@@ -56,6 +61,7 @@ impl Board {
             cards: [0u32; Board::TRANSISTORS],
             seats: [0u8; Board::TRANSISTORS],
             nodes: [0u8; places::ALL_NODES],
+            currents: [0i64; places::ALL_CURRENTS],
         }
     }
 
@@ -93,6 +99,7 @@ impl Board {
         Answered {
             board: self,
             answer,
+            ticks: [0i64; BRANCHES],
         }
     }
 
@@ -114,12 +121,14 @@ impl Board {
         let mut cards = self.cards;
         let mut seats = self.seats;
         let mut on = self.nodes;
+        let mut currents = self.currents;
         let answer = model::place(
             &mut issues,
             &mut cards,
             &mut seats,
             &mut on,
             &mut totals,
+            &mut currents,
             &mut next,
             &numbers,
             &powers,
@@ -136,9 +145,11 @@ impl Board {
         self.cards = cards;
         self.seats = seats;
         self.nodes = on;
+        self.currents = currents;
         Answered {
             board: self,
             answer,
+            ticks: [0i64; BRANCHES],
         }
     }
 
@@ -157,9 +168,11 @@ impl Board {
         let nodes = self.nodes;
         let mut volts = self.volts;
         let mut totals = self.totals;
+        let mut held = self.currents;
         let answer = moving::move_all(
             &mut volts,
             &mut totals,
+            &mut held,
             &numbers,
             &powers,
             &ticks,
@@ -171,9 +184,11 @@ impl Board {
         );
         self.volts = volts;
         self.totals = totals;
+        self.currents = held;
         Answered {
             board: self,
             answer,
+            ticks: [0i64; BRANCHES],
         }
     }
 
@@ -186,33 +201,25 @@ impl Board {
         self.move_all(&[node, microvolts])
     }
 
-    // A transistor taken off, by its issue number: 12.
+    // A transistor taken off, by its issue number: 12. What it holds is taken out of the totals.
     pub fn lift(mut self, transistor: i64) -> Answered
         requires { ⌜ Reached self ⌝ }
         ensures { λ r. ⌜ r ≡ givenAs (liftedOf (modelOf self) transistor) ⌝ }
         ensures { λ r. ⌜ Reached (r .board) ⌝ }
     {
-        let numbers = self.numbers;
-        let powers = self.powers;
-        let ticks = self.ticks;
-        let switches = self.switches;
-        let volts = self.volts;
         let mut totals = self.totals;
         let mut issues = self.issues;
         let mut cards = self.cards;
         let mut seats = self.seats;
         let mut nodes = self.nodes;
+        let mut left = self.currents;
         let answer = model::lift(
             &mut issues,
             &mut cards,
             &mut seats,
             &mut nodes,
             &mut totals,
-            &numbers,
-            &powers,
-            &ticks,
-            &switches,
-            &volts,
+            &mut left,
             transistor,
         );
         self.totals = totals;
@@ -220,9 +227,11 @@ impl Board {
         self.cards = cards;
         self.seats = seats;
         self.nodes = nodes;
+        self.currents = left;
         Answered {
             board: self,
             answer,
+            ticks: [0i64; BRANCHES],
         }
     }
 
@@ -260,6 +269,7 @@ impl Board {
         Answered {
             board: self,
             answer,
+            ticks: [0i64; BRANCHES],
         }
     }
 
@@ -275,6 +285,7 @@ impl Board {
         Answered {
             board: self,
             answer,
+            ticks: [0i64; BRANCHES],
         }
     }
 
@@ -290,6 +301,25 @@ impl Board {
         Answered {
             board: self,
             answer,
+            ticks: [0i64; BRANCHES],
+        }
+    }
+
+    // The currents of a transistor's branches, by its issue number: 12.
+    pub fn read_currents(self, transistor: i64) -> Answered
+        requires { ⌜ Reached self ⌝ }
+        ensures { λ r. ⌜ r ≡ givenAs (openedOf (modelOf self) transistor) ⌝ }
+        ensures { λ r. ⌜ Reached (r .board) ⌝ }
+    {
+        let standing = self.issues;
+        let currents = self.currents;
+        let reading = reading::read_currents(&standing, &currents, transistor);
+        let answer = reading.answer;
+        let ticks = reading.ticks;
+        Answered {
+            board: self,
+            answer,
+            ticks,
         }
     }
 }

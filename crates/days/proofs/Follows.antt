@@ -18,16 +18,16 @@ use Rattle.volts.specs.Volts.{givenBack}
 use Rattle.card.specs.declared.WorkedCard.{WorkedCard}
 use Rattle.terms.specs.inner.Ready.{readyOf}
 use Rattle.terms.proofs.Laws.{ready-card}
-use Rattle.terms.specs.Rows.{roles}
+use Rattle.terms.specs.Rows.{roles, branches}
 use Rattle.places.specs.Gathered.{Card, Transistor}
 use Rattle.model.specs.Board.{Board}
 use Rattle.model.specs.Model.{cardsOf, transistorsOf, transistorAt}
 use Rattle.model.specs.Counts.{nodesMost, cardsMost, transistorsMost}
 use Rattle.given.specs.Arguments.{Found, none, some, issueOf, usedUp, Ties, tiesOf, wideBy}
 use Rattle.terms.specs.Looked.{lookedAt}
-use Rattle.model.specs.Verdict.{placeVerdict, moveVerdict, liftVerdict, withdrawVerdict, nodeVerdict}
+use Rattle.model.specs.Verdict.{placeVerdict, moveVerdict, liftVerdict, withdrawVerdict, nodeVerdict, openVerdict}
 use Rattle.model.specs.Desk as desk
-use Rattle.model.specs.Desk.{Held, Standing, Desk, Call, load, place, move, lift, withdraw, lookUp, node}
+use Rattle.model.specs.Desk.{Held, Standing, Desk, Call, load, place, move, lift, withdraw, lookUp, node, currents}
 use Rattle.totals.specs.Flow.{overloads, sumOver}
 use Rattle.given.specs.Lists.{anyOf, larger}
 use Rattle.model.specs.Desk.{firstWith, heldAs, standsAs, without, highest}
@@ -40,21 +40,22 @@ use Rattle.places.specs.Gathered.{noCard, emptyTransistor, noTransistor, worked
 use Rattle.model.specs.inner.Sums.{placeGives}
 use Rattle.model.specs.Model.{freshBoard, voltsOf, loadedOf}
 use Rattle.places.specs.Finding.{freeCard, freeTransistor, standsOn, highestAt}
-use Rattle.model.specs.Model.{placedOf, movedOf, liftedOf, withdrawnOf, lookedOf, showedOf, answered, boardAfter}
+use Rattle.model.specs.Model.{placedOf, movedOf, liftedOf, withdrawnOf, lookedOf, showedOf, openedOf, answered, boardAfter}
 use Rattle.days.specs.Perm.{empty}
 use Rattle.days.specs.Stands.{occupied, heldOf, standingOf, heldIn, standingIn, heldAt, standingAt, mapFound}
 use Rattle.days.specs.Stands.{standsUnder, Stands, Follow}
 use Rattle.days.proofs.Perms.{perm-join, perm-length, perm-sum, perm-any, perm-count, perm-first}
 use Rattle.days.proofs.Perms.{perm-without, perm-highest}
 use Rattle.days.proofs.Places.{sum-occupied, any-occupied, full, join, seen, find, find-none}
-use Rattle.days.proofs.Places.{count-occupied, leave}
+use Rattle.days.proofs.Places.{count-occupied, leave, alike}
 use Rattle.totals.proofs.Lists.{getD-map}
+use Rattle.flows.proofs.Currents.{ticks-count}
 use Rattle.model.proofs.NodeSums.{totals-at}
-use Rattle.model.proofs.Verdicts.{loads, places, moves, lifts, withdraws, shown}
+use Rattle.model.proofs.Verdicts.{loads, places, moves, lifts, withdraws, shown, opens}
 use Rattle.model.proofs.Invariant.{Invariant, invariant-after, at-card, AtCard, at-transistor, AtTransistor}
 use Rattle.model.proofs.Invariant.{Away, unused-away, worked-same, free-below, free-away, aside, still, cards-holding}
-use Rattle.model.proofs.Invariant.{transistors-holding, cards-standing, transistors-standing, cards-leveled}
-use Rattle.model.proofs.Invariant.{transistors-leveled, fresh-cards, fresh-transistors, looked-long}
+use Rattle.model.proofs.Invariant.{transistors-holding, cards-standing, transistors-standing, cards-then}
+use Rattle.model.proofs.Invariant.{transistors-count, transistor-then, held-is, fresh-cards, fresh-transistors, looked-long}
 use Rattle.model.proofs.Gains.{touched-stands}
 use Rattle.model.proofs.Lists.{padded-long}
 use Rattle.rows.specs.declared.Over.{Over}
@@ -76,7 +77,7 @@ use Rattle.model.specs.Model.{shifted, touched, firstOver, settled, workedOn}
 use Rattle.model.proofs.Shifts.{shifted-back}
 use Rattle.days.proofs.Orderly.{Orderly, orderly-after}
 use Rattle.days.proofs.Orders.{seenIn, order-load, order-place, order-move, order-lift, order-withdraw, order-look}
-use Rattle.days.proofs.Orders.{order-read}
+use Rattle.days.proofs.Orders.{order-read, order-open}
 
 -- ---- verdicts on what was found by place, and on the same found by itself
 
@@ -102,6 +103,11 @@ module _ {A B : Type 0} (g : A → B) where
   unfolding liftVerdict
   map-lift none = refl
   map-lift (some a) = refl
+
+  map-open : (found : Found A) → openVerdict (mapFound g found) ≡ mapVerdict g (openVerdict found)
+  unfolding openVerdict
+  map-open none = refl
+  map-open (some a) = refl
 
 -- ---- where board and desk agree
 
@@ -408,7 +414,7 @@ module _ (b : Board) (d : Desk) (g : Invariant b) (o : Orderly d) (s : Stands b 
 
       new : (i : ℕ) → on ≡ desk.lookedBy (heldAt b i) nodes →
           standingOf (cardsOf b)
-          (record { issue = b .next; card = heldAt b i .issue; seat = i; nodes = map natAbs on })
+          (board.newcomer b i on)
           ≡ record {
             issue = d .next;
             card = heldAt b i .issue;
@@ -439,7 +445,7 @@ module _ (b : Board) (d : Desk) (g : Invariant b) (o : Orderly d) (s : Stands b 
                 rw (
                   cards-standing b (g .sized) free t _ (b .next + 1),
                   transistors-standing b (g .sized) free t _ (b .next + 1) below
-                      (length-map on natAbs ∙ looked-long _ nodes sized),
+                      (length-map on natAbs ∙ looked-long _ nodes sized) (ticks-count _ _ _),
                 )
                 (record {
                   cards = s .cards;
@@ -465,6 +471,16 @@ module _ (b : Board) (d : Desk) (g : Invariant b) (o : Orderly d) (s : Stands b 
       order-move d pairs (firstOver b (shiftsOf pairs))
       (rw (← (moved-volts pairs e)) (first-standing b d g o s (shiftsOf pairs) (yes (shiftsOf pairs))))
 
+  -- who stands, and on what, is not moved: a move renews what is held
+  standing-then : (shifts : List Shift) →
+      standingIn (cardsOf b) (transistorsOf (board.leveled b (settled b shifts) (board.heldThen b shifts)))
+      ≡ standingIn (cardsOf b) (transistorsOf b)
+  standing-then shifts =
+      alike (λ (t : Transistor). t .issue) (standingOf (cardsOf b)) noTransistor _ (transistorsOf b)
+      (transistors-count g shifts ∙ sym (g .holds .transistors-long))
+      (λ i h. let e = transistor-then g shifts i (subst (λ (k : ℕ). i < k) (transistors-count g shifts) h) in
+      (ap (λ (t : Transistor). t .issue) e, ap (standingOf (cardsOf b)) e))
+
   follow-move : (pairs : List ℤ) → Follow (movedOf b pairs) (step d (move pairs))
   unfolding movedOf step
   follow-move pairs =
@@ -477,10 +493,10 @@ module _ (b : Board) (d : Desk) (g : Invariant b) (o : Orderly d) (s : Stands b 
           record {
             reply = refl;
             board =
-                rw (cards-leveled g shifts (settled b shifts), transistors-leveled g shifts (settled b shifts))
+                rw (cards-then g shifts)
                 (record {
                   cards = s .cards;
-                  standing = s .standing;
+                  standing = rw (standing-then shifts) (s .standing);
                   volts = let m = moves e in rw (m .by) (moved-volts pairs (m .on));
                   next = s .next;
                 });
@@ -537,7 +553,8 @@ module _ (b : Board) (d : Desk) (g : Invariant b) (o : Orderly d) (s : Stands b 
             board =
                 rw (
                   cards-standing b (g .sized) i emptyTransistor _ (b .next),
-                  transistors-standing b (g .sized) i emptyTransistor _ (b .next) below (length-replicate roles zero),
+                  transistors-standing b (g .sized) i emptyTransistor _ (b .next) below (length-replicate roles zero)
+                      (length-replicate branches (pos 0)),
                 )
                 (record {
                   cards = s .cards;
@@ -621,6 +638,24 @@ module _ (b : Board) (d : Desk) (g : Invariant b) (o : Orderly d) (s : Stands b 
           (λ (l : List ℤ). getD l k (pos 0)) (s .volts) in
           let t = totals-follow b d g o s k h in record { reply = rw (v, t); board = s }
 
+  follow-open : (n : ℤ) → Follow (openedOf b n) (step d (currents n))
+  unfolding openedOf step
+  follow-open n =
+      subst (λ (v : Verdict Standing). Follow (openedOf b n) (desk.opened d v)) agree (go (board.mayOpen b n) refl)
+    where
+      agree : mapVerdict (standingAt b) (board.mayOpen b n) ≡ desk.mayOpen d n
+      agree = rw (← (order-open d n), transistor-by b d g o s (issueOf n), map-open (standingAt b))
+
+      go : (v : Verdict ℕ) → board.mayOpen b n ≡ v →
+          Follow (board.opened b v) (desk.opened d (mapVerdict (standingAt b) v))
+      go (no f) e = record { reply = refl; board = s }
+      go (yes i) e =
+          let a =
+          at-transistor (issueOf n) (transistorsOf b) i (g .holds .transistors-long)
+          (opens (transistorPlace (issueOf n) (transistorsOf b)) e) in
+          let held = held-is g i (λ z. a .given (sym (a .issue-is) ∙ z)) in
+          record { reply = rw (held, s .volts); board = s }
+
 -- ---- any calls
 
 pub stands-fresh : Stands freshBoard freshDesk
@@ -638,6 +673,7 @@ follow b d g o s (lift n) = follow-lift b d g o s n
 follow b d g o s (withdraw n) = follow-withdraw b d g o s n
 follow b d g o s (lookUp name) = follow-look b d g o s name
 follow b d g o s (node n) = follow-node b d g o s n
+follow b d g o s (currents n) = follow-open b d g o s n
 
 pub stands-after : (calls : List Call) → Stands (boardAfter calls) (after calls)
 unfolding boardAfter after

@@ -17,7 +17,7 @@ use Rattle.card.specs.declared.WorkedCard.{WorkedCard}
 use Rattle.given.specs.Arguments.{Found, none, some, issueOf, known}
 use Rattle.given.specs.Pairs.{Shift}
 use Rattle.model.specs.Desk as desk
-use Rattle.model.specs.Desk.{Held, Standing, Desk, Call, load, place, move, lift, withdraw, lookUp, node}
+use Rattle.model.specs.Desk.{Held, Standing, Desk, Call, load, place, move, lift, withdraw, lookUp, node, currents}
 use Rattle.given.specs.Lists.{anyOf}
 use Rattle.model.specs.Desk.{firstWith, ifTrue, standsAs, without, keepIf, step, after}
 use Rattle.model.specs.Model.{boardAfter}
@@ -141,6 +141,11 @@ module _ (d : Desk) (k : ℕ) (given : k < d .next) where
       go : (w : Verdict ℕ) → Stays d k false (desk.showed d w .desk)
       go (no f) = still d k
       go (yes m) = still d k
+  stays (currents n) = go (desk.mayOpen d n)
+    where
+      go : (w : Verdict Standing) → Stays d k false (desk.opened d w .desk)
+      go (no f) = still d k
+      go (yes t) = still d k
 
 -- ---- any calls
 

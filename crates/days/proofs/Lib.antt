@@ -7,6 +7,7 @@ pub mod Faults
 pub mod Orders
 pub mod Follows
 pub mod Totals
+pub mod Held
 pub mod Numbers
 pub mod Keeps
 pub mod Methods

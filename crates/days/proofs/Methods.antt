@@ -18,7 +18,7 @@ use Rattle.model.proofs.Invariant.{invariant}
 use Rattle.days.specs.Perm.{Perm}
 use Rattle.days.specs.Stands.{Stands, Follow}
 use Rattle.days.specs.Promised.{Promised, by-load, by-place, by-move-all, by-move-to, by-lift, by-withdraw}
-use Rattle.days.specs.Promised.{by-look-up}
+use Rattle.days.specs.Promised.{by-look-up, by-read-currents}
 use Rattle.days.specs.Promised.{by-read-node, PromisedFresh, by-fresh, Day, begun, then}
 use Rattle.days.proofs.Perms.{count, perm-count}
 use Rattle.days.proofs.Orderly.{Numbered, Orderly, orderly-after}
@@ -62,6 +62,7 @@ kept-promise (by-lift κs a e p) = p
 kept-promise (by-withdraw κs a e p) = p
 kept-promise (by-look-up κs a e p) = p
 kept-promise (by-read-node κs a e p) = p
+kept-promise (by-read-currents κs a e p) = p
 
 -- whatever a method may answer follows the desk
 pub methods-follow : {b : code.Board} {d : Desk} {c : Call} {r : answered.Answered} → Reached (modelOf b) →

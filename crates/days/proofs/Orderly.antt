@@ -10,9 +10,10 @@ use borrow.Author.Tests.{eqb-true, ne-eqb}
 use Rattle.refusal.specs.Order.{Verdict, no, yes}
 use Rattle.card.specs.declared.WorkedCard.{WorkedCard}
 use Rattle.given.specs.Pairs.{Shift}
-use Rattle.model.specs.Desk.{Held, Standing, Desk, Call, load, place, move, lift, withdraw, lookUp, node}
-use Rattle.model.specs.Desk.{without, keepIf, loaded, placed, moved, lifted, withdrawn, looked, showed, mayLoad}
-use Rattle.model.specs.Desk.{mayPlace, mayMove, mayLift, mayWithdraw, mayLookUp, mayRead, step, freshDesk, after}
+use Rattle.model.specs.Desk.{Held, Standing, Desk, Call, load, place, move, lift, withdraw, lookUp, node, currents}
+use Rattle.model.specs.Desk.{without, keepIf, loaded, placed, moved, lifted, withdrawn, looked, showed, opened, mayLoad}
+use Rattle.model.specs.Desk.{mayPlace, mayMove, mayLift, mayWithdraw, mayLookUp, mayRead, mayOpen, step, freshDesk}
+use Rattle.model.specs.Desk.{after}
 use Rattle.days.proofs.Perms.{count, more}
 
 -- things whose keys are their numbers: each number at most once, and below next
@@ -119,6 +120,11 @@ orderly-step d (node n) o = go (mayRead n)
     go : (v : Verdict ℕ) → Orderly (showed d v .desk)
     go (no f) = o
     go (yes k) = o
+orderly-step d (currents n) o = go (mayOpen d n)
+  where
+    go : (v : Verdict Standing) → Orderly (opened d v .desk)
+    go (no f) = o
+    go (yes t) = o
 
 pub orderly-after : (calls : List Call) → Orderly (after calls)
 unfolding after

@@ -13,13 +13,13 @@ use Rattle.given.specs.Arguments.{Found, none, some, issueOf, someNodeOff, ties
 use Rattle.terms.specs.Looked.{lookedAt}
 use Rattle.given.specs.Pairs.{shiftsOf}
 use Rattle.model.specs.Verdict.{loadVerdict, placeVerdict, moveVerdict, liftVerdict, withdrawVerdict, lookVerdict}
-use Rattle.model.specs.Verdict.{nodeVerdict, refuseOver}
+use Rattle.model.specs.Verdict.{nodeVerdict, openVerdict, refuseOver}
 use Rattle.model.specs.Faults.{refuseFirst, faultsOf}
 use Rattle.settle.specs.declared.First.{First}
 use Rattle.model.specs.Desk.{Held, Standing, Desk, highest, lookedBy, movedTo, faultsAt, heldAs, standsAs}
 use Rattle.totals.specs.Flow.{overAt}
 use Rattle.given.specs.Lists.{anyOf}
-use Rattle.model.specs.Desk.{mayLoad, mayPlace, mayMove, mayLift, mayWithdraw, mayLookUp, mayRead}
+use Rattle.model.specs.Desk.{mayLoad, mayPlace, mayMove, mayLift, mayWithdraw, mayLookUp, mayRead, mayOpen}
 use Rattle.days.proofs.Faults.{refuse-over}
 
 module _ (d : Desk) where
@@ -78,6 +78,10 @@ module _ (d : Desk) where
   pub order-look : (name : List ℕ) → lookVerdict name (highest (padded name) (d .cards)) ≡ mayLookUp d name
   unfolding lookVerdict
   order-look name = refl
+
+  pub order-open : (n : ℤ) → openVerdict (standsAs (issueOf n) (d .standing)) ≡ mayOpen d n
+  unfolding openVerdict
+  order-open n = refl
 
 pub order-read : (n : ℤ) → nodeVerdict n ≡ mayRead n
 unfolding nodeVerdict

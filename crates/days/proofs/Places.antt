@@ -102,6 +102,18 @@ module _ {A B : Type 0} (key : A → ℕ) (f : A → B) where
       go true e p q = p
       go false e p q = rw (q (eqb-false (key a) 0 e), p)
 
+  -- and in another list of as many, of which key and f say the same place by place
+  pub alike : (d : A) (l m : List A) → length l ≡ length m →
+      ((i : ℕ) → i < length l → (key (getD l i d) ≡ key (getD m i d)) × (f (getD l i d) ≡ f (getD m i d))) →
+      occupied key f l ≡ occupied key f m
+  unfolding occupied
+  alike d [] [] e h = refl
+  alike d [] (b ∷ m) e h = absurd (omega arith)
+  alike d (a ∷ l) [] e h = absurd (omega arith)
+  alike d (a ∷ l) (b ∷ m) e h =
+      let here = h 0 (omega arith) in
+      rw (here .0, here .1, alike d l m (omega arith) (λ i k. h (suc i) (omega arith)))
+
 -- nothing stands under the key 0
 pub find-none : {A B : Type 0} (key : A → ℕ) (f : A → B) (id : B → ℕ) → ((a : A) → id (f a) ≡ key a) → (l : List A) →
     firstWith (λ (b : B). eqb (id b) 0) (occupied key f l) ≡ none

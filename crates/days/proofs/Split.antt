@@ -28,6 +28,7 @@ use Rattle.model.specs.declared.Answer.the-variants.{Refused}
 use Rattle.model.specs.Model.{answered, boardAfter}
 use Rattle.days.specs.Told.{Among, FirstTold}
 use Rattle.days.specs.Bare.{bare15, bareOf, bare, placeBefore, moveBefore}
+use Rattle.model.specs.declared.Answer.{Answer}
 use Rattle.days.specs.Stands.{replyOf}
 use Rattle.days.proofs.FaultOrder.{first-told}
 use Rattle.days.proofs.Follows.{follows}
@@ -199,7 +200,8 @@ unfolding step
 board-tells-of-a-move calls pairs f e =
     move-told (after calls) pairs f
     (no-of (after calls) (refusalFor f) (mayMove (after calls) pairs)
-    (sym (follows calls (move pairs) .reply) ∙ ap replyOf e))
+    (sym (follows calls (move pairs) .reply)
+    ∙ ap (λ (a : Answer). replyOf a (answered (boardAfter calls) (move pairs) .ticks)) e))
 
 pub board-tells-of-a-placing : (calls : List Call) (card : ℤ) (nodes : List ℤ) (sized : length nodes ≡ roles)
     (f : Fault) →
@@ -210,4 +212,5 @@ unfolding step
 board-tells-of-a-placing calls card nodes sized f e =
     place-told (after calls) card nodes f
     (no-placing (after calls) nodes (refusalFor f) (mayPlace (after calls) card nodes)
-    (sym (follows calls (place card nodes sized) .reply) ∙ ap replyOf e))
+    (sym (follows calls (place card nodes sized) .reply)
+    ∙ ap (λ (a : Answer). replyOf a (answered (boardAfter calls) (place card nodes sized) .ticks)) e))

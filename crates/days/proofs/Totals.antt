@@ -24,7 +24,7 @@ use Rattle.model.specs.Model.{cardsOf, transistorsOf, transistorAt}
 use Rattle.model.specs.Counts.{nodesMost, transistorsMost}
 use Rattle.totals.specs.Gives.{atNode, rowsGive}
 use Rattle.model.specs.Desk.{Standing, Call, total, after}
-use Rattle.totals.specs.Flow.{rolesAt, overloads, flow, sumOver}
+use Rattle.totals.specs.Flow.{rolesAt, overloads, ticksAt, ticksGive, flow, sumOver}
 use Rattle.places.specs.Gathered.{noTransistor, workedAt}
 use Rattle.model.specs.inner.Sums.{placeGives, totalsOf}
 use Rattle.model.specs.Model.{voltsOf, boardAfter}
@@ -120,8 +120,8 @@ sum-rows (r ∷ rs) nodes (x ∷ xs) h =
 
 sum-flow : (c : WorkedCard) (nodes : List ℕ) (volts : List ℤ) → ((k : ℕ) → getD nodes k 0 < nodesMost) →
     sumAll (listUp (λ (n : ℕ). flow c nodes volts n) nodesMost 0) ≡ pos 0
-unfolding flow
-sum-flow c nodes volts h = sum-rows (rowsFor (c .exsub)) nodes (outcomeOf c (rolesAt volts nodes) .ticks) h
+unfolding flow ticksGive
+sum-flow c nodes volts h = sum-rows (rowsFor false) nodes (ticksAt c nodes volts) h
 
 sum-place : (cards : List Card) (volts : List ℤ) (t : Transistor) →
     ((t .issue ≡ 0 → ⊥) → (k : ℕ) → getD (t .nodes) k 0 < nodesMost) →

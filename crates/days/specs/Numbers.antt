@@ -4,10 +4,10 @@ use mathlib.Core.List.{List, [], _∷_}
 use Prim.Native.Nat.{ℕ, _≤_, _<_}
 use lib.Dec.{eqb}
 use Rattle.model.specs.declared.Answer.{Answer}
-use Rattle.model.specs.declared.Answer.the-variants.{Issue, Done, Node, Refused}
+use Rattle.model.specs.declared.Answer.the-variants.{Issue, Done, Node, Currents, Refused}
 use Rattle.given.specs.Arguments.{issuesMost}
 use Rattle.given.specs.Arguments.{issueOf}
-use Rattle.model.specs.Desk.{Call, load, place, move, lift, withdraw, lookUp, node}
+use Rattle.model.specs.Desk.{Call, load, place, move, lift, withdraw, lookUp, node, currents}
 use Rattle.model.specs.Model.{answered, boardAfter}
 
 -- the number that a call gives: only loading and placing give one
@@ -15,6 +15,7 @@ abbrev pub withNumber : Answer → List ℕ → List ℕ
 withNumber (Issue n) earlier = n ∷ earlier
 withNumber Done earlier = earlier
 withNumber (Node v t) earlier = earlier
+withNumber Currents earlier = earlier
 withNumber (Refused f) earlier = earlier
 
 abbrev pub gives : Call → Answer → List ℕ → List ℕ
@@ -25,6 +26,7 @@ gives (lift n) a earlier = earlier
 gives (withdraw n) a earlier = earlier
 gives (lookUp name) a earlier = earlier
 gives (node n) a earlier = earlier
+gives (currents n) a earlier = earlier
 
 -- the numbers given by calls from a fresh board, the last first
 unfoldable pub givenBy : List Call → List ℕ
@@ -45,3 +47,4 @@ asksToLift k (lift n) = eqb (issueOf n) k
 asksToLift k (withdraw n) = false
 asksToLift k (lookUp name) = false
 asksToLift k (node n) = false
+asksToLift k (currents n) = false

@@ -10,7 +10,7 @@ use borrow.Fn.Kinds.{PK, RK, Dens, endedOf}
 use Rattle.terms.specs.Rows.{roles}
 use Rattle.board.specs.declared.Board.{Board}
 use Rattle.board.specs.declared.Answered.{Answered}
-use Rattle.model.specs.Desk.{Call, load, place, move, moveOne, lift, withdraw, lookUp, node}
+use Rattle.model.specs.Desk.{Call, load, place, move, moveOne, lift, withdraw, lookUp, node, currents}
 use Rattle.board.proofs.Board.fresh.Kinds as fresh-kinds
 use Rattle.board.proofs.Board.fresh.Reads as fresh-reads
 use Rattle.board.proofs.Board.load.Kinds as load-kinds
@@ -29,6 +29,8 @@ use Rattle.board.proofs.Board.«look_up».Kinds as look-up-kinds
 use Rattle.board.proofs.Board.«look_up».Reads as look-up-reads
 use Rattle.board.proofs.Board.«read_node».Kinds as read-node-kinds
 use Rattle.board.proofs.Board.«read_node».Reads as read-node-reads
+use Rattle.board.proofs.Board.«read_currents».Kinds as read-currents-kinds
+use Rattle.board.proofs.Board.«read_currents».Reads as read-currents-reads
 
 -- what a method's arguments are when it returns
 abbrev Left : {n : ℕ} → Lfts n → List (PK n) → RK n → Type 0
@@ -65,6 +67,9 @@ pub data Promised : Board → Call → Answered → Type 0 where
   by-read-node : (κs : Lfts 0) (a : Dens κs read-node-kinds.ps) {r : Answered}
       (e : Left κs read-node-kinds.ps read-node-kinds.r) →
       read-node-reads.Learnt κs a r e → Promised (a .0) (node (a .1 .0)) r
+  by-read-currents : (κs : Lfts 0) (a : Dens κs read-currents-kinds.ps) {r : Answered}
+      (e : Left κs read-currents-kinds.ps read-currents-kinds.r) →
+      read-currents-reads.Learnt κs a r e → Promised (a .0) (currents (a .1 .0)) r
 
 -- a day of calls, the last one first in the list: each made on the board that the one before it handed back
 pub data Day : List Call → Board → Type 0 where

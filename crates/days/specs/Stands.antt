@@ -11,10 +11,10 @@ use Rattle.places.specs.Gathered.{Card, Transistor}
 use Rattle.model.specs.Board.{Board}
 use Rattle.model.specs.Model.{cardsOf, transistorsOf, transistorAt}
 use Rattle.model.specs.declared.Answer.{Answer}
-use Rattle.model.specs.declared.Answer.the-variants.{Issue, Done, Node, Refused}
+use Rattle.model.specs.declared.Answer.the-variants.{Issue, Done, Node, Currents, Refused}
 use Rattle.model.specs.Board.{Answered}
 use Rattle.given.specs.Arguments.{Found, none, some}
-use Rattle.model.specs.Desk.{Held, Standing, Desk, Step, Reply, issued, done, shows, refused, keepIf}
+use Rattle.model.specs.Desk.{Held, Standing, Desk, Step, Reply, issued, done, shows, carries, refused, keepIf}
 use Rattle.places.specs.Gathered.{noCard, workedAt}
 use Rattle.places.specs.Finding.{transistorPlace}
 use Rattle.model.specs.Model.{voltsOf}
@@ -65,14 +65,15 @@ pub record StandFor (cs : List Card) (ts : List Transistor) (vs : List ℤ) (n :
 abbrev pub Stands : Board → Desk → Type 0
 Stands b d = StandFor (cardsOf b) (transistorsOf b) (voltsOf b) (b .next) d
 
--- a board's answer in the desk's words
-abbrev pub replyOf : Answer → Reply
-replyOf (Issue n) = issued n
-replyOf Done = done
-replyOf (Node v t) = shows v t
-replyOf (Refused f) = refused f
+-- a board's answer, and the numbers beside it, in the desk's words
+abbrev pub replyOf : Answer → List ℤ → Reply
+replyOf (Issue n) ticks = issued n
+replyOf Done ticks = done
+replyOf (Node v t) ticks = shows v t
+replyOf Currents ticks = carries ticks
+replyOf (Refused f) ticks = refused f
 
 -- a board's answer is the desk's, and its next board stands for the next desk
 pub record Follow (a : Answered) (t : Step) : Type 0 where
-  pub reply : replyOf (a .answer) ≡ t .reply
+  pub reply : replyOf (a .answer) (a .ticks) ≡ t .reply
   pub board : Stands (a .board) (t .desk)

@@ -6,6 +6,7 @@ use answers::ANSWER_ROOM;
 use answers::Answer;
 use card::Clipping;
 use refusal::Refusal;
+use terms::BRANCHES;
 
 // Room for the answer to the longest path that an argument or a line gives.
 const PATH_ROOM: usize = 131104;
@@ -36,6 +37,13 @@ pub fn put_unreadable(path: &[u8], out: &mut [u8; ROOM], at: &mut usize) {
     let mut text = [0u8; PATH_ROOM];
     let n = answers::unreadable_line(path, &mut text);
     puts(part(&text, 0, n), out, at);
+}
+
+// The currents of a transistor.
+pub fn put_currents(ticks: &[i64; BRANCHES], out: &mut [u8; ROOM], at: &mut usize) {
+    let mut text = [0u8; ANSWER_ROOM];
+    let n = answers::currents_line(ticks, &mut text);
+    put_part(&text, n, out, at);
 }
 
 // The numbers that a record of version 1 has.

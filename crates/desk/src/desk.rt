@@ -2,6 +2,7 @@
 ghost use Rattle.board.specs.Promise.{Reached};
 use crate::answer::put_answer;
 use crate::answer::put_clipping;
+use crate::answer::put_currents;
 use crate::answer::put_error;
 use crate::answer::put_refused;
 use crate::answer::put_unreadable;
@@ -21,6 +22,7 @@ use script::MOST_NUMBERS;
 use script::MOST_WORDS;
 use script::Series;
 use script::Verb;
+use terms::BRANCHES;
 use terms::ROLES;
 
 // A node that is on no board.
@@ -252,6 +254,23 @@ fn read_node(board: Board, node: i64, out: &mut [u8; ROOM], at: &mut usize)
     put_reading(node, answer, out, at);
 }
 
+fn put_told(answer: board::Answer, ticks: &[i64; BRANCHES], out: &mut [u8; ROOM], at: &mut usize) {
+    match answer {
+        board::Answer::Currents => put_currents(ticks, out, at),
+        board::Answer::Refused(f) => put_refused(f, out, at),
+        _ => {}
+    }
+}
+
+fn read_currents(board: Board, transistor: i64, out: &mut [u8; ROOM], at: &mut usize)
+    requires { ⌜ Reached board ⌝ }
+{
+    let asked = board.read_currents(transistor);
+    let answer = asked.answer;
+    let ticks = asked.ticks;
+    put_told(answer, &ticks, out, at);
+}
+
 fn put_row(node: u32, answer: board::Answer, out: &mut [u8; ROOM], at: &mut usize) {
     match answer {
         board::Answer::Node(v, t) => put_text(sheet::sheet_line(node, v, t), out, at),
@@ -313,11 +332,12 @@ pub fn obey_apart(
 }
 
 // What a command asks of the board and does not change.
-fn show(board: Board, verb: Verb, node: i64, out: &mut [u8; ROOM], at: &mut usize)
+fn show(board: Board, verb: Verb, number: i64, out: &mut [u8; ROOM], at: &mut usize)
     requires { ⌜ Reached board ⌝ }
 {
     match verb {
-        Verb::Node => read_node(board, node, out, at),
+        Verb::Node => read_node(board, number, out, at),
+        Verb::Currents => read_currents(board, number, out, at),
         _ => put_sheet(board, out, at),
     }
 }

@@ -1,28 +1,29 @@
 -- A transistor's currents and what they do to the totals: its roles' voltages, and its branches.
 use mathlib.Core.Path.{_≡_, refl, ap, _∙_}
+use mathlib.Core.Bool.{false}
 use mathlib.Core.List.{List, [], _∷_, map}
 use Prim.Native.Nat.{ℕ, zero, suc, _≤_, _<_, zero-le}
-use lib.ListN.{getD}
+use lib.ListN.{getD, length}
 use lib.IntN.{ℤ, pos, natAbs, _+ℤ_}
 use Rattle.volts.specs.Volts.{givenBack, span, AllNear}
 use Rattle.card.specs.declared.WorkedCard.{WorkedCard}
 use Rattle.rows.specs.declared.Outcome.{Outcome}
 use Rattle.terms.specs.declared.Ready.{Ready}
-use Rattle.terms.specs.Rows.{rowsFor}
+use Rattle.terms.specs.Rows.{rowsFor, branches}
 use Rattle.rows.specs.Outcome.{tickLimit}
 use Rattle.polarity.specs.Polarity.{outcomeOf}
 use Rattle.polarity.proofs.Laws.{ticks-long, ticks-small}
 use Rattle.terms.specs.Ends.{fromRoles, toRoles}
 use Rattle.totals.specs.Gives.{nodesMost}
-use Rattle.totals.specs.Flow.{rolesAt, overAt, flow}
+use Rattle.totals.specs.Flow.{rolesAt, overAt, ticksAt, ticksGive, flow}
 use Rattle.totals.specs.inner.Sums.{More, Within, rolesGive}
 use Rattle.totals.specs.inner.Sizes.{flowMost}
 use Rattle.whole.specs.laws.Machine.{abs-neg}
 use Rattle.totals.proofs.Lists.{getD-map}
 use Rattle.totals.proofs.Roles.{roles-are-rows, roles-turned}
 use Rattle.totals.proofs.Amounts.{small-rows}
-use Rattle.flows.specs.Back.{backFlow}
-use Rattle.flows.specs.inner.Workable.{rolesOf, Volts}
+use Rattle.flows.specs.Back.{ticksBack}
+use Rattle.flows.specs.inner.Workable.{rolesOf, Volts, Works}
 
 -- ---- the voltages of the roles
 
@@ -49,46 +50,50 @@ module _ (volts : List ℕ) (v : Volts volts) where
 
 -- ---- what its branches do to the totals
 
-pub ticks-within : (c : WorkedCard) (v : List ℤ) → Within tickLimit (outcomeOf c v .ticks)
-ticks-within c v = record { within = ticks-small c v }
-
 module _ (c : WorkedCard) (nodes : List ℕ) (volts : List ℤ) where
-  pub over-told : {o : Outcome} → o ≡ outcomeOf c (rolesAt volts nodes) → o .over ≡ overAt c nodes volts
-  unfolding overAt
-  over-told e = rw e
+  pub outcome-works : {o : Outcome} → o ≡ outcomeOf c (rolesAt volts nodes) → Works c nodes volts o
+  unfolding overAt ticksAt
+  outcome-works e = record { over = rw e; ticks = rw e }
 
-  pub gives-flow : {l l′ : List ℤ} →
-      More nodesMost l l′ (rolesGive nodes fromRoles toRoles (outcomeOf c (rolesAt volts nodes) .ticks)) →
-      More nodesMost l l′ (flow c nodes volts)
-  unfolding flow
-  gives-flow {l} m =
+  pub ticks-within : Within tickLimit (ticksAt c nodes volts)
+  unfolding ticksAt
+  ticks-within = record { within = ticks-small c (rolesAt volts nodes) }
+
+  pub ticks-count : length (ticksAt c nodes volts) ≡ branches
+  unfolding ticksAt
+  ticks-count = ticks-long c (rolesAt volts nodes)
+
+module _ (nodes : List ℕ) (ticks : List ℤ) where
+  pub gives-ticks : length ticks ≡ branches → {l l′ : List ℤ} →
+      More nodesMost l l′ (rolesGive nodes fromRoles toRoles ticks) → More nodesMost l l′ (ticksGive nodes ticks)
+  unfolding ticksGive
+  gives-ticks long {l} m =
       record {
         long = m .long;
         at =
             λ n h. m .at n h
-            ∙ ap (λ (z : ℤ). getD l n (pos 0) +ℤ z)
-            (roles-are-rows (rowsFor (c .exsub)) nodes _ n (ticks-long c (rolesAt volts nodes)));
+            ∙ ap (λ (z : ℤ). getD l n (pos 0) +ℤ z) (roles-are-rows (rowsFor false) nodes ticks n long);
       }
 
-  pub takes-flow : {l l′ : List ℤ} →
-      More nodesMost l l′ (rolesGive nodes toRoles fromRoles (outcomeOf c (rolesAt volts nodes) .ticks)) →
-      More nodesMost l l′ (backFlow c nodes volts)
-  unfolding flow backFlow
-  takes-flow {l} m =
+  pub takes-ticks : length ticks ≡ branches → {l l′ : List ℤ} →
+      More nodesMost l l′ (rolesGive nodes toRoles fromRoles ticks) → More nodesMost l l′ (ticksBack nodes ticks)
+  unfolding ticksGive ticksBack
+  takes-ticks long {l} m =
       record {
         long = m .long;
         at =
             λ n h. m .at n h
-            ∙ ap (λ (z : ℤ). getD l n (pos 0) +ℤ z)
-            (roles-turned (rowsFor (c .exsub)) nodes _ n (ticks-long c (rolesAt volts nodes)));
+            ∙ ap (λ (z : ℤ). getD l n (pos 0) +ℤ z) (roles-turned (rowsFor false) nodes ticks n long);
       }
 
-  pub small-flow : (n : ℕ) → natAbs (flow c nodes volts n) ≤ flowMost
-  unfolding flow
-  small-flow n =
-      small-rows (rowsFor (c .exsub)) nodes (outcomeOf c (rolesAt volts nodes) .ticks) n tickLimit
-      (ticks-small c (rolesAt volts nodes))
+  pub ticks-small-give : Within tickLimit ticks → (n : ℕ) → natAbs (ticksGive nodes ticks n) ≤ flowMost
+  unfolding ticksGive
+  ticks-small-give w n = small-rows (rowsFor false) nodes ticks n tickLimit (w .within)
 
-  pub takes-small : (n : ℕ) → natAbs (backFlow c nodes volts n) ≤ flowMost
-  unfolding backFlow
-  takes-small n = rw (abs-neg (flow c nodes volts n)) (small-flow n)
+  pub takes-small : Within tickLimit ticks → (n : ℕ) → natAbs (ticksBack nodes ticks n) ≤ flowMost
+  unfolding ticksBack
+  takes-small w n = rw (abs-neg (ticksGive nodes ticks n)) (ticks-small-give w n)
+
+pub small-flow : (c : WorkedCard) (nodes : List ℕ) (volts : List ℤ) (n : ℕ) → natAbs (flow c nodes volts n) ≤ flowMost
+unfolding flow
+small-flow c nodes volts n = ticks-small-give nodes (ticksAt c nodes volts) (ticks-within c nodes volts) n

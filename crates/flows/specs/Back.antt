@@ -1,10 +1,10 @@
--- The flow of a transistor taken away again.
+-- Currents taken out of the totals again.
 use mathlib.Core.List.{List}
 use Prim.Native.Nat.{ℕ}
 use lib.IntN.{ℤ, negℤ}
-use Rattle.card.specs.declared.WorkedCard.{WorkedCard}
-use Rattle.totals.specs.Flow.{flow}
+use Rattle.totals.specs.Flow.{ticksGive}
 
--- what a transistor adds to node n, taken away
-unfoldable pub backFlow : WorkedCard → List ℕ → List ℤ → ℕ → ℤ
-backFlow c nodes volts n = negℤ (flow c nodes volts n)
+-- what branches of so many ticks give to node n, taken away
+unfoldable pub ticksBack : List ℕ → List ℤ → ℕ → ℤ
+unfolding ticksGive
+ticksBack nodes ticks n = negℤ (ticksGive nodes ticks n)

@@ -1,22 +1,21 @@
-// A transistor worked: its currents put into the totals of its nodes and taken out, and by what it overloads.
+// A transistor worked: its currents, and by what it overloads; and currents put into the totals of its nodes and taken out.
 ghost use mathlib.Core.Path.{_≡_};
 ghost use mathlib.Core.List.{map};
 ghost use Prim.Native.Nat.{_<_};
 ghost use lib.ListN.{length, getD};
 ghost use Rattle.volts.specs.Volts.{givenBack};
-ghost use Rattle.terms.specs.Rows.{roles};
+ghost use Rattle.terms.specs.Rows.{roles, branches};
 ghost use Rattle.rows.specs.Outcome.{isOver, drawnBy};
-ghost use Rattle.polarity.specs.Polarity.{outcomeOf};
 ghost use Rattle.totals.specs.Gives.{nodesMost};
-ghost use Rattle.totals.specs.Flow.{rolesAt, overAt, flow};
-ghost use Rattle.totals.specs.inner.Sums.{More, Room, Wired};
-ghost use Rattle.totals.specs.inner.Sizes.{roomMost};
-ghost use Rattle.flows.specs.Back.{backFlow};
-ghost use Rattle.flows.specs.inner.Workable.{rolesOf, deckOf, cardOf, Workable};
+ghost use Rattle.totals.specs.Flow.{ticksGive};
+ghost use Rattle.totals.specs.inner.Sums.{More, Wired, Givable};
+ghost use Rattle.flows.specs.Back.{ticksBack};
+ghost use Rattle.flows.specs.inner.Workable.{rolesOf, deckOf, cardOf, Workable, Works};
 use octave::Table;
 use polarity::Outcome;
 use polarity::Over;
 use refusal::Refusal;
+use terms::BRANCHES;
 use terms::ROLES;
 use totals::NODES;
 
@@ -43,7 +42,7 @@ fn role_volts(volts: &[u32; NODES], on: &[u8; ROLES]) -> [u32; ROLES]
 }
 
 // The currents of a transistor on the card at place s of the deck, whole: its ticks, and by what it overloads first.
-fn work(
+pub fn work(
     table: &Table,
     numbers: &[u32; deck::ALL_NUMBERS],
     powers: &[u16; deck::ALL_POWERS],
@@ -54,53 +53,27 @@ fn work(
     volts: &[u32; NODES],
 ) -> Outcome
     requires { ⌜ Workable (now table) (deckOf (now numbers) (now powers) (now ticks) (now switches)) s (now on) (now volts) ⌝ }
-    ensures { λ r. ⌜ r ≡ outcomeOf (cardOf (deckOf (now (numbers .entry)) (now (powers .entry)) (now (ticks .entry)) (now (switches .entry))) s) (rolesAt (map givenBack (now (volts .entry))) (now (on .entry))) ⌝ }
+    ensures { λ r. ⌜ Works (cardOf (deckOf (now (numbers .entry)) (now (powers .entry)) (now (ticks .entry)) (now (switches .entry))) s) (now (on .entry)) (map givenBack (now (volts .entry))) r ⌝ }
 {
     let v = role_volts(volts, on);
     let r = deck::ready_at(numbers, powers, ticks, switches, s);
     polarity::work_out(table, r, &v)
 }
 
-// Gives a transistor's currents to the totals, and tells by what it overloads.
-pub fn put_in(
-    l: &mut [i64; NODES],
-    table: &Table,
-    numbers: &[u32; deck::ALL_NUMBERS],
-    powers: &[u16; deck::ALL_POWERS],
-    ticks: &[u64; deck::ALL_TICKS],
-    switches: &[bool; deck::ALL_SWITCHES],
-    s: usize,
-    on: &[u8; ROLES],
-    volts: &[u32; NODES],
-) -> Over
-    requires { ⌜ Workable (now table) (deckOf (now numbers) (now powers) (now ticks) (now switches)) s (now on) (now volts) × Room nodesMost roomMost (now l) ⌝ }
-    ensures { λ r. ⌜ r ≡ overAt (cardOf (deckOf (now (numbers .entry)) (now (powers .entry)) (now (ticks .entry)) (now (switches .entry))) s) (now (on .entry)) (map givenBack (now (volts .entry))) ⌝ }
-    ensures { λ _. ⌜ More nodesMost (now (l .entry)) (now (l .exit)) (flow (cardOf (deckOf (now (numbers .entry)) (now (powers .entry)) (now (ticks .entry)) (now (switches .entry))) s) (now (on .entry)) (map givenBack (now (volts .entry)))) ⌝ }
+// Gives a transistor's currents to the totals of its nodes.
+pub fn put_in(l: &mut [i64; NODES], on: &[u8; ROLES], own: &[i64; BRANCHES])
+    requires { ⌜ Givable (now l) (now on) (now own) × (length (now own) ≡ branches) ⌝ }
+    ensures { λ _. ⌜ More nodesMost (now (l .entry)) (now (l .exit)) (ticksGive (now (on .entry)) (now (own .entry))) ⌝ }
 {
-    let o = work(table, numbers, powers, ticks, switches, s, on, volts);
-    let given = o.ticks;
-    totals::put(l, on, &given);
-    o.over
+    totals::put(l, on, own);
 }
 
 // Takes them out again.
-pub fn take_out(
-    l: &mut [i64; NODES],
-    table: &Table,
-    numbers: &[u32; deck::ALL_NUMBERS],
-    powers: &[u16; deck::ALL_POWERS],
-    ticks: &[u64; deck::ALL_TICKS],
-    switches: &[bool; deck::ALL_SWITCHES],
-    s: usize,
-    on: &[u8; ROLES],
-    volts: &[u32; NODES],
-)
-    requires { ⌜ Workable (now table) (deckOf (now numbers) (now powers) (now ticks) (now switches)) s (now on) (now volts) × Room nodesMost roomMost (now l) ⌝ }
-    ensures { λ _. ⌜ More nodesMost (now (l .entry)) (now (l .exit)) (backFlow (cardOf (deckOf (now (numbers .entry)) (now (powers .entry)) (now (ticks .entry)) (now (switches .entry))) s) (now (on .entry)) (map givenBack (now (volts .entry)))) ⌝ }
+pub fn take_out(l: &mut [i64; NODES], on: &[u8; ROLES], own: &[i64; BRANCHES])
+    requires { ⌜ Givable (now l) (now on) (now own) × (length (now own) ≡ branches) ⌝ }
+    ensures { λ _. ⌜ More nodesMost (now (l .entry)) (now (l .exit)) (ticksBack (now (on .entry)) (now (own .entry))) ⌝ }
 {
-    let o = work(table, numbers, powers, ticks, switches, s, on, volts);
-    let given = o.ticks;
-    totals::take(l, on, &given);
+    totals::take(l, on, own);
 }
 
 pub fn is_over(o: Over) -> bool

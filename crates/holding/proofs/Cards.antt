@@ -26,7 +26,7 @@ use Rattle.model.specs.declared.Answer.{Answer}
 use Rattle.model.specs.declared.Answer.the-variants.{Issue, Done, Refused}
 use Rattle.model.specs.Counts.{cardsMost}
 use Rattle.model.specs.Verdict.{withdrawVerdict}
-use Rattle.model.specs.Model.{cardsOf, transistorsOf, holding, refuse, loadedOf, mayLoad, withdrawnOf}
+use Rattle.model.specs.Model.{cardsOf, transistorsOf, holding, plain, refuse, loadedOf, mayLoad, withdrawnOf}
 use Rattle.holding.specs.declared.Loading.{Loading}
 use Rattle.holding.specs.declared.Loading.the-variants.{Go, Stop}
 use Rattle.holding.specs.inner.Lent.{CardArrays, LeavesCards, Holds, cardOf}
@@ -46,7 +46,7 @@ module _ (b : Board) where
 
   on-of : (n : ℕ) → anyOf (standsOn n) (transistorsOf b) ≡ anyOn n (b .issues) (b .cards)
   unfolding transistorsOf
-  on-of n = any-on-flat _ _ _ _ n
+  on-of n = any-on-flat _ _ _ _ _ n
 
 module _ {b : Board} {numbers powers ticks : List ℕ} {switches : List Bool} {names held : List ℕ}
     (l : CardArrays b numbers powers ticks switches names held) where
@@ -59,7 +59,7 @@ module _ {b : Board} {numbers powers ticks : List ℕ} {switches : List Bool} {n
   cards-hold : {i : ℕ} {c : Card} {numbers′ powers′ ticks′ : List ℕ} {switches′ : List Bool} {names′ held′ : List ℕ} →
       Holds i c numbers powers ticks switches names held numbers′ powers′ ticks′ switches′ names′ held′ →
       (next : ℕ) (answer : Answer) (a : Answered) →
-      record { board = holding b i c next; answer = answer } ≡ a →
+      plain (holding b i c next) answer ≡ a →
       LeavesCards a answer numbers′ powers′ ticks′ switches′ names′ held′ next
   cards-hold w next answer a e =
       rw (← e)

@@ -9,7 +9,7 @@ use Rattle.card.specs.declared.WorkedCard.{WorkedCard}
 use Rattle.model.specs.Board.{Board, Answered}
 use Rattle.model.specs.declared.Answer.{Answer}
 use Rattle.model.specs.Verdict.{nodeVerdict}
-use Rattle.model.specs.Model.{loaded, loadedOf, mayLoad, withdrawn, withdrawnOf, mayWithdraw, looked, lookedOf}
+use Rattle.model.specs.Model.{noTicks, plain, loaded, loadedOf, mayLoad, withdrawn, withdrawnOf, mayWithdraw, looked, lookedOf}
 use Rattle.model.specs.Model.{mayLookUp, showed, showedOf}
 use Rattle.holding.specs.inner.Lent.{CardArrays, LeavesCards}
 
@@ -42,6 +42,7 @@ withCards b numbers powers ticks switches names held next =
       cards = b .cards;
       seats = b .seats;
       nodes = b .nodes;
+      currents = b .currents;
     }
 
 -- ---- nothing else changes
@@ -65,13 +66,31 @@ withdraw-only b n = go (mayWithdraw b n)
     go (no f) = refl
     go (yes i) = refl
 
+-- ---- and neither call tells numbers beside its answer
+
+load-plain : (b : Board) (name bytes : List ℕ) → loadedOf b name bytes .ticks ≡ noTicks
+unfolding loadedOf
+load-plain b name bytes = go (mayLoad b name bytes)
+  where
+    go : (v : Verdict WorkedCard) → loaded b name v .ticks ≡ noTicks
+    go (no f) = refl
+    go (yes c) = refl
+
+withdraw-plain : (b : Board) (n : ℤ) → withdrawnOf b n .ticks ≡ noTicks
+unfolding withdrawnOf
+withdraw-plain b n = go (mayWithdraw b n)
+  where
+    go : (v : Verdict ℕ) → withdrawn b v .ticks ≡ noTicks
+    go (no f) = refl
+    go (yes i) = refl
+
 -- ---- so that what was left is the answer, whole
 
 cards-whole : (b : Board) {a : Answered} {answer : Answer} {numbers powers ticks : List ℕ} {switches : List Bool}
-    {names held : List ℕ} {next : ℕ} → OnlyCards b (a .board) →
+    {names held : List ℕ} {next : ℕ} → OnlyCards b (a .board) → a .ticks ≡ noTicks →
     LeavesCards a answer numbers powers ticks switches names held next →
-    record { board = withCards b numbers powers ticks switches names held next; answer = answer } ≡ a
-cards-whole b {a} only l =
+    plain (withCards b numbers powers ticks switches names held next) answer ≡ a
+cards-whole b {a} only none l =
     let c = l .cards-are in
     rw (
       c .numbers-are,
@@ -83,36 +102,36 @@ cards-whole b {a} only l =
       l .next-is,
       l .answer-is,
       ← only,
+      ← none,
     )
 
 pub loaded-whole : (b : Board) (name bytes : List ℕ) {answer : Answer} {numbers powers ticks : List ℕ}
     {switches : List Bool} {names held : List ℕ} {next : ℕ} →
     LeavesCards (loadedOf b name bytes) answer numbers powers ticks switches names held next →
-    record { board = withCards b numbers powers ticks switches names held next; answer = answer }
-    ≡ loadedOf b name bytes
-loaded-whole b name bytes l = cards-whole b (load-only b name bytes) l
+    plain (withCards b numbers powers ticks switches names held next) answer ≡ loadedOf b name bytes
+loaded-whole b name bytes l = cards-whole b (load-only b name bytes) (load-plain b name bytes) l
 
 pub withdrawn-whole : (b : Board) (n : ℤ) {answer : Answer} {numbers powers ticks : List ℕ} {switches : List Bool}
     {names held : List ℕ} → LeavesCards (withdrawnOf b n) answer numbers powers ticks switches names held (b .next) →
-    record { board = withCards b numbers powers ticks switches names held (b .next); answer = answer } ≡ withdrawnOf b n
-withdrawn-whole b n l = cards-whole b (withdraw-only b n) l
+    plain (withCards b numbers powers ticks switches names held (b .next)) answer ≡ withdrawnOf b n
+withdrawn-whole b n l = cards-whole b (withdraw-only b n) (withdraw-plain b n) l
 
 -- ---- looking up and reading change nothing
 
 pub looked-whole : (b : Board) (name : List ℕ) {answer : Answer} → answer ≡ lookedOf b name .answer →
-    record { board = b; answer = answer } ≡ lookedOf b name
+    plain b answer ≡ lookedOf b name
 unfolding lookedOf
 looked-whole b name {answer} e = go (mayLookUp b name) e
   where
-    go : (v : Verdict ℕ) → answer ≡ looked b v .answer → record { board = b; answer = answer } ≡ looked b v
+    go : (v : Verdict ℕ) → answer ≡ looked b v .answer → plain b answer ≡ looked b v
     go (no f) e = rw e
     go (yes n) e = rw e
 
 pub showed-whole : (b : Board) (n : ℤ) {answer : Answer} → answer ≡ showedOf b n .answer →
-    record { board = b; answer = answer } ≡ showedOf b n
+    plain b answer ≡ showedOf b n
 unfolding showedOf
 showed-whole b n {answer} e = go (nodeVerdict n) e
   where
-    go : (v : Verdict ℕ) → answer ≡ showed b v .answer → record { board = b; answer = answer } ≡ showed b v
+    go : (v : Verdict ℕ) → answer ≡ showed b v .answer → plain b answer ≡ showed b v
     go (no f) e = rw e
     go (yes k) e = rw e

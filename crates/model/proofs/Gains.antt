@@ -13,8 +13,10 @@ use lib.Seq.{ext-getD}
 use borrow.Author.Tests.{eqb-true, eqb-false, ne-eqb, eq-eqb}
 use Rattle.refusal.specs.Clash.{clash}
 use Rattle.volts.specs.Volts.{givenBack, keptAs}
+use Rattle.card.specs.declared.WorkedCard.{WorkedCard}
+use Rattle.polarity.specs.Polarity.{outcomeOf}
 use Rattle.totals.specs.Gives.{nodesMost}
-use Rattle.totals.specs.Flow.{rolesAt, flow, sumOver, sumBelow, withMore}
+use Rattle.totals.specs.Flow.{rolesAt, ticksAt, flow, sumOver, sumBelow, withMore}
 use Rattle.totals.specs.inner.Sums.{More}
 use Rattle.totals.specs.inner.Sizes.{flowMost}
 use Rattle.totals.proofs.Integers.{abs-add}
@@ -22,7 +24,7 @@ use Rattle.deck.specs.laws.Ups.{length-up}
 use Rattle.given.specs.Lists.{anyOf}
 use Rattle.places.specs.Gathered.{Card, Transistor, noTransistor, workedAt}
 use Rattle.places.specs.Finding.{names, standsAt}
-use Rattle.flows.specs.Back.{backFlow}
+use Rattle.flows.specs.Back.{ticksBack}
 use Rattle.settle.specs.Change.{changeBy}
 use Rattle.given.specs.Pairs.{Shift, shiftedIn}
 use Rattle.model.specs.Model.{shifted, touched}
@@ -85,6 +87,13 @@ roles-same (s ∷ rest) volts t h e =
     roles-same rest (set volts (s .node) (keptAs (s .volts))) t h (p .1)
     ∙ roles-one volts (s .node) (keptAs (s .volts)) (t .nodes) q
 
+-- so that it has the currents that it had
+pub ticks-same : (shifts : List Shift) (volts : List ℕ) (c : WorkedCard) (t : Transistor) → (t .issue ≡ 0 → ⊥) →
+    touched shifts t ≡ false →
+    ticksAt c (t .nodes) (map givenBack (shifted volts shifts)) ≡ ticksAt c (t .nodes) (map givenBack volts)
+unfolding ticksAt
+ticks-same shifts volts c t h e = ap (λ (v : List ℤ). outcomeOf c v .ticks) (roles-same shifts volts t h e)
+
 -- what is worked stands
 pub touched-stands : (shifts : List Shift) (t : Transistor) → touched shifts t ≡ true → t .issue ≡ 0 → ⊥
 unfolding anyOf
@@ -94,6 +103,10 @@ touched-stands (s ∷ rest) t e z =
     touched-stands rest t (rw none at e) z
 
 -- ---- what one place gives, before and after
+
+-- a transistor that stands holds the currents that it has
+abbrev pub HeldIs : List Card → List ℤ → Transistor → Type 0
+HeldIs cards volts t = (t .issue ≡ 0 → ⊥) → t .currents ≡ ticksAt (workedAt cards (t .seat)) (t .nodes) volts
 
 module _ (cards : List Card) (volts : List ℕ) (shifts : List Shift) (n : ℕ) where
   abbrev before : Transistor → ℤ
@@ -106,23 +119,22 @@ module _ (cards : List Card) (volts : List ℕ) (shifts : List Shift) (n : ℕ) 
   abbrev pub gainBy : Transistor → ℤ
   gainBy t =
       cond (touched shifts t)
-      (changeBy (workedAt cards (t .seat)) (t .nodes) (map givenBack volts) (map givenBack (shifted volts shifts)) n)
+      (changeBy (workedAt cards (t .seat)) (t .nodes) (t .currents) (map givenBack (shifted volts shifts)) n)
       (pos 0)
 
-  gain-is : (t : Transistor) → gainBy t ≡ negℤ (before t) +ℤ after t
-  unfolding placeGives changeBy backFlow flow
-  gain-is t = go (touched shifts t) refl (eqb (t .issue) 0) refl
+  gain-is : (t : Transistor) → HeldIs cards (map givenBack volts) t → gainBy t ≡ negℤ (before t) +ℤ after t
+  unfolding placeGives changeBy ticksBack flow
+  gain-is t held = go (touched shifts t) refl (eqb (t .issue) 0) refl
     where
       go : (w : Bool) → touched shifts t ≡ w → (u : Bool) → eqb (t .issue) 0 ≡ u →
           cond w
-          (changeBy (workedAt cards (t .seat)) (t .nodes) (map givenBack volts) (map givenBack (shifted volts shifts))
-          n)
+          (changeBy (workedAt cards (t .seat)) (t .nodes) (t .currents) (map givenBack (shifted volts shifts)) n)
           (pos 0) ≡ negℤ (before t) +ℤ after t
       go true p true q = absurd (touched-stands shifts t p (eqb-true _ _ q))
-      go true p false q = rw q
+      go true p false q = rw (q, held (eqb-false _ _ q))
       go false p true q = rw q
       go false p false q =
-          rw (q, roles-same shifts volts t (eqb-false _ _ q) p)
+          rw (q, ticks-same shifts volts (workedAt cards (t .seat)) t (eqb-false _ _ q) p)
           (sym (+ℤ-invl (flow (workedAt cards (t .seat)) (t .nodes) (map givenBack volts) n)))
 
 -- ---- sums half way
@@ -182,7 +194,8 @@ midway-small f g most p q (suc k) (a ∷ l) =
 -- ---- the totals
 
 module _ (cards : List Card) (ts : List Transistor) (volts : List ℕ) (shifts : List Shift) {totals : List ℤ}
-    (e : totals ≡ totalsOf cards ts (map givenBack volts)) where
+    (e : totals ≡ totalsOf cards ts (map givenBack volts))
+    (held : (i : ℕ) → HeldIs cards (map givenBack volts) (getD ts i noTransistor)) where
   -- what node n gains by the first k places
   abbrev pub gainOf : ℕ → ℕ → ℤ
   gainOf k n = sumBelow (λ (i : ℕ). gainBy cards volts shifts n (getD ts i noTransistor)) k
@@ -193,7 +206,7 @@ module _ (cards : List Card) (ts : List Transistor) (volts : List ℕ) (shifts :
       ap (λ (z : ℤ). z +ℤ gainOf k n)
       (ap (λ (l : List ℤ). getD l n (pos 0)) e ∙ totals-at cards ts (map givenBack volts) n h)
       ∙ midway-sum (after cards volts shifts n) (before cards volts shifts n) noTransistor _ ts
-      (λ i q. gain-is cards volts shifts n (getD ts i noTransistor)) k m
+      (λ i q. gain-is cards volts shifts n (getD ts i noTransistor) (held i)) k m
 
   pub totals-settled : (k : ℕ) → length ts ≡ k →
       withMore totals (gainOf k) ≡ totalsOf cards ts (map givenBack (shifted volts shifts))
@@ -240,11 +253,10 @@ module _ (cards : List Card) (ts : List Transistor) (volts : List ℤ) {totals :
       (λ n. rw (eq-eqb _ _ free, ne-eqb _ _ stands) (sym (+ℤ-idl (flow (workedAt cards (t .seat)) (t .nodes) volts n))))
 
   pub totals-taken : (getD ts i noTransistor .issue ≡ 0 → ⊥) → t .issue ≡ 0 →
-      withMore totals
-      (backFlow (workedAt cards (getD ts i noTransistor .seat)) (getD ts i noTransistor .nodes) volts)
+      HeldIs cards volts (getD ts i noTransistor) →
+      withMore totals (ticksBack (getD ts i noTransistor .nodes) (getD ts i noTransistor .currents))
       ≡ totalsOf cards (set ts i t) volts
-  unfolding placeGives backFlow
-  totals-taken stands free =
-      changed (backFlow (workedAt cards (getD ts i noTransistor .seat)) (getD ts i noTransistor .nodes) volts)
-      (λ n. rw (eq-eqb _ _ free, ne-eqb _ _ stands)
-      (sym (+ℤ-idr (backFlow (workedAt cards (getD ts i noTransistor .seat)) (getD ts i noTransistor .nodes) volts n))))
+  unfolding placeGives ticksBack flow
+  totals-taken stands free held =
+      changed (ticksBack (getD ts i noTransistor .nodes) (getD ts i noTransistor .currents))
+      (λ n. rw (eq-eqb _ _ free, ne-eqb _ _ stands, held stands) (sym (+ℤ-idr _)))

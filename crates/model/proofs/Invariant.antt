@@ -3,7 +3,7 @@
 use mathlib.Core.Path.{_≡_, refl, sym, ap, _∙_, subst}
 use mathlib.Core.Bool.{Bool, true, false, cond, _||_}
 use mathlib.Core.List.{List, [], _∷_, map}
-use Prim.Native.Nat.{ℕ, zero, suc, _+_, _*_, _≤_, _<_}
+use Prim.Native.Nat.{ℕ, zero, suc, _+_, _*_, _≤_, _<_, zero-le}
 use native.Mathlib.Omega.{arith}
 use lib.Dec.{eqb, leb, lit<, lit≤}
 use lib.ListN.{length, getD, set, replicate, length-set, length-replicate, length-map}
@@ -18,43 +18,47 @@ use Rattle.volts.specs.laws.Keeping.{near-replicate}
 use Rattle.card.specs.declared.WorkedCard.{WorkedCard}
 use Rattle.terms.specs.inner.Ready.{IsReady, readyOf}
 use Rattle.terms.proofs.Laws.{made-ready}
-use Rattle.terms.specs.Rows.{roles}
+use Rattle.terms.specs.Rows.{roles, branches}
 use Rattle.terms.specs.Looked.{lookedAt}
 use Rattle.rows.specs.Outcome.{isOver}
 use Rattle.polarity.specs.Polarity.{outcomeOf}
-use Rattle.totals.specs.Flow.{rolesAt, overAt, overloads, flow, sumOver}
+use Rattle.totals.specs.Flow.{rolesAt, overAt, overloads, ticksAt, flow, sumOver}
 use Rattle.given.specs.Lists.{anyOf}
 use Rattle.given.specs.Arguments.{none, some, issueOf, offNode, someNodeOff}
 use Rattle.given.specs.Pairs.{Shift}
 use Rattle.deck.specs.Layout.{numbersEach, powersEach, ticksEach, switchesEach}
 use Rattle.deck.specs.laws.Stretches.{length-written}
 use Rattle.deck.specs.laws.Ups.{up-all, up-same}
-use Rattle.places.specs.Gathered.{Card, Transistor, emptyCard, emptyTransistor, noCard, noTransistor, workedAt}
+use Rattle.places.specs.Gathered.{Card, Transistor, transistorIn, emptyCard, emptyTransistor, noCard, noTransistor, workedAt}
 use Rattle.places.specs.Finding.{first, foundAt, isCard, isTransistor, cardPlace, transistorPlace, freeCard}
 use Rattle.places.specs.Finding.{freeTransistor, standsOn}
 use Rattle.places.specs.laws.Change.{cards-set, cards-fresh, transistors-set, transistors-fresh}
+use Rattle.places.specs.laws.Gather.{length-transistors, transistor-there}
 use Rattle.settle.specs.Change.{changes}
 use Rattle.settle.specs.laws.Firsts.{first-quiet}
+use Rattle.settle.specs.laws.Renewals.{renewed-long, renewed-at}
+use Rattle.flows.proofs.Currents.{ticks-count}
 use Rattle.model.specs.Board.{Board}
 use Rattle.model.specs.Counts.{nodesMost, cardsMost, transistorsMost}
 use Rattle.model.specs.Verdict.{lookVerdict, nodeVerdict}
-use Rattle.model.specs.Desk.{Call, load, place, move, lift, withdraw, lookUp, node}
+use Rattle.model.specs.Desk.{Call, load, place, move, lift, withdraw, lookUp, node, currents}
 use Rattle.model.specs.Model.{cardsOf, transistorsOf, transistorAt, workedOn, Levels, voltsOf, shifted, touched}
-use Rattle.model.specs.Model.{firstOver, settled, leveled, holding, standing, freshBoard}
+use Rattle.model.specs.Model.{firstOver, settled, currentThen, heldThen, leveled, holding, standing, freshBoard}
 use Rattle.model.specs.Model.{loaded, loadedOf, newcomer}
 use Rattle.model.specs.Model.{placed, seenOn, placedOn, placedOf, moved, movedOf, lifted, liftedOf, withdrawn, withdrawnOf, looked}
 use Rattle.model.specs.Model.{lookedOf, showed, showedOf, mayLoad, mayPlace, mayMove, mayLift, mayWithdraw}
-use Rattle.model.specs.Model.{answered, boardAfter, Reached}
+use Rattle.model.specs.Model.{opened, openedOf, mayOpen, answered, boardAfter, Reached}
 use Rattle.model.specs.inner.Sums.{placeGives, totalsOf}
 use Rattle.model.specs.inner.Sized.{Sized}
 use Rattle.places.proofs.Scans.{none-of}
 use Rattle.model.proofs.Lists.{each-set, each-replicate, first-passes, found-is, stands, padded-long}
-use Rattle.model.proofs.NodeSums.{sum-same, totals-count}
+use Rattle.model.proofs.NodeSums.{sum-same, sum-alike, totals-count}
 use Rattle.model.proofs.Shifts.{shifted-long, shifted-near}
-use Rattle.model.proofs.Gains.{roles-same, totals-settled, totals-put, totals-taken}
+use Rattle.model.proofs.Gains.{roles-same, ticks-same, HeldIs, totals-settled, totals-put, totals-taken}
 use Rattle.model.proofs.Verdicts.{loads, places, moves, lifts, withdraws, on-node}
 
--- a transistor that stands: on a card that is there, on nodes of the board, and within its limits
+-- a transistor that stands: on a card that is there, on nodes of the board, and within its limits; what it holds are its
+-- currents
 pub record TransistorInvariant (cards : List Card) (volts : List ℤ) (t : Transistor) : Type 0 where
   pub place-there : t .seat < cardsMost
   pub card-there : getD cards (t .seat) noCard .issue ≡ t .card
@@ -62,6 +66,7 @@ pub record TransistorInvariant (cards : List Card) (volts : List ℤ) (t : Trans
   pub wired : (k : ℕ) → getD (t .nodes) k 0 < nodesMost
   pub long : length (t .nodes) ≡ roles
   pub quiet : overloads (workedAt cards (t .seat)) (t .nodes) volts ≡ false
+  pub current : t .currents ≡ ticksAt (workedAt cards (t .seat)) (t .nodes) volts
 
 -- what holds of the places, the kept voltages, the totals and the next number
 pub record Holds (cards : List Card) (ts : List Transistor) (volts : List ℕ) (totals : List ℤ) (next : ℕ) : Type 0 where
@@ -94,6 +99,7 @@ module _ (cards : List Card) (p : ℕ) (c : Card) (volts : List ℤ) where
         wired = s .wired;
         long = s .long;
         quiet = rw (worked-same (t .seat) h) (s .quiet);
+        current = rw (worked-same (t .seat) h) (s .current);
       }
 
   gives-same : (n : ℕ) (t : Transistor) → ((t .issue ≡ 0 → ⊥) → t .seat ≡ p → ⊥) →
@@ -154,6 +160,7 @@ sized-fresh =
       cards = length-replicate transistorsMost zero;
       seats = length-replicate transistorsMost zero;
       nodes = length-replicate (roles * transistorsMost) zero;
+      currents = length-replicate (branches * transistorsMost) (pos 0);
     }
 
 holds-fresh : Holds (replicate cardsMost emptyCard) (replicate transistorsMost emptyTransistor)
@@ -182,6 +189,7 @@ pub fresh-transistors : transistorsOf freshBoard ≡ replicate transistorsMost e
 unfolding transistorsOf freshBoard
 fresh-transistors =
     transistors-fresh transistorsMost transistorsMost transistorsMost (roles * transistorsMost)
+    (branches * transistorsMost)
 
 invariant-fresh : Invariant freshBoard
 unfolding freshBoard
@@ -204,6 +212,7 @@ module _ (b : Board) (z : Sized b) (p : ℕ) (c : Card) (next : ℕ) where
         cards = z .cards;
         seats = z .seats;
         nodes = z .nodes;
+        currents = z .currents;
       }
 
   pub cards-holding : p < cardsMost → length (c .name) ≡ nameLength →
@@ -232,17 +241,19 @@ module _ (b : Board) (z : Sized b) (p : ℕ) (t : Transistor) (levels : Levels) 
         cards = length-set (b .cards) p (t .card) ∙ z .cards;
         seats = length-set (b .seats) p (t .seat) ∙ z .seats;
         nodes = length-written 0 (b .nodes) (roles * p) (t .nodes) roles ∙ z .nodes;
+        currents = length-written (pos 0) (b .currents) (branches * p) (t .currents) branches ∙ z .currents;
       }
 
   pub cards-standing : cardsOf (standing b p t levels next) ≡ cardsOf b
   unfolding cardsOf
   cards-standing = refl
 
-  pub transistors-standing : p < transistorsMost → length (t .nodes) ≡ roles →
+  pub transistors-standing : p < transistorsMost → length (t .nodes) ≡ roles → length (t .currents) ≡ branches →
       transistorsOf (standing b p t levels next) ≡ set (transistorsOf b) p t
   unfolding transistorsOf
-  transistors-standing h l =
-      transistors-set (b .issues) (b .cards) (b .seats) (b .nodes) p t h l (z .issues) (z .cards) (z .seats) (z .nodes)
+  transistors-standing h l k =
+      transistors-set (b .issues) (b .cards) (b .seats) (b .nodes) (b .currents) p t h l k (z .issues) (z .cards)
+      (z .seats) (z .nodes) (z .currents)
 
 -- ---- the places of cards
 
@@ -414,6 +425,10 @@ unfolding lookedAt
 looked-long true nodes h = h
 looked-long false nodes h = refl
 
+-- whoever stands holds its currents
+pub held-is : {b : Board} → Invariant b → (i : ℕ) → HeldIs (cardsOf b) (voltsOf b) (transistorAt b i)
+held-is g i h = g .holds .transistor i h .current
+
 -- the next number is never 0
 pub begun : {b : Board} → Invariant b → b .next ≡ 0 → ⊥
 begun g e = let h = g .holds .begun in omega arith
@@ -444,7 +459,7 @@ invariant-placed-on {b} card nodes sized g = go _ refl
           holds =
               rw (
                 cards-standing b (g .sized) free t _ (b .next + 1),
-                transistors-standing b (g .sized) free t _ (b .next + 1) below long,
+                transistors-standing b (g .sized) free t _ (b .next + 1) below long (ticks-count _ _ _),
               )
               (holds-transistor (g .holds) free (b .next + 1) t (omega arith)
               (λ h. record {
@@ -454,6 +469,7 @@ invariant-placed-on {b} card nodes sized g = go _ refl
                 wired = on-nodes nodes (p .on);
                 long = long;
                 quiet = p .quiet;
+                current = refl;
               })
               (totals-put (cardsOf b) (transistorsOf b) (voltsOf b) (g .holds .balanced) free
               (rw (g .holds .transistors-long) below) t (free-empty g below) (begun g)));
@@ -479,26 +495,52 @@ invariant-lifted {b} n g = go _ refl
           holds =
               rw (
                 cards-standing b (g .sized) i emptyTransistor _ (b .next),
-                transistors-standing b (g .sized) i emptyTransistor _ (b .next) below (length-replicate roles zero),
+                transistors-standing b (g .sized) i emptyTransistor _ (b .next) below (length-replicate roles zero)
+                    (length-replicate branches (pos 0)),
               )
               (holds-transistor (g .holds) i (b .next) emptyTransistor (g .holds .begun) (λ h. absurd (h refl))
               (totals-taken (cardsOf b) (transistorsOf b) (voltsOf b) (g .holds .balanced) i (a .below) emptyTransistor
-              (λ z. a .given (sym (a .issue-is) ∙ z)) refl));
+              (λ z. a .given (sym (a .issue-is) ∙ z)) refl (held-is g i)));
         }
 
 -- ---- moving
 
+-- a transistor that holds other currents
+abbrev pub holds : Transistor → List ℤ → Transistor
+holds t held =
+    record { issue = t .issue; card = t .card; seat = t .seat; nodes = t .nodes; currents = held }
+
 module _ {b : Board} (g : Invariant b) (shifts : List Shift) where
-  pub cards-leveled : (levels : Levels) → cardsOf (leveled b levels) ≡ cardsOf b
+  -- the board after the shifts
+  abbrev pub then : Board
+  then = leveled b (settled b shifts) (heldThen b shifts)
+
+  pub cards-then : cardsOf then ≡ cardsOf b
   unfolding cardsOf
-  cards-leveled levels = refl
+  cards-then = refl
 
-  pub transistors-leveled : (levels : Levels) → transistorsOf (leveled b levels) ≡ transistorsOf b
+  pub transistors-count : length (transistorsOf then) ≡ transistorsMost
   unfolding transistorsOf
-  transistors-leveled levels = refl
+  transistors-count =
+      length-transistors (b .issues) (b .cards) (b .seats) (b .nodes) (heldThen b shifts)
 
-  sized-leveled : (levels : Levels) → length (levels .volts) ≡ nodesMost → Sized (leveled b levels)
-  sized-leveled levels v =
+  -- whoever is worked holds its new currents, and nothing else changes at a place
+  pub transistor-then : (j : ℕ) → j < transistorsMost →
+      transistorAt then j ≡ holds (transistorAt b j)
+      (cond (touched shifts (transistorAt b j)) (currentThen b shifts j) (transistorAt b j .currents))
+  unfolding transistorsOf
+  transistor-then j h =
+      let was = transistor-there (b .issues) (b .cards) (b .seats) (b .nodes) (b .currents) j h in
+      let new =
+      renewed-at (λ (i : ℕ). touched shifts (transistorAt b i)) (currentThen b shifts) (b .currents) transistorsMost
+      (g .sized .currents) (λ i. ticks-count _ _ _) transistorsMost 0 j refl zero-le h in
+      transistor-there (b .issues) (b .cards) (b .seats) (b .nodes) (heldThen b shifts) j h
+      ∙ ap (holds (transistorIn (b .issues) (b .cards) (b .seats) (b .nodes) (b .currents) j)) new
+      ∙ ap (λ (t : Transistor). holds t (cond (touched shifts (transistorAt b j)) (currentThen b shifts j) (t .currents)))
+      (sym was)
+
+  sized-then : length (shifted (b .volts) shifts) ≡ nodesMost → Sized then
+  sized-then v =
       let z = g .sized in
       record {
         numbers = z .numbers;
@@ -512,6 +554,9 @@ module _ {b : Board} (g : Invariant b) (shifts : List Shift) where
         cards = z .cards;
         seats = z .seats;
         nodes = z .nodes;
+        currents =
+            renewed-long (λ (i : ℕ). touched shifts (transistorAt b i)) (currentThen b shifts) (b .currents)
+            transistorsMost 0 ∙ z .currents;
       }
 
   -- who names no node that moves is within its limits as before
@@ -542,34 +587,68 @@ module _ {b : Board} (g : Invariant b) (shifts : List Shift) where
           (stands (λ (u : Transistor). u .issue) noTransistor (transistorsOf b) j refl h)) e
       go false e = aside j h e
 
+  -- what it holds then is what it has then, whether it was worked or not
+  held-then : (j : ℕ) → (transistorAt b j .issue ≡ 0 → ⊥) →
+      cond (touched shifts (transistorAt b j)) (currentThen b shifts j) (transistorAt b j .currents) ≡ currentThen b
+      shifts j
+  held-then j h = go (touched shifts (transistorAt b j)) refl
+    where
+      go : (w : Bool) → touched shifts (transistorAt b j) ≡ w →
+          cond w (currentThen b shifts j) (transistorAt b j .currents) ≡ currentThen b shifts j
+      go true e = refl
+      go false e =
+          g .holds .transistor j h .current
+          ∙ sym (ticks-same shifts (b .volts) (workedOn b j) (transistorAt b j) h e)
+
+  -- what is said of a place without what it holds is said of it then
+  stood : (j : ℕ) → (transistorAt then j .issue ≡ 0 → ⊥) → (j < transistorsMost) × (transistorAt b j .issue ≡ 0 → ⊥)
+  stood j h =
+      let below =
+      subst (λ (k : ℕ). j < k) transistors-count
+      (stands (λ (u : Transistor). u .issue) noTransistor (transistorsOf then) j refl h) in
+      (below, λ z. h (ap (λ (t : Transistor). t .issue) (transistor-then j below) ∙ z))
+
+  pub totals-then : (volts : List ℤ) →
+      totalsOf (cardsOf b) (transistorsOf then) volts ≡ totalsOf (cardsOf b) (transistorsOf b) volts
+  unfolding totalsOf placeGives
+  totals-then volts =
+      up-same (λ (n : ℕ). sumOver (placeGives (cardsOf b) volts n) (transistorsOf then))
+      (λ (n : ℕ). sumOver (placeGives (cardsOf b) volts n) (transistorsOf b)) nodesMost 0
+      (λ n k. sum-alike (placeGives (cardsOf b) volts (0 + n)) noTransistor (transistorsOf then) (transistorsOf b)
+      (transistors-count ∙ sym (g .holds .transistors-long))
+      (λ i q. ap (placeGives (cardsOf b) volts (0 + n)) (transistor-then i (rw transistors-count at q))))
+
   pub invariant-settled : isOver (firstOver b shifts .over) ≡ false → length (shifted (b .volts) shifts) ≡ nodesMost →
-      AllNear (shifted (b .volts) shifts) → Invariant (leveled b (settled b shifts))
-  unfolding changes
+      AllNear (shifted (b .volts) shifts) → Invariant then
+  unfolding changes cardsOf
   invariant-settled quiet long near =
       record {
-        sized = sized-leveled (settled b shifts) long;
+        sized = sized-then long;
         holds =
-            rw (cards-leveled (settled b shifts), transistors-leveled (settled b shifts))
-            (record {
+            record {
               cards-long = g .holds .cards-long;
-              transistors-long = g .holds .transistors-long;
+              transistors-long = transistors-count;
               near = near;
               begun = g .holds .begun;
               transistor =
-                  λ j h. let s = g .holds .transistor j h in
-                  record {
+                  λ j h. let p = stood j h in
+                  let s = g .holds .transistor j (p .1) in
+                  rw (transistor-then j (p .0))
+                  (record {
                     place-there = s .place-there;
                     card-there = s .card-there;
                     card-given = s .card-given;
                     wired = s .wired;
                     long = s .long;
-                    quiet = still quiet j h;
-                  };
+                    quiet = still quiet j (p .1);
+                    current = held-then j (p .1);
+                  });
               ready = g .holds .ready;
               balanced =
-                  totals-settled (cardsOf b) (transistorsOf b) (b .volts) shifts (g .holds .balanced) transistorsMost
-                  (g .holds .transistors-long);
-            });
+                  totals-settled (cardsOf b) (transistorsOf b) (b .volts) shifts (g .holds .balanced) (held-is g)
+                  transistorsMost (g .holds .transistors-long)
+                  ∙ sym (totals-then (map givenBack (shifted (b .volts) shifts)));
+            };
       }
 
 invariant-moved : {b : Board} (pairs : List ℤ) → Invariant b → Invariant (movedOf b pairs .board)
@@ -601,6 +680,14 @@ invariant-showed {b} n g = go (nodeVerdict n)
     go (no f) = g
     go (yes k) = g
 
+invariant-opened : {b : Board} (n : ℤ) → Invariant b → Invariant (openedOf b n .board)
+unfolding openedOf
+invariant-opened {b} n g = go (mayOpen b n)
+  where
+    go : (w : Verdict ℕ) → Invariant (opened b w .board)
+    go (no f) = g
+    go (yes i) = g
+
 invariant-answered : {b : Board} (c : Call) → Invariant b → Invariant (answered b c .board)
 unfolding answered
 invariant-answered (load name bytes) g = invariant-loaded name bytes g
@@ -610,6 +697,7 @@ invariant-answered (lift n) g = invariant-lifted n g
 invariant-answered (withdraw n) g = invariant-withdrawn n g
 invariant-answered (lookUp name) g = invariant-looked name g
 invariant-answered (node n) g = invariant-showed n g
+invariant-answered (currents n) g = invariant-opened n g
 
 pub invariant-after : (calls : List Call) → Invariant (boardAfter calls)
 unfolding boardAfter

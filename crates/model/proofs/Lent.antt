@@ -7,13 +7,14 @@ use native.Mathlib.Omega.{arith}
 use lib.ListN.{length, getD}
 use lib.IntN.{ℤ, pos, natAbs, _+ℤ_}
 use Rattle.volts.specs.Volts.{givenBack, AllNear}
+use Rattle.scaling.specs.Scaled.{tickLimit}
 use Rattle.card.specs.declared.WorkedCard.{WorkedCard}
 use Rattle.terms.specs.declared.Ready.{Ready}
 use Rattle.rows.specs.declared.Over.{Over}
 use Rattle.terms.specs.inner.Ready.{IsReady}
 use Rattle.terms.specs.Rows.{roles}
 use Rattle.totals.specs.Flow.{overAt, sumBelow}
-use Rattle.totals.specs.inner.Sums.{Room}
+use Rattle.totals.specs.inner.Sums.{Within, Room}
 use Rattle.totals.specs.inner.Sizes.{roomMost}
 use Rattle.totals.proofs.Amounts.{room-less}
 use Rattle.deck.specs.Layout.{readyAt}
@@ -22,13 +23,14 @@ use Rattle.places.specs.laws.Gather.{card-there, transistor-there}
 use Rattle.settle.specs.declared.First.{First}
 use Rattle.settle.specs.Change.{changes, changeBy}
 use Rattle.settle.specs.First.{earlier, firstBelow}
+use Rattle.flows.proofs.Currents.{ticks-within}
 use Rattle.flows.specs.inner.Workable.{Deck, deckOf, cardOf, Able, Volts}
-use Rattle.settle.specs.inner.Working.{totalMost, cardAt, nodesAt}
+use Rattle.settle.specs.inner.Working.{totalMost, cardAt, nodesAt, heldAt}
 use Rattle.model.specs.Board.{Board}
 use Rattle.model.specs.Counts.{nodesMost, cardsMost, transistorsMost}
 use Rattle.model.specs.Model.{cardsOf, transistorsOf, transistorAt, workedOn, voltsOf}
 use Rattle.model.proofs.NodeSums.{totals-room}
-use Rattle.model.proofs.Invariant.{Invariant}
+use Rattle.model.proofs.Invariant.{Invariant, held-is}
 
 abbrev pub deckIn : Board → Deck
 deckIn b = deckOf (b .numbers) (b .powers) (b .ticks) (b .switches)
@@ -48,9 +50,9 @@ module _ (b : Board) where
       h)
 
   pub stands-there : (i : ℕ) → i < transistorsMost →
-      transistorAt b i ≡ transistorIn (b .issues) (b .cards) (b .seats) (b .nodes) i
+      transistorAt b i ≡ transistorIn (b .issues) (b .cards) (b .seats) (b .nodes) (b .currents) i
   unfolding transistorsOf
-  stands-there i h = transistor-there (b .issues) (b .cards) (b .seats) (b .nodes) i h
+  stands-there i h = transistor-there (b .issues) (b .cards) (b .seats) (b .nodes) (b .currents) i h
 
   module _ (g : Invariant b) where
     pub volts-kept : Volts (b .volts)
@@ -91,3 +93,11 @@ module _ (b : Board) where
 
   pub nodes-there : (i : ℕ) → i < transistorsMost → nodesAt (b .nodes) i ≡ transistorAt b i .nodes
   nodes-there i h = sym (ap (λ (t : Transistor). t .nodes) (stands-there i h))
+
+  pub held-there : (i : ℕ) → i < transistorsMost → heldAt (b .currents) i ≡ transistorAt b i .currents
+  held-there i h = sym (ap (λ (t : Transistor). t .currents) (stands-there i h))
+
+  -- what is held by whoever stands is small
+  pub held-small : Invariant b → (i : ℕ) → (transistorAt b i .issue ≡ 0 → ⊥) →
+      Within tickLimit (transistorAt b i .currents)
+  held-small g i stands = rw (held-is g i stands) (ticks-within _ _ _)

@@ -12,14 +12,9 @@ use lib.ListN.{length, getD, List·getD-eq-default}
 use lib.Seq.{ext-getD}
 use lib.IntN.{ℤ, pos, natAbs}
 use Rattle.whole.specs.laws.Biased.{below-or-not}
-use Rattle.card.specs.declared.WorkedCard.{WorkedCard}
-use Rattle.terms.specs.Rows.{rowsFor}
 use Rattle.rows.specs.inner.FromTerms.{listUp}
-use Rattle.rows.specs.Outcome.{tickLimit}
-use Rattle.polarity.specs.Polarity.{outcomeOf}
-use Rattle.polarity.proofs.Laws.{ticks-small}
 use Rattle.model.specs.Counts.{nodesMost, transistorsMost}
-use Rattle.totals.specs.Flow.{rolesAt, flow, sumOver}
+use Rattle.totals.specs.Flow.{flow, sumOver}
 use Rattle.places.specs.Gathered.{Card, Transistor, workedAt}
 use Rattle.settle.specs.inner.Working.{totalMost}
 use Rattle.model.specs.inner.Sums.{placeGives, totalsOf}
@@ -27,7 +22,7 @@ use Rattle.totals.specs.inner.Sums.{Room}
 use Rattle.totals.specs.inner.Sizes.{flowMost}
 use Rattle.deck.specs.laws.Ups.{length-up, getD-up}
 use Rattle.totals.proofs.Integers.{abs-add}
-use Rattle.totals.proofs.Amounts.{small-rows}
+use Rattle.flows.proofs.Currents.{small-flow}
 
 -- ---- sums and tables
 
@@ -37,17 +32,21 @@ unfolding sumOver
 sum-same f g d [] h = refl
 sum-same f g d (a ∷ rest) h = rw (h 0 (omega arith), sum-same f g d rest (λ i k. h (suc i) (omega arith)))
 
+-- and over another list of as many, of which f says the same place by place
+pub sum-alike : {A : Type 0} (f : A → ℤ) (d : A) (l m : List A) → length l ≡ length m →
+    ((i : ℕ) → i < length l → f (getD l i d) ≡ f (getD m i d)) → sumOver f l ≡ sumOver f m
+unfolding sumOver
+sum-alike f d [] [] e h = refl
+sum-alike f d [] (b ∷ m) e h = absurd (omega arith)
+sum-alike f d (a ∷ l) [] e h = absurd (omega arith)
+sum-alike f d (a ∷ l) (b ∷ m) e h =
+    rw (h 0 (omega arith), sum-alike f d l m (omega arith) (λ i k. h (suc i) (omega arith)))
+
 -- what stands at a place of a list counted up from 0
 pub up-at : {A : Type 0} (f : ℕ → A) (n i : ℕ) (d : A) → i < n → getD (listUp f n 0) i d ≡ f i
 up-at f n i d h = getD-up f n 0 i d h ∙ ap f (zero-add i)
 
 -- ---- sizes
-
-pub small-flow : (c : WorkedCard) (nodes : List ℕ) (volts : List ℤ) (n : ℕ) → natAbs (flow c nodes volts n) ≤ flowMost
-unfolding flow
-small-flow c nodes volts n =
-    small-rows (rowsFor (c .exsub)) nodes (outcomeOf c (rolesAt volts nodes) .ticks) n tickLimit
-    (ticks-small c (rolesAt volts nodes))
 
 pub small-place : (cards : List Card) (volts : List ℤ) (n : ℕ) (t : Transistor) →
     natAbs (placeGives cards volts n t) ≤ flowMost

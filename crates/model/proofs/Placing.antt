@@ -6,7 +6,7 @@ use Prim.Native.Nat.{ℕ, _+_, _*_, _≤_, _<_}
 use native.Mathlib.Omega.{arith}
 use lib.Dec.{eqb, leb}
 use lib.ListN.{length, getD, set, replicate, length-map}
-use lib.IntN.{ℤ, natAbs}
+use lib.IntN.{ℤ, pos, natAbs}
 use borrow.Author.Tests.{leb-false, ltb-false}
 use Rattle.refusal.specs.declared.Refusal.{Refusal}
 use Rattle.refusal.specs.declared.Refusal.the-variants.{Unknown}
@@ -14,22 +14,22 @@ use Rattle.refusal.specs.Order.{Verdict, yes}
 use Rattle.card.specs.declared.WorkedCard.{WorkedCard}
 use Rattle.volts.specs.Volts.{givenBack}
 use Rattle.octave.specs.Table.{entries}
-use Rattle.rows.specs.declared.Over.{Over}
+use Rattle.rows.specs.declared.Outcome.{Outcome}
 use Rattle.rows.specs.declared.Over.the-variants.{Within}
 use Rattle.terms.specs.declared.Ready.{Ready}
 use Rattle.rows.specs.Outcome.{isOver, drawnBy}
-use Rattle.terms.specs.Rows.{roles}
-use Rattle.totals.specs.Flow.{overAt, flow}
-use Rattle.totals.specs.inner.Sums.{More, Room}
-use Rattle.totals.specs.inner.Sizes.{roomMost}
+use Rattle.terms.specs.Rows.{roles, branches}
+use Rattle.terms.specs.Looked.{lookedAt}
+use Rattle.totals.specs.Flow.{overAt, ticksAt, ticksGive, flow}
+use Rattle.totals.specs.inner.Sums.{More, Givable}
 use Rattle.given.specs.Arguments.{Found, none, some, issueOf, issuesMost, usedUp, Ties, tiesOf}
 use Rattle.given.specs.Arguments.{wideBy}
-use Rattle.terms.specs.Looked.{lookedAt}
 use Rattle.given.specs.inner.Nodes.{nodeOf}
 use Rattle.deck.specs.Stretch.{written}
+use Rattle.deck.specs.laws.Stretches.{length-stretch}
 use Rattle.placing.specs.declared.Way.{Way}
 use Rattle.placing.specs.declared.Way.the-variants.{Go, Stop}
-use Rattle.places.specs.Gathered.{Transistor, emptyTransistor, noCard, workedAt}
+use Rattle.places.specs.Gathered.{workedAt}
 use Rattle.places.specs.Finding.{cardPlace, transistorPlace, freeTransistor}
 use Rattle.places.specs.inner.Flat.{firstAt, freePlace, numberPlace, tiesAt, wideAt}
 use Rattle.places.specs.inner.Parts.{placeOr}
@@ -37,26 +37,27 @@ use Rattle.placing.specs.inner.Placing.{placing, wayOf}
 use Rattle.places.specs.laws.Gather.{card-place, ties-flat, wide-flat, first-transistor, transistor-place}
 use Rattle.places.specs.laws.Founds.{not-there}
 use Rattle.placing.specs.laws.Ways.{stopped, went}
-use Rattle.flows.specs.Back.{backFlow}
-use Rattle.flows.specs.inner.Workable.{deckOf, Workable, cardOf}
-use Rattle.settle.specs.inner.Working.{nodesAt}
+use Rattle.flows.specs.Back.{ticksBack}
+use Rattle.flows.specs.inner.Workable.{deckOf, Workable, Works, cardOf}
+use Rattle.flows.proofs.Currents.{ticks-within, ticks-count}
+use Rattle.settle.specs.inner.Working.{nodesAt, heldAt}
 use Rattle.model.specs.Board.{Board}
 use Rattle.model.specs.declared.Answer.the-variants.{Issue, Done, Refused}
 use Rattle.model.specs.Board.{Answered}
 use Rattle.model.specs.Counts.{nodesMost, cardsMost, transistorsMost}
 use Rattle.model.specs.Verdict.{liftVerdict}
-use Rattle.model.specs.Model.{cardsOf, transistorsOf, transistorAt, workedOn, voltsOf, refuse, seenOn, placedOn}
-use Rattle.model.specs.Model.{mayPlace, liftedOf, Reached}
-use Rattle.model.specs.inner.Lent.{Lends, LendsPlaces, LeavesPlaces}
+use Rattle.model.specs.Model.{cardsOf, transistorsOf, transistorAt, voltsOf, refuse, seenOn, placedOn, mayPlace}
+use Rattle.model.specs.Model.{liftedOf, Reached}
+use Rattle.model.specs.inner.Lent.{LendsPlaces, LendsStanding, LeavesPlaces}
 use Rattle.model.proofs.Verdicts.{Places, places}
 use Rattle.model.proofs.PlacingTests.{lastly, on-same, then-lastly}
 use Rattle.model.proofs.Gains.{more-is}
 use Rattle.model.proofs.Invariant.{Invariant, invariant, AtCard, at-card, AtTransistor, at-transistor, on-nodes}
-use Rattle.model.proofs.Lent.{deckIn, ready-there, issue-there, stands-there, nodes-there, worked-there}
-use Rattle.model.proofs.Lent.{card-able, able-at, volts-kept, room-now}
+use Rattle.model.proofs.Lent.{deckIn, ready-there, issue-there, nodes-there, held-there, held-small}
+use Rattle.model.proofs.Lent.{card-able, volts-kept, room-now}
 
 places-stay : {b : Board} {f : Refusal} (a : Answered) → refuse b f ≡ a →
-    LeavesPlaces a (Refused f) (b .issues) (b .cards) (b .seats) (b .nodes) (b .totals) (b .next)
+    LeavesPlaces a (Refused f) (b .issues) (b .cards) (b .seats) (b .nodes) (b .totals) (b .currents) (b .next)
 places-stay a e =
     rw (← e)
     (record {
@@ -66,6 +67,7 @@ places-stay a e =
       seats-are = refl;
       nodes-are = refl;
       totals-are = refl;
+      currents-are = refl;
       next-is = refl;
     })
 
@@ -107,7 +109,7 @@ module _ (b : Board) (k : Reached b) (card : ℤ) (nodes : List ℤ) (long : len
 
   same-free : freeTransistor (transistorsOf b) ≡ freePlace (b .issues)
   unfolding transistorsOf
-  same-free = first-transistor (b .issues) (b .cards) (b .seats) (b .nodes) 0
+  same-free = first-transistor (b .issues) (b .cards) (b .seats) (b .nodes) (b .currents) 0
 
   verdict-is : w ≡ wayOf (freeTransistor (transistorsOf b)) verdict
   verdict-is = way-is ∙ rw (same-place, same-joins, same-free, on-are)
@@ -118,7 +120,7 @@ module _ (b : Board) (k : Reached b) (card : ℤ) (nodes : List ℤ) (long : len
 
   pub place-stops : (f : Refusal) → w ≡ Stop f →
       LeavesPlaces (placedOn b card nodes) (Refused f) (b .issues) (b .cards) (b .seats) (b .nodes) (b .totals)
-      (b .next)
+      (b .currents) (b .next)
   place-stops f e =
       places-stay {b = b} (placedOn b card nodes)
       (rw (may-is, stopped (freeTransistor (transistorsOf b)) verdict (sym verdict-is ∙ e)))
@@ -148,39 +150,55 @@ module _ (b : Board) (k : Reached b) (card : ℤ) (nodes : List ℤ) (long : len
     on-is : on ≡ map natAbs nodes
     on-is = on-are ∙ on-same nodes (passed .on)
 
-    pub place-works : (table : List ℕ) → table ≡ entries →
-        Workable table (deckIn b) i on (b .volts) × Room nodesMost roomMost (b .totals)
-    place-works table h = (
-      record {
-        table-is = h;
-        able =
-            card-able b g i on place-there (λ z. at-place .given (sym (at-place .issue-is) ∙ z))
-            (λ j. rw on-is (on-nodes nodes (passed .on) j)) (ap length on-are ∙ length-map nodes nodeOf ∙ long);
-        volts-are = volts-kept b g;
-      },
-      room-now b g,
-    )
+    on-long : length on ≡ roles
+    on-long = ap length on-are ∙ length-map nodes nodeOf ∙ long
+
+    on-wired : (j : ℕ) → getD on j 0 < nodesMost
+    on-wired j = rw on-is (on-nodes nodes (passed .on) j)
+
+    pub place-works : (table : List ℕ) → table ≡ entries → Workable table (deckIn b) i on (b .volts)
+    place-works table h =
+        record {
+          table-is = h;
+          able =
+              card-able b g i on place-there (λ z. at-place .given (sym (at-place .issue-is) ∙ z)) on-wired on-long;
+          volts-are = volts-kept b g;
+        }
 
     same-card : cardOf (deckIn b) i ≡ workedAt (cardsOf b) i
     same-card = sym (ap (λ (r : Ready). r .card) (ready-there b i place-there))
 
-    module _ {over : Over} (oe : over ≡ overAt (cardOf (deckIn b) i) on (voltsOf b)) where
-      over-is : over ≡ overAt (workedAt (cardsOf b) i) (map natAbs nodes) (voltsOf b)
-      over-is = rw (oe, same-card, on-is)
+    module _ {o : Outcome} (works : Works (cardOf (deckIn b) i) on (voltsOf b) o) where
+      over-is : o .over ≡ overAt (workedAt (cardsOf b) i) (map natAbs nodes) (voltsOf b)
+      over-is = works .over ∙ rw (same-card, on-is)
 
-      pub place-over : isOver over ≡ true →
-          LeavesPlaces (placedOn b card nodes) (Refused (drawnBy (b .next) over)) (b .issues) (b .cards) (b .seats)
-          (b .nodes) (b .totals) (b .next)
-      place-over o = places-stay {b = b} (placedOn b card nodes) (rw (may-is, found .0, ← over-is, o))
+      ticks-are : o .ticks ≡ ticksAt (workedAt (cardsOf b) i) (map natAbs nodes) (voltsOf b)
+      ticks-are = works .ticks ∙ rw (same-card, on-is)
 
-      pub places-it : isOver over ≡ false → {l : List ℤ} →
-          More nodesMost (b .totals) l (flow (cardOf (deckIn b) i) on (voltsOf b)) →
+      pub place-gives : Givable (b .totals) on (o .ticks) × (length (o .ticks) ≡ branches)
+      place-gives = (
+        record {
+          wired = record { wired = on-wired };
+          room = room-now b g;
+          within = rw ticks-are (ticks-within _ _ _);
+        },
+        rw ticks-are (ticks-count _ _ _),
+      )
+
+      pub place-over : isOver (o .over) ≡ true →
+          LeavesPlaces (placedOn b card nodes) (Refused (drawnBy (b .next) (o .over))) (b .issues) (b .cards) (b .seats)
+          (b .nodes) (b .totals) (b .currents) (b .next)
+      place-over h = places-stay {b = b} (placedOn b card nodes) (rw (may-is, found .0, ← over-is, h))
+
+      pub places-it : isOver (o .over) ≡ false → {l : List ℤ} →
+          More nodesMost (b .totals) l (ticksGive on (o .ticks)) →
           LeavesPlaces (placedOn b card nodes) (Issue (b .next)) (set (b .issues) free (b .next))
           (set (b .cards) free (getD (b .held) i 0)) (set (b .seats) free i) (written 0 (b .nodes) (roles * free) on
           roles) l
-          (b .next + 1)
-      places-it o {l} more =
-          rw (may-is, found .0, ← over-is, o)
+          (written (pos 0) (b .currents) (branches * free) (o .ticks) branches) (b .next + 1)
+      unfolding flow
+      places-it h {l} more =
+          rw (may-is, found .0, ← over-is, h)
           (record {
             answer-is = refl;
             issues-are = ap (λ (j : ℕ). set (b .issues) j (b .next)) (found .1);
@@ -194,7 +212,12 @@ module _ (b : Board) (k : Reached b) (card : ℤ) (nodes : List ℤ) (long : len
                 ∙ ap (λ (m : List ℕ). written 0 (b .nodes) (roles * freeTransistor (transistorsOf b)) m roles) on-is;
             totals-are =
                 more-is (flow (workedAt (cardsOf b) i) (map natAbs nodes) (voltsOf b)) more
-                (λ n h. rw (same-card, on-is));
+                (λ n q. rw (ticks-are, on-is));
+            currents-are =
+                ap (λ (j : ℕ). written (pos 0) (b .currents) (branches * j) (o .ticks) branches) (found .1)
+                ∙ ap
+                (λ (x : List ℤ). written (pos 0) (b .currents) (branches * freeTransistor (transistorsOf b)) x branches)
+                ticks-are;
             next-is = refl;
           })
 
@@ -205,10 +228,11 @@ module _ (b : Board) (k : Reached b) (z : ℤ) where
       transistorPlace (issueOf z) (transistorsOf b) ≡ numberPlace transistorsMost (issueOf z) (b .issues)
   unfolding transistorsOf
   same-transistor =
-      transistor-place (b .issues) (b .cards) (b .seats) (b .nodes) (issueOf z)
+      transistor-place (b .issues) (b .cards) (b .seats) (b .nodes) (b .currents) (issueOf z)
 
   pub lift-unknown : numberPlace transistorsMost (issueOf z) (b .issues) ≡ none →
-      LeavesPlaces (liftedOf b z) (Refused Unknown) (b .issues) (b .cards) (b .seats) (b .nodes) (b .totals) (b .next)
+      LeavesPlaces (liftedOf b z) (Refused Unknown) (b .issues) (b .cards) (b .seats) (b .nodes) (b .totals)
+      (b .currents) (b .next)
   unfolding liftedOf liftVerdict
   lift-unknown e = places-stay {b = b} (liftedOf b z) (rw (same-transistor, e))
 
@@ -223,43 +247,42 @@ module _ (b : Board) (k : Reached b) (z : ℤ) where
     leaver-stands : transistorAt b i .issue ≡ 0 → ⊥
     leaver-stands q = at-there .given (sym (at-there .issue-is) ∙ q)
 
-    same-seat : getD (b .seats) i 0 ≡ transistorAt b i .seat
-    same-seat = sym (ap (λ (t : Transistor). t .seat) (stands-there b i lift-there))
+    module _ {on : List ℕ} (o : on ≡ nodesAt (b .nodes) i) {own : List ℤ} (p : own ≡ heldAt (b .currents) i) where
+      nodes-are : on ≡ transistorAt b i .nodes
+      nodes-are = o ∙ nodes-there b i lift-there
 
-    pub lift-works : (table on : List ℕ) (s : ℕ) → table ≡ entries → on ≡ nodesAt (b .nodes) i → s ≡ getD (b .seats) i
-        0 →
-        Workable table (deckIn b) s on (b .volts) × Room nodesMost roomMost (b .totals)
-    lift-works table on s t o p = (
-      record {
-        table-is = t;
-        able = rw (o ∙ nodes-there b i lift-there, p ∙ same-seat) (able-at b (invariant k) i lift-there leaver-stands);
-        volts-are = volts-kept b (invariant k);
-      },
-      room-now b (invariant k),
-    )
+      own-is : own ≡ transistorAt b i .currents
+      own-is = p ∙ held-there b i lift-there
 
-    pub lifts-it : {on : List ℕ} {s : ℕ} → on ≡ nodesAt (b .nodes) i → s ≡ getD (b .seats) i 0 → {l : List ℤ} →
-        More nodesMost (b .totals) l (backFlow (cardOf (deckIn b) s) on (voltsOf b)) →
-        LeavesPlaces (liftedOf b z) Done (set (b .issues) i 0) (set (b .cards) i 0) (set (b .seats) i 0)
-        (written 0 (b .nodes) (roles * i) (replicate roles 0) roles) l (b .next)
-    unfolding liftedOf liftVerdict
-    lifts-it {on} {s} o p {l} more =
-        rw (same-transistor, e)
-        (record {
-          answer-is = refl;
-          issues-are = refl;
-          cards-are = refl;
-          seats-are = refl;
-          nodes-are = refl;
-          totals-are =
-              more-is (backFlow (workedOn b i) (transistorAt b i .nodes) (voltsOf b)) more
-              (λ n h. rw (
-                o ∙ nodes-there b i lift-there,
-                p,
-                worked-there b (invariant k) i lift-there leaver-stands,
-              ));
-          next-is = refl;
-        })
+      pub lift-takes : Givable (b .totals) on own × (length own ≡ branches)
+      lift-takes = (
+        record {
+          wired = record { wired = rw nodes-are (invariant k .holds .transistor i leaver-stands .wired) };
+          room = room-now b (invariant k);
+          within = rw own-is (held-small b (invariant k) i leaver-stands);
+        },
+        rw p (length-stretch (pos 0) (b .currents) (branches * i) branches),
+      )
+
+      pub lifts-it : {l : List ℤ} → More nodesMost (b .totals) l (ticksBack on own) →
+          LeavesPlaces (liftedOf b z) Done (set (b .issues) i 0) (set (b .cards) i 0) (set (b .seats) i 0)
+          (written 0 (b .nodes) (roles * i) (replicate roles 0) roles) l
+          (written (pos 0) (b .currents) (branches * i) (replicate branches (pos 0)) branches) (b .next)
+      unfolding liftedOf liftVerdict
+      lifts-it {l} more =
+          rw (same-transistor, e)
+          (record {
+            answer-is = refl;
+            issues-are = refl;
+            cards-are = refl;
+            seats-are = refl;
+            nodes-are = refl;
+            totals-are =
+                more-is (ticksBack (transistorAt b i .nodes) (transistorAt b i .currents)) more
+                (λ n h. rw (nodes-are, own-is));
+            currents-are = refl;
+            next-is = refl;
+          })
 
 -- ---- what the card looks at of the nodes, by the switches and the numbers of the cards
 
@@ -273,8 +296,8 @@ seen-flat b k card given =
     (card-place (b .held) (b .names) (b .numbers) (b .powers) (b .ticks) (b .switches) (issueOf card))
 
 pub lent-seen : {b : Board} {numbers powers ticks : List ℕ} {switches : List Bool}
-    {held issues cards seats nodes volts : List ℕ} {totals : List ℤ} {next : ℕ} →
-    LendsPlaces b numbers powers ticks switches held issues cards seats nodes volts totals next → Reached b →
+    {held issues cards seats nodes volts : List ℕ} {totals currents : List ℤ} {next : ℕ} →
+    LendsPlaces b numbers powers ticks switches held issues cards seats nodes volts totals currents next → Reached b →
     (card : ℤ) (given : List ℤ) → seenOn b card given
     ≡ lookedAt (wideBy (wideAt switches) (numberPlace cardsMost (issueOf card) held)) given
 lent-seen {b} l r card given = rw (l .lends .switches-are, l .held-are) (seen-flat b r card given)
@@ -283,8 +306,9 @@ lent-seen {b} l r card given = rw (l .lends .switches-are, l .held-are) (seen-fl
 
 module _ {b : Board} {numbers powers ticks : List ℕ} {switches : List Bool} {held issues cards seats nodes volts :
     List ℕ}
-    {totals : List ℤ} {next : ℕ}
-    (l : LendsPlaces b numbers powers ticks switches held issues cards seats nodes volts totals next) (r : Reached b)
+    {totals currents : List ℤ} {next : ℕ}
+    (l : LendsPlaces b numbers powers ticks switches held issues cards seats nodes volts totals currents next)
+    (r : Reached b)
     (card : ℤ) (given : List ℤ) (long : length given ≡ roles) {on : List ℕ} (on-are : on ≡ map nodeOf given) {w : Way}
     (way-is : w ≡ wayOf (freePlace issues)
     (placing (numberPlace cardsMost (issueOf card) held) (tiesAt switches) on (leb transistorsMost (freePlace issues))
@@ -294,7 +318,7 @@ module _ {b : Board} {numbers powers ticks : List ℕ} {switches : List Bool} {h
       rw (← (l .lends .switches-are), ← (l .lends .issues-are), ← (l .held-are), ← (l .next-is)) way-is
 
   pub lent-stops : (f : Refusal) → w ≡ Stop f →
-      LeavesPlaces (placedOn b card given) (Refused f) issues cards seats nodes totals next
+      LeavesPlaces (placedOn b card given) (Refused f) issues cards seats nodes totals currents next
   lent-stops f e =
       rw (
         l .lends .issues-are,
@@ -302,8 +326,8 @@ module _ {b : Board} {numbers powers ticks : List ℕ} {switches : List Bool} {h
         l .lends .seats-are,
         l .lends .nodes-are,
         l .lends .totals-are,
-        l
-            .next-is,
+        l .lends .currents-are,
+        l .next-is,
       )
       (place-stops b r card given long on-are own-way f e)
 
@@ -318,7 +342,7 @@ module _ {b : Board} {numbers powers ticks : List ℕ} {switches : List Bool} {h
     lent-card = place-there b r card given long on-are own-way e
 
     pub lent-works : (table : List ℕ) → table ≡ entries →
-        Workable table (deckOf numbers powers ticks switches) i on volts × Room nodesMost roomMost totals
+        Workable table (deckOf numbers powers ticks switches) i on volts
     lent-works table h =
         rw (
           l .lends .numbers-are,
@@ -326,62 +350,62 @@ module _ {b : Board} {numbers powers ticks : List ℕ} {switches : List Bool} {h
           l .lends .ticks-are,
           l .lends .switches-are,
           l .lends .volts-are,
-          l .lends .totals-are,
         )
         (place-works b r card given long on-are own-way e table h)
 
-    module _ {over : Over}
-        (oe : over ≡ overAt (cardOf (deckOf numbers powers ticks switches) i) on (map givenBack volts)) where
-      own-over : over ≡ overAt (cardOf (deckIn b) i) on (voltsOf b)
-      own-over =
+    module _ {o : Outcome}
+        (works : Works (cardOf (deckOf numbers powers ticks switches) i) on (map givenBack volts) o) where
+      own-works : Works (cardOf (deckIn b) i) on (voltsOf b) o
+      own-works =
           rw (
             ← (l .lends .numbers-are),
             ← (l .lends .powers-are),
             ← (l .lends .ticks-are),
             ← (l .lends .switches-are),
             ← (l .lends .volts-are),
-          ) oe
+          ) works
 
-      pub lent-over : isOver over ≡ true →
-          LeavesPlaces (placedOn b card given) (Refused (drawnBy next over)) issues cards seats nodes totals next
-      lent-over o =
+      pub lent-gives : Givable totals on (o .ticks) × (length (o .ticks) ≡ branches)
+      lent-gives = rw (l .lends .totals-are) (place-gives b r card given long on-are own-way e own-works)
+
+      pub lent-over : isOver (o .over) ≡ true →
+          LeavesPlaces (placedOn b card given) (Refused (drawnBy next (o .over))) issues cards seats nodes totals
+          currents next
+      lent-over h =
           rw (
             l .lends .issues-are,
             l .cards-are,
             l .lends .seats-are,
             l .lends .nodes-are,
             l .lends .totals-are,
-            l
-                .next-is,
+            l .lends .currents-are,
+            l .next-is,
           )
-          (place-over b r card given long on-are own-way e own-over o)
+          (place-over b r card given long on-are own-way e own-works h)
 
-      pub lent-places : isOver over ≡ false → {t : List ℤ} →
-          More nodesMost totals t
-          (flow (cardOf (deckOf numbers powers ticks switches) i) on (map givenBack volts)) →
+      pub lent-places : isOver (o .over) ≡ false → {t : List ℤ} → More nodesMost totals t (ticksGive on (o .ticks)) →
           LeavesPlaces (placedOn b card given) (Issue next) (set issues free next) (set cards free (getD held i 0))
-          (set seats free i) (written 0 nodes (roles * free) on roles) t (next + 1)
-      lent-places o {t} more =
-          let own : More nodesMost (b .totals) t (flow (cardOf (deckIn b) i) on (voltsOf b)) =
+          (set seats free i) (written 0 nodes (roles * free) on roles) t
+          (written (pos 0) currents (branches * free) (o .ticks) branches) (next + 1)
+      lent-places h {t} more =
+          let own : More nodesMost (b .totals) t (ticksGive on (o .ticks)) = rw (← (l .lends .totals-are)) more in
           rw (
-            ← (l .lends .numbers-are),
-            ← (l .lends .powers-are),
-            ← (l .lends .ticks-are),
-            ← (l .lends .switches-are),
-            ← (l .lends .volts-are),
-            ← (l .lends .totals-are),
-          ) more in
-          rw (l .lends .issues-are, l .cards-are, l .lends .seats-are, l .lends .nodes-are, l .held-are, l .next-is)
-          (places-it b r card given long on-are own-way e own-over o own)
+            l .lends .issues-are,
+            l .cards-are,
+            l .lends .seats-are,
+            l .lends .nodes-are,
+            l .lends .currents-are,
+            l .held-are,
+            l .next-is,
+          )
+          (places-it b r card given long on-are own-way e own-works h own)
 
-module _ {b : Board} {numbers powers ticks : List ℕ} {switches : List Bool} {issues seats nodes volts : List ℕ}
-    {totals : List ℤ} (l : Lends b numbers powers ticks switches issues seats nodes volts totals) (r : Reached b)
-    (z : ℤ) where
-  pub lent-unknown : {cards : List ℕ} → cards ≡ b .cards →
-      transistorsMost ≤ placeOr transistorsMost (numberPlace transistorsMost (issueOf z) issues) →
-      LeavesPlaces (liftedOf b z) (Refused Unknown) issues cards seats nodes totals (b .next)
-  lent-unknown c h =
-      rw (l .issues-are, c, l .seats-are, l .nodes-are, l .totals-are)
+module _ {b : Board} {issues cards seats nodes : List ℕ} {totals currents : List ℤ}
+    (l : LendsStanding b issues cards seats nodes totals currents) (r : Reached b) (z : ℤ) where
+  pub lent-unknown : transistorsMost ≤ placeOr transistorsMost (numberPlace transistorsMost (issueOf z) issues) →
+      LeavesPlaces (liftedOf b z) (Refused Unknown) issues cards seats nodes totals currents (b .next)
+  lent-unknown h =
+      rw (l .issues-are, l .cards-are, l .seats-are, l .nodes-are, l .totals-are, l .currents-are)
       (lift-unknown b r z (rw (← (l .issues-are)) (not-there transistorsMost (firstAt transistorsMost (issueOf z)
       issues) (eqb (issueOf z) 0) h)))
 
@@ -389,30 +413,21 @@ module _ {b : Board} {numbers powers ticks : List ℕ} {switches : List Bool} {i
     own-place : numberPlace transistorsMost (issueOf z) (b .issues) ≡ some i
     own-place = rw (← (l .issues-are)) e
 
-    pub leaver-there : i < transistorsMost
-    leaver-there = lift-there b r z i own-place
+    module _ {on : List ℕ} (o : on ≡ nodesAt nodes i) {own : List ℤ} (p : own ≡ heldAt currents i) where
+      own-nodes : on ≡ nodesAt (b .nodes) i
+      own-nodes = rw (← (l .nodes-are)) o
 
-    pub leaver-works : (table on : List ℕ) (s : ℕ) → table ≡ entries → on ≡ nodesAt nodes i → s ≡ getD seats i 0 →
-        Workable table (deckOf numbers powers ticks switches) s on volts × Room nodesMost roomMost totals
-    leaver-works table on s t o p =
-        rw (l .numbers-are, l .powers-are, l .ticks-are, l .switches-are, l .volts-are, l .totals-are)
-        (lift-works b r z i own-place table on s t (rw (← (l .nodes-are)) o) (rw (← (l .seats-are)) p))
+      own-held : own ≡ heldAt (b .currents) i
+      own-held = rw (← (l .currents-are)) p
 
-    pub lent-lifts : {cards : List ℕ} → cards ≡ b .cards → {on : List ℕ} {s : ℕ} → on ≡ nodesAt nodes i →
-        s ≡ getD seats i 0 → {t : List ℤ} →
-        More nodesMost totals t
-        (backFlow (cardOf (deckOf numbers powers ticks switches) s) on (map givenBack volts)) →
-        LeavesPlaces (liftedOf b z) Done (set issues i 0) (set cards i 0) (set seats i 0)
-        (written 0 nodes (roles * i) (replicate roles 0) roles) t (b .next)
-    lent-lifts c {on} {s} o p {t} more =
-        let own : More nodesMost (b .totals) t (backFlow (cardOf (deckIn b) s) on (voltsOf b)) =
-        rw (
-          ← (l .numbers-are),
-          ← (l .powers-are),
-          ← (l .ticks-are),
-          ← (l .switches-are),
-          ← (l .volts-are),
-          ← (l .totals-are),
-        ) more in
-        rw (l .issues-are, c, l .seats-are, l .nodes-are)
-        (lifts-it b r z i own-place (rw (← (l .nodes-are)) o) (rw (← (l .seats-are)) p) own)
+      pub lent-takes : Givable totals on own × (length own ≡ branches)
+      lent-takes = rw (l .totals-are) (lift-takes b r z i own-place own-nodes own-held)
+
+      pub lent-lifts : {t : List ℤ} → More nodesMost totals t (ticksBack on own) →
+          LeavesPlaces (liftedOf b z) Done (set issues i 0) (set cards i 0) (set seats i 0)
+          (written 0 nodes (roles * i) (replicate roles 0) roles) t
+          (written (pos 0) currents (branches * i) (replicate branches (pos 0)) branches) (b .next)
+      lent-lifts {t} more =
+          let now : More nodesMost (b .totals) t (ticksBack on own) = rw (← (l .totals-are)) more in
+          rw (l .issues-are, l .cards-are, l .seats-are, l .nodes-are, l .currents-are)
+          (lifts-it b r z i own-place own-nodes own-held now)

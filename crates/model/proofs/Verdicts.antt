@@ -20,6 +20,7 @@ use Rattle.given.specs.Arguments.{Found, none, some, offNode, someNodeOff, Ties
 use Rattle.given.specs.Pairs.{arePairs, somePairOff, Shift, shiftsOf}
 use Rattle.given.specs.inner.Nodes.{nodeOf}
 use Rattle.model.specs.Verdict.{loadVerdict, placeVerdict, moveVerdict, liftVerdict, withdrawVerdict, nodeVerdict}
+use Rattle.model.specs.Verdict.{openVerdict}
 use Rattle.refusal.specs.Order.{Verdict, no, yes, refuseIf, andThen, passes-if}
 use Rattle.refusal.specs.Clash.{clash}
 
@@ -92,6 +93,11 @@ pub lifts : {A : Type 0} (found : Found A) {a : A} → liftVerdict found ≡ yes
 unfolding liftVerdict
 lifts none e = clash cc
 lifts (some b) e = cc
+
+pub opens : {A : Type 0} (found : Found A) {a : A} → openVerdict found ≡ yes a → found ≡ some a
+unfolding openVerdict
+opens none e = clash cc
+opens (some b) e = cc
 
 pub record Withdraws {A : Type 0} (found : Found A) (inUse : A → Bool) (a : A) : Type 0 where
   pub there : found ≡ some a

@@ -8,13 +8,14 @@ use Rattle.given.specs.Pairs.{Shift}
 use Rattle.model.specs.Board.{Board}
 use Rattle.model.specs.declared.Answer.{Answer}
 use Rattle.model.specs.Board.{Answered}
-use Rattle.model.specs.Model.{leveled, placed, seenOn, placedOf, mayPlace, moved, movedOf, mayMove, lifted, liftedOf}
-use Rattle.model.specs.Model.{mayLift}
-use Rattle.model.specs.inner.Lent.{Lends, LendsPlaces, LeavesLevels, LeavesPlaces}
+use Rattle.model.specs.Model.{leveled, noTicks, plain, placed, seenOn, placedOf, mayPlace, moved, movedOf, mayMove}
+use Rattle.model.specs.Model.{lifted, liftedOf, mayLift}
+use Rattle.model.specs.inner.Lent.{Lends, LendsPlaces, LendsStanding, LeavesLevels, LeavesPlaces}
 
 -- a board lends its own arrays
 pub own-lends : (b : Board) →
     Lends b (b .numbers) (b .powers) (b .ticks) (b .switches) (b .issues) (b .seats) (b .nodes) (b .volts) (b .totals)
+    (b .currents)
 own-lends b =
     record {
       numbers-are = refl;
@@ -26,17 +27,30 @@ own-lends b =
       nodes-are = refl;
       volts-are = refl;
       totals-are = refl;
+      currents-are = refl;
+    }
+
+pub own-standing : (b : Board) →
+    LendsStanding b (b .issues) (b .cards) (b .seats) (b .nodes) (b .totals) (b .currents)
+own-standing b =
+    record {
+      issues-are = refl;
+      cards-are = refl;
+      seats-are = refl;
+      nodes-are = refl;
+      totals-are = refl;
+      currents-are = refl;
     }
 
 pub own-lends-places : (b : Board) →
     LendsPlaces b (b .numbers) (b .powers) (b .ticks) (b .switches) (b .held) (b .issues) (b .cards) (b .seats)
     (b .nodes)
-    (b .volts) (b .totals) (b .next)
+    (b .volts) (b .totals) (b .currents) (b .next)
 own-lends-places b = record { lends = own-lends b; held-are = refl; cards-are = refl; next-is = refl }
 
 -- b with other places of transistors, other totals and another next number
-abbrev pub withPlaces : Board → List ℕ → List ℕ → List ℕ → List ℕ → List ℤ → ℕ → Board
-withPlaces b issues cards seats nodes totals next =
+abbrev pub withPlaces : Board → List ℕ → List ℕ → List ℕ → List ℕ → List ℤ → List ℤ → ℕ → Board
+withPlaces b issues cards seats nodes totals currents next =
     record {
       numbers = b .numbers;
       powers = b .powers;
@@ -51,12 +65,13 @@ withPlaces b issues cards seats nodes totals next =
       cards = cards;
       seats = seats;
       nodes = nodes;
+      currents = currents;
     }
 
 -- ---- nothing else changes
 
 abbrev OnlyPlaces : Board → Board → Type 0
-OnlyPlaces b c = c ≡ withPlaces b (c .issues) (c .cards) (c .seats) (c .nodes) (c .totals) (c .next)
+OnlyPlaces b c = c ≡ withPlaces b (c .issues) (c .cards) (c .seats) (c .nodes) (c .totals) (c .currents) (c .next)
 
 place-only : (b : Board) (card : ℤ) (nodes : List ℤ) → OnlyPlaces b (placedOf b card nodes .board)
 unfolding placedOf
@@ -75,7 +90,7 @@ lift-only b n = go (mayLift b n)
     go (yes i) = refl
 
 abbrev OnlyLevels : Board → Board → Type 0
-OnlyLevels b c = c ≡ leveled b (record { volts = c .volts; totals = c .totals })
+OnlyLevels b c = c ≡ leveled b (record { volts = c .volts; totals = c .totals }) (c .currents)
 
 move-only : (b : Board) (pairs : List ℤ) → OnlyLevels b (movedOf b pairs .board)
 unfolding movedOf
@@ -85,25 +100,73 @@ move-only b pairs = go (mayMove b pairs)
     go (no f) = refl
     go (yes shifts) = refl
 
+-- ---- and none of these calls tells numbers beside its answer
+
+place-plain : (b : Board) (card : ℤ) (nodes : List ℤ) → placedOf b card nodes .ticks ≡ noTicks
+unfolding placedOf
+place-plain b card nodes = go (mayPlace b card (seenOn b card nodes))
+  where
+    go : (v : Verdict ℕ) → placed b (seenOn b card nodes) v .ticks ≡ noTicks
+    go (no f) = refl
+    go (yes i) = refl
+
+lift-plain : (b : Board) (n : ℤ) → liftedOf b n .ticks ≡ noTicks
+unfolding liftedOf
+lift-plain b n = go (mayLift b n)
+  where
+    go : (v : Verdict ℕ) → lifted b v .ticks ≡ noTicks
+    go (no f) = refl
+    go (yes i) = refl
+
+move-plain : (b : Board) (pairs : List ℤ) → movedOf b pairs .ticks ≡ noTicks
+unfolding movedOf
+move-plain b pairs = go (mayMove b pairs)
+  where
+    go : (w : Verdict (List Shift)) → moved b w .ticks ≡ noTicks
+    go (no f) = refl
+    go (yes shifts) = refl
+
 -- ---- so that what was left is the answer, whole
 
-places-whole : (b : Board) {a : Answered} {answer : Answer} {issues cards seats nodes : List ℕ} {totals : List ℤ}
-    {next : ℕ} → OnlyPlaces b (a .board) → LeavesPlaces a answer issues cards seats nodes totals next →
-    record { board = withPlaces b issues cards seats nodes totals next; answer = answer } ≡ a
-places-whole b {a} only l =
-    rw (l .issues-are, l .cards-are, l .seats-are, l .nodes-are, l .totals-are, l .next-is, l .answer-is, ← only)
+places-whole : (b : Board) {a : Answered} {answer : Answer} {issues cards seats nodes : List ℕ}
+    {totals currents : List ℤ} {next : ℕ} → OnlyPlaces b (a .board) → a .ticks ≡ noTicks →
+    LeavesPlaces a answer issues cards seats nodes totals currents next →
+    plain (withPlaces b issues cards seats nodes totals currents next) answer ≡ a
+places-whole b {a} only none l =
+    rw (
+      l .issues-are,
+      l .cards-are,
+      l .seats-are,
+      l .nodes-are,
+      l .totals-are,
+      l .currents-are,
+      l .next-is,
+      l .answer-is,
+      ← only,
+      ← none,
+    )
 
 pub placed-whole : (b : Board) (card : ℤ) (on : List ℤ) {answer : Answer} {issues cards seats nodes : List ℕ}
-    {totals : List ℤ} {next : ℕ} → LeavesPlaces (placedOf b card on) answer issues cards seats nodes totals next →
-    record { board = withPlaces b issues cards seats nodes totals next; answer = answer } ≡ placedOf b card on
-placed-whole b card on l = places-whole b (place-only b card on) l
+    {totals currents : List ℤ} {next : ℕ} →
+    LeavesPlaces (placedOf b card on) answer issues cards seats nodes totals currents next →
+    plain (withPlaces b issues cards seats nodes totals currents next) answer ≡ placedOf b card on
+placed-whole b card on l = places-whole b (place-only b card on) (place-plain b card on) l
 
-pub lifted-whole : (b : Board) (n : ℤ) {answer : Answer} {issues cards seats nodes : List ℕ} {totals : List ℤ} →
-    LeavesPlaces (liftedOf b n) answer issues cards seats nodes totals (b .next) →
-    record { board = withPlaces b issues cards seats nodes totals (b .next); answer = answer } ≡ liftedOf b n
-lifted-whole b n l = places-whole b (lift-only b n) l
+pub lifted-whole : (b : Board) (n : ℤ) {answer : Answer} {issues cards seats nodes : List ℕ}
+    {totals currents : List ℤ} →
+    LeavesPlaces (liftedOf b n) answer issues cards seats nodes totals currents (b .next) →
+    plain (withPlaces b issues cards seats nodes totals currents (b .next)) answer ≡ liftedOf b n
+lifted-whole b n l = places-whole b (lift-only b n) (lift-plain b n) l
 
-pub moved-whole : (b : Board) (pairs : List ℤ) {answer : Answer} {volts : List ℕ} {totals : List ℤ} →
-    LeavesLevels (movedOf b pairs) answer volts totals →
-    record { board = leveled b (record { volts = volts; totals = totals }); answer = answer } ≡ movedOf b pairs
-moved-whole b pairs l = rw (l .volts-are, l .totals-are, l .answer-is, ← (move-only b pairs))
+pub moved-whole : (b : Board) (pairs : List ℤ) {answer : Answer} {volts : List ℕ} {totals currents : List ℤ} →
+    LeavesLevels (movedOf b pairs) answer volts totals currents →
+    plain (leveled b (record { volts = volts; totals = totals }) currents) answer ≡ movedOf b pairs
+moved-whole b pairs l =
+    rw (
+      l .volts-are,
+      l .totals-are,
+      l .currents-are,
+      l .answer-is,
+      ← (move-only b pairs),
+      ← (move-plain b pairs),
+    )

@@ -1,6 +1,6 @@
 -- The desk by its own bookkeeping: the cards held, the transistors standing, each with the very card it was placed
 -- with, the voltages and the next issue number.
--- No place, no array and no stored total is known here.
+-- No place, no array, no stored total and no held current is known here.
 use mathlib.Core.Path.{_≡_}
 use mathlib.Core.Bool.{Bool, true, false, cond, not}
 use mathlib.Core.List.{List, [], _∷_, map}
@@ -18,7 +18,7 @@ use Rattle.clip.specs.Record.{rightLength}
 use Rattle.card.specs.declared.WorkedCard.{WorkedCard}
 use Rattle.terms.specs.Rows.{roles}
 use Rattle.terms.specs.Looked.{lookedAt}
-use Rattle.totals.specs.Flow.{flow, sumOver}
+use Rattle.totals.specs.Flow.{ticksAt, flow, sumOver}
 use Rattle.given.specs.Lists.{anyOf, larger}
 use Rattle.given.specs.Arguments.{Found, none, some, issueOf, offNode, someNodeOff, tiesOf, torn, known, usedUp}
 use Rattle.given.specs.Pairs.{arePairs, somePairOff, Shift, shiftsOf, shiftedIn}
@@ -50,6 +50,7 @@ pub data Call : Type 0 where
   withdraw : ℤ → Call
   lookUp : List ℕ → Call
   node : ℤ → Call
+  currents : ℤ → Call
 
 -- one node moved: a list of one pair
 abbrev pub moveOne : ℤ → ℤ → Call
@@ -59,6 +60,7 @@ pub data Reply : Type 0 where
   issued : ℕ → Reply
   done : Reply
   shows : ℤ → ℤ → Reply
+  carries : List ℤ → Reply
   refused : Refusal → Reply
 
 pub record Step : Type 0 where
@@ -185,6 +187,11 @@ abbrev pub showed : Desk → Verdict ℕ → Step
 showed d (no f) = refuse d f
 showed d (yes n) = record { reply = shows (getD (d .volts) n (pos 0)) (total d n); desk = d }
 
+-- the currents of a transistor's branches, worked from its card at the present voltages
+abbrev pub opened : Desk → Verdict Standing → Step
+opened d (no f) = refuse d f
+opened d (yes t) = record { reply = carries (ticksAt (t .worked) (t .nodes) (d .volts)); desk = d }
+
 -- all that would overload in the transistors that stand, at these voltages
 abbrev pub faultsAt : Desk → List ℤ → List Fault
 faultsAt d volts = faultsAmong (λ (t : Standing). faultsOf (t .issue) (t .worked) (t .nodes) volts) (d .standing)
@@ -244,6 +251,10 @@ mayLookUp d name =
 abbrev pub mayRead : ℤ → Verdict ℕ
 mayRead n = refuseIf (offNode n) OutOfRange (yes (natAbs n))
 
+-- Reading a transistor's currents: 12
+abbrev pub mayOpen : Desk → ℤ → Verdict Standing
+mayOpen d n = known (standsAs (issueOf n) (d .standing))
+
 -- ---- one call
 
 unfoldable pub step : Desk → Call → Step
@@ -254,6 +265,7 @@ step d (lift n) = lifted d (mayLift d n)
 step d (withdraw n) = withdrawn d (mayWithdraw d n)
 step d (lookUp name) = looked d (mayLookUp d name)
 step d (node n) = showed d (mayRead n)
+step d (currents n) = opened d (mayOpen d n)
 
 -- a fresh desk
 unfoldable pub freshDesk : Desk

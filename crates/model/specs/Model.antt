@@ -1,4 +1,4 @@
--- The board of places and stored totals, and what each of its methods gives: the answer and the next board, whole.
+-- The board of places, held currents and stored totals, and what each of its methods gives: the answer and the next board, whole.
 use mathlib.Core.Path.{_≡_}
 use mathlib.Core.Bool.{Bool, false}
 use mathlib.Core.List.{List, [], _∷_, map}
@@ -12,9 +12,9 @@ use Rattle.name.specs.Name.{padded, nameLength}
 use Rattle.volts.specs.Volts.{givenBack, keptAs}
 use Rattle.card.specs.declared.WorkedCard.{WorkedCard}
 use Rattle.terms.specs.inner.Ready.{readyOf}
-use Rattle.terms.specs.Rows.{roles}
+use Rattle.terms.specs.Rows.{roles, branches}
 use Rattle.terms.specs.Looked.{lookedAt}
-use Rattle.totals.specs.Flow.{flow, overAt, withMore}
+use Rattle.totals.specs.Flow.{ticksAt, flow, overAt, withMore}
 use Rattle.given.specs.Lists.{anyOf}
 use Rattle.given.specs.Arguments.{issueOf, usedUp, tiesOf, wideBy}
 use Rattle.given.specs.Pairs.{Shift, shiftsOf, shiftedIn}
@@ -25,16 +25,18 @@ use Rattle.places.specs.Gathered.{Card, Transistor, cardsIn, transistorsIn, emp
 use Rattle.places.specs.Gathered.{noTransistor, workedAt}
 use Rattle.places.specs.Finding.{cardPlace, transistorPlace, freeCard, freeTransistor, standsOn, standsAt, highestAt}
 use Rattle.settle.specs.declared.First.{First}
-use Rattle.flows.specs.Back.{backFlow}
+use Rattle.flows.specs.Back.{ticksBack}
 use Rattle.settle.specs.Change.{changes}
 use Rattle.settle.specs.First.{firstBelow}
+use Rattle.settle.specs.Renewed.{renewed}
 use Rattle.model.specs.Board.{Board}
-use Rattle.model.specs.declared.Answer.the-variants.{Issue, Done, Node, Refused}
+use Rattle.model.specs.declared.Answer.{Answer}
+use Rattle.model.specs.declared.Answer.the-variants.{Issue, Done, Node, Currents, Refused}
 use Rattle.model.specs.Board.{Answered}
 use Rattle.model.specs.Counts.{nodesMost, cardsMost, transistorsMost}
 use Rattle.model.specs.Verdict.{loadVerdict, placeVerdict, moveVerdict, liftVerdict, withdrawVerdict, lookVerdict}
-use Rattle.model.specs.Verdict.{nodeVerdict}
-use Rattle.model.specs.Desk.{Call, load, place, move, lift, withdraw, lookUp, node}
+use Rattle.model.specs.Verdict.{nodeVerdict, openVerdict}
+use Rattle.model.specs.Desk.{Call, load, place, move, lift, withdraw, lookUp, node, currents}
 
 -- ---- what stands at a place
 
@@ -43,7 +45,7 @@ unfoldable pub cardsOf : Board → List Card
 cardsOf b = cardsIn (b .held) (b .names) (b .numbers) (b .powers) (b .ticks) (b .switches)
 
 unfoldable pub transistorsOf : Board → List Transistor
-transistorsOf b = transistorsIn (b .issues) (b .cards) (b .seats) (b .nodes)
+transistorsOf b = transistorsIn (b .issues) (b .cards) (b .seats) (b .nodes) (b .currents)
 
 abbrev pub transistorAt : Board → ℕ → Transistor
 transistorAt b i = getD (transistorsOf b) i noTransistor
@@ -65,14 +67,13 @@ levelsOf b = record { volts = b .volts; totals = b .totals }
 abbrev pub voltsOf : Board → List ℤ
 voltsOf b = map givenBack (b .volts)
 
--- a transistor's flow put in, and taken out
+-- a transistor's flow put in, and what one holds taken out: that needs no card and no voltage
 abbrev pub putIn : Levels → WorkedCard → List ℕ → Levels
 putIn l c nodes =
     record { volts = l .volts; totals = withMore (l .totals) (flow c nodes (map givenBack (l .volts))) }
 
-abbrev pub takenOut : Levels → WorkedCard → List ℕ → Levels
-takenOut l c nodes =
-    record { volts = l .volts; totals = withMore (l .totals) (backFlow c nodes (map givenBack (l .volts))) }
+abbrev pub takenOut : Levels → List ℕ → List ℤ → Levels
+takenOut l nodes held = record { volts = l .volts; totals = withMore (l .totals) (ticksBack nodes held) }
 
 -- the voltages as they are kept after shifts
 abbrev pub shifted : List ℕ → List Shift → List ℕ
@@ -92,12 +93,21 @@ firstOver b shifts =
 -- what node n gains
 abbrev pub gains : Board → List Shift → ℕ → ℤ
 gains b shifts n =
-    changes (λ (i : ℕ). touched shifts (transistorAt b i)) (workedOn b) (λ (i : ℕ). transistorAt b i .nodes) (voltsOf b)
-    (map givenBack (shifted (b .volts) shifts)) transistorsMost n
+    changes (λ (i : ℕ). touched shifts (transistorAt b i)) (workedOn b) (λ (i : ℕ). transistorAt b i .nodes)
+    (λ (i : ℕ). transistorAt b i .currents) (map givenBack (shifted (b .volts) shifts)) transistorsMost n
 
 abbrev pub settled : Board → List Shift → Levels
 settled b shifts =
     record { volts = shifted (b .volts) shifts; totals = withMore (b .totals) (gains b shifts) }
+
+-- the currents that the transistor at a place has then, and all that is held then: those that are worked hold them
+abbrev pub currentThen : Board → List Shift → ℕ → List ℤ
+currentThen b shifts i =
+    ticksAt (workedOn b i) (transistorAt b i .nodes) (map givenBack (shifted (b .volts) shifts))
+
+abbrev pub heldThen : Board → List Shift → List ℤ
+heldThen b shifts =
+    renewed (λ (i : ℕ). touched shifts (transistorAt b i)) (currentThen b shifts) (b .currents) transistorsMost 0
 
 -- ---- boards with something else at one place, or at other levels
 
@@ -118,6 +128,7 @@ holding b i c next =
       cards = b .cards;
       seats = b .seats;
       nodes = b .nodes;
+      currents = b .currents;
     }
 
 -- the transistor t at place i
@@ -137,10 +148,12 @@ standing b i t levels next =
       cards = set (b .cards) i (t .card);
       seats = set (b .seats) i (t .seat);
       nodes = written 0 (b .nodes) (roles * i) (t .nodes) roles;
+      currents = written (pos 0) (b .currents) (branches * i) (t .currents) branches;
     }
 
-abbrev pub leveled : Board → Levels → Board
-leveled b levels =
+-- other levels, and other currents held
+abbrev pub leveled : Board → Levels → List ℤ → Board
+leveled b levels held =
     record {
       numbers = b .numbers;
       powers = b .powers;
@@ -155,6 +168,7 @@ leveled b levels =
       cards = b .cards;
       seats = b .seats;
       nodes = b .nodes;
+      currents = held;
     }
 
 -- ---- the methods
@@ -175,20 +189,25 @@ freshBoard =
       cards = replicate transistorsMost 0;
       seats = replicate transistorsMost 0;
       nodes = replicate (roles * transistorsMost) 0;
+      currents = replicate (branches * transistorsMost) (pos 0);
     }
 
+-- an answer without numbers
+abbrev pub noTicks : List ℤ
+noTicks = replicate branches (pos 0)
+
+abbrev pub plain : Board → Answer → Answered
+plain b a = record { board = b; answer = a; ticks = noTicks }
+
 abbrev pub refuse : Board → Refusal → Answered
-refuse b f = record { board = b; answer = Refused f }
+refuse b f = plain b (Refused f)
 
 abbrev pub loaded : Board → List ℕ → Verdict WorkedCard → Answered
 loaded b name (no f) = refuse b f
 loaded b name (yes c) =
-    record {
-      board =
-          holding b (freeCard (cardsOf b)) (record { issue = b .next; name = padded name; ready = readyOf c })
-          (b .next + 1);
-      answer = Issue (b .next);
-    }
+    plain
+    (holding b (freeCard (cardsOf b)) (record { issue = b .next; name = padded name; ready = readyOf c }) (b .next + 1))
+    (Issue (b .next))
 
 abbrev pub mayLoad : Board → List ℕ → List ℕ → Verdict WorkedCard
 mayLoad b name bytes = loadVerdict name bytes (leb cardsMost (freeCard (cardsOf b))) (usedUp (b .next))
@@ -199,17 +218,21 @@ loadedOf b name bytes = loaded b name (mayLoad b name bytes)
 -- the transistor that is placed on the card at place i
 abbrev pub newcomer : Board → ℕ → List ℤ → Transistor
 newcomer b i nodes =
-    record { issue = b .next; card = getD (cardsOf b) i noCard .issue; seat = i; nodes = map natAbs nodes }
+    record {
+      issue = b .next;
+      card = getD (cardsOf b) i noCard .issue;
+      seat = i;
+      nodes = map natAbs nodes;
+      currents = ticksAt (workedAt (cardsOf b) i) (map natAbs nodes) (voltsOf b);
+    }
 
 abbrev pub placed : Board → List ℤ → Verdict ℕ → Answered
 placed b nodes (no f) = refuse b f
 placed b nodes (yes i) =
-    record {
-      board =
-          standing b (freeTransistor (transistorsOf b)) (newcomer b i nodes)
-          (putIn (levelsOf b) (workedAt (cardsOf b) i) (map natAbs nodes)) (b .next + 1);
-      answer = Issue (b .next);
-    }
+    plain
+    (standing b (freeTransistor (transistorsOf b)) (newcomer b i nodes)
+    (putIn (levelsOf b) (workedAt (cardsOf b) i) (map natAbs nodes)) (b .next + 1))
+    (Issue (b .next))
 
 -- what the card that is asked for looks at of the nodes
 abbrev pub seenOn : Board → ℤ → List ℤ → List ℤ
@@ -230,7 +253,7 @@ placedOf b card nodes = placedOn b card (seenOn b card nodes)
 
 abbrev pub moved : Board → Verdict (List Shift) → Answered
 moved b (no f) = refuse b f
-moved b (yes shifts) = record { board = leveled b (settled b shifts); answer = Done }
+moved b (yes shifts) = plain (leveled b (settled b shifts) (heldThen b shifts)) Done
 
 abbrev pub mayMove : Board → List ℤ → Verdict (List Shift)
 mayMove b pairs = moveVerdict pairs (firstOver b (shiftsOf pairs))
@@ -241,11 +264,10 @@ movedOf b pairs = moved b (mayMove b pairs)
 abbrev pub lifted : Board → Verdict ℕ → Answered
 lifted b (no f) = refuse b f
 lifted b (yes i) =
-    record {
-      board =
-          standing b i emptyTransistor (takenOut (levelsOf b) (workedOn b i) (transistorAt b i .nodes)) (b .next);
-      answer = Done;
-    }
+    plain
+    (standing b i emptyTransistor (takenOut (levelsOf b) (transistorAt b i .nodes) (transistorAt b i .currents))
+    (b .next))
+    Done
 
 abbrev pub mayLift : Board → ℤ → Verdict ℕ
 mayLift b n = liftVerdict (transistorPlace (issueOf n) (transistorsOf b))
@@ -255,7 +277,7 @@ liftedOf b n = lifted b (mayLift b n)
 
 abbrev pub withdrawn : Board → Verdict ℕ → Answered
 withdrawn b (no f) = refuse b f
-withdrawn b (yes i) = record { board = holding b i emptyCard (b .next); answer = Done }
+withdrawn b (yes i) = plain (holding b i emptyCard (b .next)) Done
 
 abbrev pub mayWithdraw : Board → ℤ → Verdict ℕ
 mayWithdraw b n =
@@ -266,7 +288,7 @@ withdrawnOf b n = withdrawn b (mayWithdraw b n)
 
 abbrev pub looked : Board → Verdict ℕ → Answered
 looked b (no f) = refuse b f
-looked b (yes n) = record { board = b; answer = Issue n }
+looked b (yes n) = plain b (Issue n)
 
 abbrev pub mayLookUp : Board → List ℕ → Verdict ℕ
 mayLookUp b name = lookVerdict name (highestAt (padded name) (cardsOf b))
@@ -276,10 +298,21 @@ lookedOf b name = looked b (mayLookUp b name)
 
 abbrev pub showed : Board → Verdict ℕ → Answered
 showed b (no f) = refuse b f
-showed b (yes n) = record { board = b; answer = Node (givenBack (getD (b .volts) n 0)) (getD (b .totals) n (pos 0)) }
+showed b (yes n) = plain b (Node (givenBack (getD (b .volts) n 0)) (getD (b .totals) n (pos 0)))
 
 unfoldable pub showedOf : Board → ℤ → Answered
 showedOf b n = showed b (nodeVerdict n)
+
+-- what the transistor at a place holds
+abbrev pub opened : Board → Verdict ℕ → Answered
+opened b (no f) = refuse b f
+opened b (yes i) = record { board = b; answer = Currents; ticks = transistorAt b i .currents }
+
+abbrev pub mayOpen : Board → ℤ → Verdict ℕ
+mayOpen b n = openVerdict (transistorPlace (issueOf n) (transistorsOf b))
+
+unfoldable pub openedOf : Board → ℤ → Answered
+openedOf b n = opened b (mayOpen b n)
 
 -- ---- boards as calls leave them
 
@@ -291,6 +324,7 @@ answered b (lift n) = liftedOf b n
 answered b (withdraw n) = withdrawnOf b n
 answered b (lookUp name) = lookedOf b name
 answered b (node n) = showedOf b n
+answered b (currents n) = openedOf b n
 
 -- the board after calls from a fresh one, the last call first in the list
 unfoldable pub boardAfter : List Call → Board

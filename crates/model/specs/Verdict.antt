@@ -66,3 +66,7 @@ lookVerdict name highest = refuseIf (not (asked name)) BadName (refuseIf (eqb hi
 -- Reading a node: 13
 unfoldable pub nodeVerdict : ℤ → Verdict ℕ
 nodeVerdict n = refuseIf (offNode n) OutOfRange (yes (natAbs n))
+
+-- Reading a transistor's currents: 12
+unfoldable pub openVerdict : {A : Type 0} → Found A → Verdict A
+openVerdict found = known found

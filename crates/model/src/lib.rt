@@ -9,5 +9,7 @@ pub enum Answer {
     Issue(u32),
     Done,
     Node(i64, i64),
+    // those of a transistor, which stand beside the answer: an enum holds no array
+    Currents,
     Refused(Refusal),
 }

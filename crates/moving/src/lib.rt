@@ -67,6 +67,7 @@ fn naming_any(issues: &[u32; TRANSISTORS], nodes: &[u8; places::ALL_NODES], pair
 pub fn move_all(
     volts: &mut [u32; NODES],
     totals: &mut [i64; NODES],
+    currents: &mut [i64; places::ALL_CURRENTS],
     numbers: &[u32; deck::ALL_NUMBERS],
     powers: &[u16; deck::ALL_POWERS],
     ticks: &[u64; deck::ALL_TICKS],
@@ -76,20 +77,20 @@ pub fn move_all(
     nodes: &[u8; places::ALL_NODES],
     pairs: &[i64],
 ) -> Answer
-    requires { ⌜ ((b : Board) × Reached b × Lends b (now numbers) (now powers) (now ticks) (now switches) (now issues) (now seats) (now nodes) (now volts) (now totals)) ⌝ }
-    ensures { λ r. ⌜ ((b : Board) → Reached b → Lends b (now (numbers .entry)) (now (powers .entry)) (now (ticks .entry)) (now (switches .entry)) (now (issues .entry)) (now (seats .entry)) (now (nodes .entry)) (now (volts .entry)) (now (totals .entry)) → LeavesLevels (movedOf b (now (pairs .entry))) r (now (volts .exit)) (now (totals .exit))) ⌝ }
+    requires { ⌜ ((b : Board) × Reached b × Lends b (now numbers) (now powers) (now ticks) (now switches) (now issues) (now seats) (now nodes) (now volts) (now totals) (now currents)) ⌝ }
+    ensures { λ r. ⌜ ((b : Board) → Reached b → Lends b (now (numbers .entry)) (now (powers .entry)) (now (ticks .entry)) (now (switches .entry)) (now (issues .entry)) (now (seats .entry)) (now (nodes .entry)) (now (volts .entry)) (now (totals .entry)) (now (currents .entry)) → LeavesLevels (movedOf b (now (pairs .entry))) r (now (volts .exit)) (now (totals .exit)) (now (currents .exit))) ⌝ }
 {
     if !are_pairs(pairs) {
         return Answer::Refused(Refusal::Malformed);
     }
-    let was = *volts;
-    let mut will = was;
+    let mut will = *volts;
     if !keep_pairs(&mut will, pairs) {
         return Answer::Refused(Refusal::OutOfRange);
     }
     let set = naming_any(issues, nodes, pairs);
     let mut l = *totals;
     let first = settle::settle(
+        currents,
         &mut l,
         numbers,
         powers,
@@ -98,7 +99,6 @@ pub fn move_all(
         issues,
         seats,
         nodes,
-        &was,
         &will,
         set,
     );

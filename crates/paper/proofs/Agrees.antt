@@ -29,7 +29,7 @@ use Rattle.polarity.specs.Polarity.{outcomeOf}
 use Rattle.terms.specs.inner.Ready.{readyOf, Askable}
 use Rattle.terms.proofs.Laws.{askable}
 use Rattle.totals.specs.Gives.{rowsGive}
-use Rattle.totals.specs.Flow.{overAt, overloads, flow, sumBelow, withMore}
+use Rattle.totals.specs.Flow.{overAt, overloads, ticksAt, ticksGive, flow, sumBelow, withMore}
 use Rattle.rows.specs.inner.FromTerms.{listUp}
 use Rattle.given.specs.Lists.{anyOf}
 use Rattle.given.specs.Arguments.{usedUp}
@@ -37,9 +37,10 @@ use Rattle.deck.specs.Stretch.{stretch, written}
 use Rattle.deck.specs.Layout.{readyAt, cardsMost}
 use Rattle.places.specs.Gathered.{cardsIn, transistorsIn}
 use Rattle.places.specs.Finding.{first, freeCard}
-use Rattle.flows.specs.Back.{backFlow}
+use Rattle.flows.specs.Back.{ticksBack}
 use Rattle.settle.specs.Change.{changeBy, changes}
 use Rattle.settle.specs.First.{firstBelow}
+use Rattle.settle.specs.Renewed.{renewed}
 use Rattle.model.specs.Board.{Board}
 use Rattle.model.specs.Verdict.{loadOrder, loadVerdict, placeVerdict, moveVerdict}
 use Rattle.given.specs.Pairs.{somePairOff, shiftsOf, shiftedIn}
@@ -85,7 +86,7 @@ unfolding theBoard runFrom loadedFrom loadedOf loadVerdict
 board-from = refl
 
 totals-from : take 4 (runFrom (loadedFrom (yes worked)) .totals) ≡ negsuc 2047 ∷ pos 1024 ∷ pos 1024 ∷ pos 0 ∷ []
-unfolding runFrom loadedFrom loadedOf placedOf lookedAt movedOf freshBoard recordOf entryOf entries expOf rootFor rootOf rootBits readyOf outcomeAcross outcomeOf asked padded placeVerdict moveVerdict overAt overloads rowsGive flow sumBelow withMore listUp anyOf first stretch written readyAt cardsIn transistorsIn backFlow changeBy changes firstBelow cardsOf transistorsOf somePairOff shiftsOf shiftedIn
+unfolding runFrom loadedFrom loadedOf placedOf lookedAt movedOf freshBoard recordOf entryOf entries expOf rootFor rootOf rootBits readyOf outcomeAcross outcomeOf asked padded placeVerdict moveVerdict overAt overloads rowsGive flow sumBelow withMore listUp anyOf first stretch written readyAt cardsIn transistorsIn ticksBack ticksGive ticksAt renewed changeBy changes firstBelow cardsOf transistorsOf somePairOff shiftsOf shiftedIn
 totals-from = refl
 
 board-row : boardCase .worked ≡ boardCase .paper
@@ -107,7 +108,7 @@ unfolding theStage stageFrom loadedFrom loadedOf loadVerdict
 stage-from = refl
 
 stage-lifts : lifts (stageFrom (loadedFrom (yes worked))) ≡ pos 15 ∷ pos 15 ∷ pos 0 ∷ []
-unfolding stageFrom loadedFrom loadedOf placedOf lookedAt movedOf freshBoard recordOf entryOf entries expOf rootFor rootOf rootBits readyOf outcomeAcross outcomeOf asked padded placeVerdict moveVerdict overAt overloads rowsGive flow sumBelow withMore listUp anyOf first stretch written readyAt cardsIn transistorsIn backFlow changeBy changes firstBelow cardsOf transistorsOf somePairOff shiftsOf shiftedIn
+unfolding stageFrom loadedFrom loadedOf placedOf lookedAt movedOf freshBoard recordOf entryOf entries expOf rootFor rootOf rootBits readyOf outcomeAcross outcomeOf asked padded placeVerdict moveVerdict overAt overloads rowsGive flow sumBelow withMore listUp anyOf first stretch written readyAt cardsIn transistorsIn ticksBack ticksGive ticksAt renewed changeBy changes firstBelow cardsOf transistorsOf somePairOff shiftsOf shiftedIn
 stage-lifts = refl
 
 -- a stage that cannot be lifted one node after the other can be lifted together

@@ -47,6 +47,7 @@ fn answer_number(a: Answer) -> i64 {
         Answer::Issue(n) => n as i64,
         Answer::Done => 0,
         Answer::Node(_, ticks) => ticks,
+        Answer::Currents => 0,
         Answer::Refused(f) => refusal::number(f) as i64,
     }
 }

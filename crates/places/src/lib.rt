@@ -8,13 +8,16 @@ pub use finds::find_card;
 pub use finds::find_transistor;
 pub use finds::highest;
 pub use finds::transistor_at;
+use terms::BRANCHES;
 use terms::ROLES;
 
 pub const CARDS: usize = deck::CARDS;
 
 pub const TRANSISTORS: usize = 64;
 
-// How long the arrays of names and of nodes are.
+// How long the arrays of names, of nodes and of held currents are.
 pub const ALL_NAMES: usize = name::LENGTH * CARDS;
 
 pub const ALL_NODES: usize = ROLES * TRANSISTORS;
+
+pub const ALL_CURRENTS: usize = BRANCHES * TRANSISTORS;

@@ -1,19 +1,22 @@
-// Nodes and names by place; and sets of places, one bit each: which transistors name a node.
+// Nodes, held currents and names by place; and sets of places, one bit each: which transistors name a node.
 ghost use mathlib.Core.Path.{_≡_};
 ghost use mathlib.Core.Bool.{cond, _||_};
 ghost use Prim.Native.Nat.{_+_, _*_, _^_, _≤_, _<_};
 ghost use lib.Count.{trailingZeros};
+ghost use lib.IntN.{pos};
 ghost use Rattle.name.specs.Name.{nameLength};
-ghost use Rattle.terms.specs.Rows.{roles};
+ghost use Rattle.terms.specs.Rows.{roles, branches};
 ghost use Rattle.deck.specs.Stretch.{stretch, written};
 ghost use Rattle.given.specs.Lists.{anyOf};
 ghost use Rattle.places.specs.Counts.{cardsMost, transistorsMost};
 ghost use Rattle.places.specs.Finding.{names};
 ghost use Rattle.places.specs.inner.Parts.{NextIn};
 ghost use Rattle.places.specs.inner.Flat.{below, isTaken, standsAtIn, namingIn};
+use places::ALL_CURRENTS;
 use places::ALL_NAMES;
 use places::ALL_NODES;
 use places::TRANSISTORS;
+use terms::BRANCHES;
 use terms::ROLES;
 
 pub fn nodes_at(nodes: &[u8; ALL_NODES], i: usize) -> [u8; ROLES]
@@ -35,6 +38,28 @@ pub fn put_nodes(nodes: &mut [u8; ALL_NODES], i: usize, on: &[u8; ROLES])
     let at = ROLES * i;
     for k in 0..ROLES {
         nodes[at + k] = on[k];
+    }
+}
+
+pub fn currents_at(currents: &[i64; ALL_CURRENTS], i: usize) -> [i64; BRANCHES]
+    requires { ⌜ i < transistorsMost ⌝ }
+    ensures { λ r. ⌜ r ≡ stretch (pos 0) (now (currents .entry)) (branches * i) branches ⌝ }
+{
+    let mut own = [0i64; BRANCHES];
+    let at = BRANCHES * i;
+    for k in 0..BRANCHES {
+        own[k] = currents[at + k];
+    }
+    own
+}
+
+pub fn put_currents(currents: &mut [i64; ALL_CURRENTS], i: usize, own: &[i64; BRANCHES])
+    requires { ⌜ i < transistorsMost ⌝ }
+    ensures { λ _. ⌜ now (currents .exit) ≡ written (pos 0) (now (currents .entry)) (branches * i) (now (own .entry)) branches ⌝ }
+{
+    let at = BRANCHES * i;
+    for k in 0..BRANCHES {
+        currents[at + k] = own[k];
     }
 }
 

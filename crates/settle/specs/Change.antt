@@ -1,19 +1,19 @@
--- What totals gain where transistors are worked from the voltages as they were to those that will be.
+-- What totals gain where transistors are worked at the voltages that will be.
 use mathlib.Core.Bool.{Bool, cond}
 use mathlib.Core.List.{List}
 use Prim.Native.Nat.{ℕ}
 use lib.IntN.{ℤ, pos, _+ℤ_}
 use Rattle.card.specs.declared.WorkedCard.{WorkedCard}
 use Rattle.totals.specs.Flow.{flow, sumBelow}
-use Rattle.flows.specs.Back.{backFlow}
+use Rattle.flows.specs.Back.{ticksBack}
 
--- what node n gains by one transistor: its flow as it was out, its flow as it will be in
+-- what node n gains by one transistor: the currents that it holds out, its flow as it will be in
 unfoldable pub changeBy : WorkedCard → List ℕ → List ℤ → List ℤ → ℕ → ℤ
-unfolding backFlow
-changeBy c nodes was will n = backFlow c nodes was n +ℤ flow c nodes will n
+unfolding ticksBack
+changeBy c nodes held will n = ticksBack nodes held n +ℤ flow c nodes will n
 
--- what node n gains by the places below k that are worked: each with its card and its nodes
-unfoldable pub changes : (ℕ → Bool) → (ℕ → WorkedCard) → (ℕ → List ℕ) → List ℤ → List ℤ → ℕ → ℕ → ℤ
+-- what node n gains by the places below k that are worked: each with its card, its nodes and the currents that it holds
+unfoldable pub changes : (ℕ → Bool) → (ℕ → WorkedCard) → (ℕ → List ℕ) → (ℕ → List ℤ) → List ℤ → ℕ → ℕ → ℤ
 unfolding sumBelow
-changes worked card nodes was will k n =
-    sumBelow (λ (i : ℕ). cond (worked i) (changeBy (card i) (nodes i) was will n) (pos 0)) k
+changes worked card nodes held will k n =
+    sumBelow (λ (i : ℕ). cond (worked i) (changeBy (card i) (nodes i) (held i) will n) (pos 0)) k

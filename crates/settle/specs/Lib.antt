@@ -1,4 +1,5 @@
 pub mod Change
 pub mod First
+pub mod Renewed
 pub mod inner
 pub mod laws

@@ -1,17 +1,18 @@
-// The places of a set brought from the voltages as they were to those that will be, and the first of them that overloads then.
+// The places of a set brought to new voltages: what the totals gain, what is held then, and the first of them that overloads.
 ghost use mathlib.Core.Path.{_≡_};
-ghost use lib.ListN.{getD};
-ghost use Rattle.totals.specs.Gives.{nodesMost};
-ghost use Rattle.totals.specs.inner.Sums.{More};
+ghost use mathlib.Core.List.{List};
+ghost use lib.IntN.{ℤ};
 ghost use Rattle.flows.specs.inner.Workable.{deckOf};
-ghost use Rattle.places.specs.Counts.{transistorsMost};
-ghost use Rattle.places.specs.Sets.{member};
-ghost use Rattle.settle.specs.First.{earlier, firstBelow};
-ghost use Rattle.settle.specs.inner.Working.{gained, overOf, Settling};
+ghost use Rattle.settle.specs.First.{earlier};
+ghost use Rattle.settle.specs.inner.Working.{roundOf, Settling, Going, Settled};
 pub use flows::is_over;
 pub use flows::put_in;
 pub use flows::refusal_of;
 pub use flows::take_out;
+pub use flows::work;
+use octave::Table;
+use places::ALL_CURRENTS;
+use places::ALL_NODES;
 use places::TRANSISTORS;
 use polarity::Over;
 use totals::NODES;
@@ -38,8 +39,66 @@ fn earlier_of(a: First, issue: u32, over: Over) -> First
     a
 }
 
-// Brings the places of the set from the old voltages to the new ones, and tells the first of them that overloads then.
+// Works the place i of the set and then those after it. A place's new currents are held on the way back, when nobody has turned out to overload, so that nothing is to be undone.
+fn settle_from(
+    currents: &mut [i64; ALL_CURRENTS],
+    l: &mut [i64; NODES],
+    table: &Table,
+    numbers: &[u32; deck::ALL_NUMBERS],
+    powers: &[u16; deck::ALL_POWERS],
+    ticks: &[u64; deck::ALL_TICKS],
+    switches: &[bool; deck::ALL_SWITCHES],
+    issues: &[u32; TRANSISTORS],
+    seats: &[u8; TRANSISTORS],
+    nodes: &[u8; ALL_NODES],
+    will: &[u32; NODES],
+    set: u64,
+    i: usize,
+    first: First,
+) -> First
+    requires { ⌜ ((l₀ : List ℤ) × Going (roundOf (deckOf (now numbers) (now powers) (now ticks) (now switches)) (now issues) (now seats) (now nodes) set (now will)) (now table) (now currents) l₀ i (now l) first) ⌝ }
+    ensures { λ r. ⌜ ((l₀ : List ℤ) → Going (roundOf (deckOf (now (numbers .entry)) (now (powers .entry)) (now (ticks .entry)) (now (switches .entry))) (now (issues .entry)) (now (seats .entry)) (now (nodes .entry)) set (now (will .entry))) (now (table .entry)) (now (currents .entry)) l₀ i (now (l .entry)) first → Settled (roundOf (deckOf (now (numbers .entry)) (now (powers .entry)) (now (ticks .entry)) (now (switches .entry))) (now (issues .entry)) (now (seats .entry)) (now (nodes .entry)) set (now (will .entry))) (now (currents .entry)) l₀ i r (now (l .exit)) (now (currents .exit))) ⌝ }
+{
+    if TRANSISTORS <= i {
+        return first;
+    }
+    let s = seats[i] as usize;
+    let on = sets::nodes_at(nodes, i);
+    let old = sets::currents_at(currents, i);
+    let o = work(table, numbers, powers, ticks, switches, s, &on, will);
+    let new = o.ticks;
+    take_out(l, &on, &old);
+    put_in(l, &on, &new);
+    let issue = issues[i];
+    let over = o.over;
+    let found = earlier_of(first, issue, over);
+    let next = sets::next_in(set, i + 1);
+    let last = settle_from(
+        currents,
+        l,
+        table,
+        numbers,
+        powers,
+        ticks,
+        switches,
+        issues,
+        seats,
+        nodes,
+        will,
+        set,
+        next,
+        found,
+    );
+    let worst = last.over;
+    if !is_over(worst) {
+        sets::put_currents(currents, i, &new);
+    }
+    last
+}
+
+// Brings the places of the set to the new voltages: each gives the totals what it will have in place of what it holds, and holds that. Tells the first of them that overloads then; where one does, what was held is held on.
 pub fn settle(
+    currents: &mut [i64; ALL_CURRENTS],
     l: &mut [i64; NODES],
     numbers: &[u32; deck::ALL_NUMBERS],
     powers: &[u16; deck::ALL_POWERS],
@@ -47,31 +106,33 @@ pub fn settle(
     switches: &[bool; deck::ALL_SWITCHES],
     issues: &[u32; TRANSISTORS],
     seats: &[u8; TRANSISTORS],
-    nodes: &[u8; places::ALL_NODES],
-    was: &[u32; NODES],
+    nodes: &[u8; ALL_NODES],
     will: &[u32; NODES],
     set: u64,
 ) -> First
-    requires { ⌜ Settling (deckOf (now numbers) (now powers) (now ticks) (now switches)) (now seats) (now nodes) set (now was) (now will) (now l) ⌝ }
-    ensures { λ r. ⌜ r ≡ firstBelow (member set) (λ i. getD (now (issues .entry)) i 0) (overOf (deckOf (now (numbers .entry)) (now (powers .entry)) (now (ticks .entry)) (now (switches .entry))) (now (seats .entry)) (now (nodes .entry)) (now (will .entry))) transistorsMost ⌝ }
-    ensures { λ _. ⌜ More nodesMost (now (l .entry)) (now (l .exit)) (gained (deckOf (now (numbers .entry)) (now (powers .entry)) (now (ticks .entry)) (now (switches .entry))) (now (seats .entry)) (now (nodes .entry)) set (now (was .entry)) (now (will .entry)) transistorsMost) ⌝ }
+    requires { ⌜ Settling (roundOf (deckOf (now numbers) (now powers) (now ticks) (now switches)) (now issues) (now seats) (now nodes) set (now will)) (now currents) (now l) ⌝ }
+    ensures { λ r. ⌜ Settled (roundOf (deckOf (now (numbers .entry)) (now (powers .entry)) (now (ticks .entry)) (now (switches .entry))) (now (issues .entry)) (now (seats .entry)) (now (nodes .entry)) set (now (will .entry))) (now (currents .entry)) (now (l .entry)) 0 r (now (l .exit)) (now (currents .exit)) ⌝ }
 {
     let table = octave::table();
-    let mut first = First {
+    let first = First {
         issue: 0,
         over: Over::Within,
     };
-    let mut i = sets::next_in(set, 0);
-    while i < TRANSISTORS {
-        let s = seats[i] as usize;
-        let on = sets::nodes_at(nodes, i);
-        take_out(l, &table, numbers, powers, ticks, switches, s, &on, was);
-        let over = put_in(l, &table, numbers, powers, ticks, switches, s, &on, will);
-        let issue = issues[i];
-        let f = earlier_of(first, issue, over);
-        first = f;
-        let next = sets::next_in(set, i + 1);
-        i = next;
-    }
-    first
+    let i = sets::next_in(set, 0);
+    settle_from(
+        currents,
+        l,
+        &table,
+        numbers,
+        powers,
+        ticks,
+        switches,
+        issues,
+        seats,
+        nodes,
+        will,
+        set,
+        i,
+        first,
+    )
 }

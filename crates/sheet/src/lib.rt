@@ -2,7 +2,7 @@
 ghost use mathlib.Core.Path.{_≡_};
 ghost use mathlib.Core.List.{[], _∷_};
 ghost use Rattle.sheet.specs.Text.{textOf};
-ghost use Rattle.sheet.specs.Digits.{maskDigits, wordDigits, hexDigits};
+ghost use Rattle.sheet.specs.Digits.{maskDigits, wordDigits, hexDigits, signedDigits};
 ghost use Rattle.sheet.specs.Lines.{labelLine, toldLine, listingLine, nodeLine, sheetLine};
 pub use listed::bare_name;
 
@@ -64,6 +64,13 @@ pub fn word_digits(word: u64) -> Text
     ensures { λ r. ⌜ r ≡ textOf (hexDigits wordDigits word) ⌝ }
 {
     digits::hex(gather::empty(), word, WORD_DIGITS)
+}
+
+// A number in decimal digits, with a minus sign where it is below zero.
+pub fn signed_digits(v: i64) -> Text
+    ensures { λ r. ⌜ r ≡ textOf (signedDigits v) ⌝ }
+{
+    digits::signed(gather::empty(), v)
 }
 
 // A card's line in the listing, from its name without padding and its record.

@@ -1,6 +1,6 @@
--- What a transistor does at given voltages: whether it overloads, and what it adds to a node. And totals with more at
--- each node.
-use mathlib.Core.Bool.{Bool}
+-- What a transistor does at given voltages: whether it overloads, the currents of its branches, and what it adds to a
+-- node. And totals with more at each node.
+use mathlib.Core.Bool.{Bool, false}
 use mathlib.Core.List.{List, [], _∷_, map}
 use Prim.Native.Nat.{ℕ, zero, suc}
 use lib.ListN.{getD}
@@ -25,10 +25,19 @@ unfoldable pub overloads : WorkedCard → List ℕ → List ℤ → Bool
 unfolding overAt
 overloads c nodes volts = isOver (overAt c nodes volts)
 
+-- the currents of its branches, one for each
+unfoldable pub ticksAt : WorkedCard → List ℕ → List ℤ → List ℤ
+ticksAt c nodes volts = outcomeOf c (rolesAt volts nodes) .ticks
+
+-- what branches of so many ticks give to node n, whatever card they are of: EXSUB moves no end of a branch
+unfoldable pub ticksGive : List ℕ → List ℤ → ℕ → ℤ
+unfolding rowsGive
+ticksGive nodes ticks n = rowsGive (rowsFor false) nodes ticks n
+
 -- what a transistor adds to node n
 unfoldable pub flow : WorkedCard → List ℕ → List ℤ → ℕ → ℤ
-unfolding rowsGive
-flow c nodes volts n = rowsGive (rowsFor (c .exsub)) nodes (outcomeOf c (rolesAt volts nodes) .ticks) n
+unfolding ticksAt ticksGive
+flow c nodes volts n = ticksGive nodes (ticksAt c nodes volts) n
 
 -- f over a list, and over the numbers below k
 unfoldable pub sumOver : {A : Type 0} → (A → ℤ) → List A → ℤ

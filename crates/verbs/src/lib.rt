@@ -17,6 +17,7 @@ pub enum Verb {
     Lookup,
     Node,
     Sheet,
+    Currents,
     // a line that is passed over
     Nothing,
     TooLong,
@@ -40,7 +41,7 @@ pub struct Row {
 }
 
 // How many commands there are.
-const ROWS: usize = 13;
+const ROWS: usize = 14;
 
 // The words of the commands as numbers, in the table's order: the first byte is the lowest.
 const PACKED: [u64; ROWS] = [
@@ -57,6 +58,7 @@ const PACKED: [u64; ROWS] = [
     0x70756b6f6f6c,
     0x65646f6e,
     0x7465656873,
+    0x73746e6572727563,
 ];
 
 // A word of one to eight bytes that a name may have, as a number; 0 for any other.
@@ -145,6 +147,10 @@ fn row_at(i: usize) -> Row
         12 => Row {
             verb: Verb::Sheet,
             wants: Wants::Texts(1),
+        },
+        13 => Row {
+            verb: Verb::Currents,
+            wants: Wants::Numbers(2),
         },
         _ => Row {
             verb: Verb::Error,

@@ -6,7 +6,7 @@ use lib.ListN.{length, length-map}
 use Rattle.volts.specs.Volts.{AllNear}
 use Rattle.terms.specs.inner.Ready.{IsReady}
 use Rattle.terms.specs.Rows.{roles}
-use Rattle.flows.proofs.Currents.{roles-near, works}
+use Rattle.flows.proofs.Currents.{roles-near, works, outcome-works}
 use Rattle.flows.proofs.work.Statement.{statement}
 use Rattle.flows.proofs.work.Tie as tie
 
@@ -34,8 +34,9 @@ returns c =
     let r = c .before .before in
     let s = r .before .before in
     let p = s .pre in
-    works _ (p .volts-are) (s .args .on .now) (p .able .wired) (c .work-out .ensures) (r .ready-at .ensures)
-    (r .before .role-volts .ensures)
+    outcome-works _ _ _
+    (works _ (p .volts-are) (s .args .on .now) (p .able .wired) (c .work-out .ensures) (r .ready-at .ensures)
+    (r .before .role-volts .ensures))
 
 pub work-spec : {M : Type 1} → statement M
 work-spec = tie.close (tie.spec role-volts-requires ready-at-requires work-out-requires returns)

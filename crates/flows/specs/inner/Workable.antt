@@ -1,15 +1,18 @@
--- What working a transistor asks.
+-- What working a transistor asks, and gives.
 use mathlib.Core.Path.{_≡_}
 use mathlib.Core.Bool.{Bool}
 use mathlib.Core.List.{List, map}
 use Prim.Native.Nat.{ℕ, _<_}
 use lib.ListN.{getD, length}
+use lib.IntN.{ℤ}
 use Rattle.volts.specs.Volts.{AllNear}
 use Rattle.octave.specs.Table.{entries}
 use Rattle.card.specs.declared.WorkedCard.{WorkedCard}
 use Rattle.terms.specs.inner.Ready.{IsReady}
 use Rattle.terms.specs.Rows.{roles}
+use Rattle.rows.specs.declared.Outcome.{Outcome}
 use Rattle.totals.specs.Gives.{nodesMost}
+use Rattle.totals.specs.Flow.{overAt, ticksAt}
 use Rattle.deck.specs.Layout.{readyAt, cardsMost}
 
 -- the kept voltages of a transistor's roles
@@ -48,3 +51,8 @@ pub record Workable (table : List ℕ) (d : Deck) (s : ℕ) (nodes volts : List 
   pub table-is : table ≡ entries
   pub able : Able d s nodes
   pub volts-are : Volts volts
+
+-- o is what a transistor of the card c on these nodes does at these voltages
+pub record Works (c : WorkedCard) (nodes : List ℕ) (volts : List ℤ) (o : Outcome) : Type 0 where
+  pub over : o .over ≡ overAt c nodes volts
+  pub ticks : o .ticks ≡ ticksAt c nodes volts

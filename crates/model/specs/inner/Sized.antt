@@ -3,7 +3,7 @@ use mathlib.Core.Path.{_≡_}
 use Prim.Native.Nat.{_*_}
 use lib.ListN.{length}
 use Rattle.name.specs.Name.{nameLength}
-use Rattle.terms.specs.Rows.{roles}
+use Rattle.terms.specs.Rows.{roles, branches}
 use Rattle.deck.specs.Layout.{numbersEach, powersEach, ticksEach, switchesEach}
 use Rattle.model.specs.Board.{Board}
 use Rattle.model.specs.Counts.{nodesMost, cardsMost, transistorsMost}
@@ -20,3 +20,4 @@ pub record Sized (b : Board) : Type 0 where
   pub cards : length (b .cards) ≡ transistorsMost
   pub seats : length (b .seats) ≡ transistorsMost
   pub nodes : length (b .nodes) ≡ roles * transistorsMost
+  pub currents : length (b .currents) ≡ branches * transistorsMost

@@ -17,10 +17,10 @@ listed c = c .before .before .before
 abbrev start : tie.After-keep-pairs → tie.Start
 start c = listed c .before .before
 
-abbrev named : tie.After-will2 → tie.After-naming-any
+abbrev named : tie.After-will3 → tie.After-naming-any
 named c = c .before .before .before .before
 
-abbrev kept : tie.After-will2 → tie.Else2
+abbrev kept : tie.After-will3 → tie.Else2
 kept c = named c .before
 
 -- what the tests have shown
@@ -62,7 +62,7 @@ returns-3 c =
     λ b r l. rw (c .refusal-of .ensures)
     (lent-over l _ r (are-pairs k) (none-off (kept w)) _
     (k .keep-pairs .ensures .volts (not-false _ (kept w .if2 .left))) _ (named w .naming-any .ensures)
-    (t .settle .ensures .0) (t .settle .ensures .1) (sym (f .before .is-over .ensures) ∙ f .if3 .taken))
+    (t .settle .ensures) (sym (f .before .is-over .ensures) ∙ f .if3 .taken))
 
 returns-4 : tie.Need-returns-4
 returns-4 c =
@@ -71,7 +71,7 @@ returns-4 c =
     let k = kept w .before in
     λ b r l. lent-moves l _ r (are-pairs k) (none-off (kept w)) _
     (k .keep-pairs .ensures .volts (not-false _ (kept w .if2 .left))) _ (named w .naming-any .ensures)
-    (t .settle .ensures .0) (t .settle .ensures .1) (sym (c .before .is-over .ensures) ∙ c .if3 .left)
+    (t .settle .ensures) (sym (c .before .is-over .ensures) ∙ c .if3 .left)
 
 pub move-all-spec : {M : Type 1} → statement M
 move-all-spec =

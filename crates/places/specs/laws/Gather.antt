@@ -7,6 +7,7 @@ use native.Mathlib.Nat.{zero-add}
 use native.Mathlib.Omega.{arith}
 use lib.Dec.{eqb, ltb}
 use lib.ListN.{length, getD, List·getD-eq-default}
+use lib.IntN.{ℤ}
 use borrow.Author.Tests.{ltb-true, ltb-false}
 use Rattle.rows.specs.inner.FromTerms.{listUp}
 use Rattle.deck.specs.Layout.{switchesEach, readyAt}
@@ -104,25 +105,25 @@ module _ (held names numbers powers ticks : List ℕ) (switches : List Bool) whe
 
 -- ---- transistors
 
-module _ (issues cards seats nodes : List ℕ) where
+module _ (issues cards seats nodes : List ℕ) (currents : List ℤ) where
   abbrev ts : List Transistor
-  ts = transistorsIn issues cards seats nodes
+  ts = transistorsIn issues cards seats nodes currents
 
   pub length-transistors : length ts ≡ transistorsMost
   unfolding transistorsIn
-  length-transistors = length-up (transistorIn issues cards seats nodes) transistorsMost 0
+  length-transistors = length-up (transistorIn issues cards seats nodes currents) transistorsMost 0
 
   pub transistor-there : (i : ℕ) → i < transistorsMost →
-      getD ts i noTransistor ≡ transistorIn issues cards seats nodes i
+      getD ts i noTransistor ≡ transistorIn issues cards seats nodes currents i
   unfolding transistorsIn
   transistor-there i h =
-      getD-up (transistorIn issues cards seats nodes) transistorsMost 0 i noTransistor h
-      ∙ ap (transistorIn issues cards seats nodes) (zero-add i)
+      getD-up (transistorIn issues cards seats nodes currents) transistorsMost 0 i noTransistor h
+      ∙ ap (transistorIn issues cards seats nodes currents) (zero-add i)
 
   pub first-transistor : (n : ℕ) → first (isTransistor n) ts ≡ firstAt transistorsMost n issues
   unfolding transistorsIn
   first-transistor n =
-      first-up (isTransistor n) (isAt n issues) (transistorIn issues cards seats nodes) (λ (i : ℕ). i) (λ i. refl)
+      first-up (isTransistor n) (isAt n issues) (transistorIn issues cards seats nodes currents) (λ (i : ℕ). i) (λ i. refl)
       transistorsMost 0
 
   pub transistor-place : (n : ℕ) → transistorPlace n ts ≡ numberPlace transistorsMost n issues
@@ -131,7 +132,7 @@ module _ (issues cards seats nodes : List ℕ) where
   pub any-on-flat : (n : ℕ) → anyOf (standsOn n) ts ≡ anyOn n issues cards
   unfolding transistorsIn
   any-on-flat n =
-      any-up (standsOn n) (standsOnAt n issues cards) (transistorIn issues cards seats nodes) (λ (i : ℕ). i)
+      any-up (standsOn n) (standsOnAt n issues cards) (transistorIn issues cards seats nodes currents) (λ (i : ℕ). i)
       (λ i. refl) transistorsMost 0
 
   pub naming-flat : (n : ℕ) →

@@ -17,7 +17,7 @@ use Rattle.spelling.specs.Bytes.{newline}
 use Rattle.sheet.specs.Text.{room, textOf, shown}
 use Rattle.current.specs.Current.{decimals, belowZero, picoOf}
 use Rattle.listed.specs.Listed.{listedMask}
-use Rattle.sheet.specs.Digits.{glyphOf, digitsOf, hexDigits, plainDigits, signOf, ampereDigits}
+use Rattle.sheet.specs.Digits.{glyphOf, digitsOf, hexDigits, plainDigits, signOf, signedDigits, ampereDigits}
 use Rattle.sheet.specs.Digits.{maskDigits, mostDigits, wordDigits}
 use Rattle.sheet.specs.Lines.{numbersLine, labelLine, toldLine, listingLine, readingOf, nodeLine, sheetLine}
 
@@ -74,7 +74,16 @@ reading-long node v ticks =
     let d = plain-long mostDigits (natAbs ticks) in
     simp length-append (omega arith)
 
+signed-long : (z : ℤ) → length (signedDigits z) ≤ 21
+signed-long z =
+    let a = sign-long (belowZero z) in
+    let b = plain-long mostDigits (natAbs z) in
+    rw length-append (omega arith)
+
 -- ---- the lines
+
+pub signed-whole : (z : ℤ) → shown (textOf (signedDigits z)) ≡ signedDigits z
+signed-whole z = let h = signed-long z in text-whole (signedDigits z) (omega arith)
 
 pub label-whole : (label : List ℕ) (n : ℕ) → length label ≤ 80 → shown (textOf (labelLine label n)) ≡ labelLine label n
 unfolding labelLine

@@ -1,4 +1,4 @@
--- `place` asks for the way, puts the currents in, and writes the transistor unless it overloads.
+-- `place` asks for the way, works the currents, and unless they overload puts them in and writes the transistor.
 use mathlib.Core.Path.{_≡_, refl, sym, ap, subst, _∙_}
 use mathlib.Core.List.{List, map}
 use Prim.Native.Nat.{ℕ, _≤_, _<_}
@@ -18,7 +18,7 @@ use Rattle.placing.specs.inner.Placing.{placing, wayOf}
 use Rattle.model.specs.Counts.{cardsMost, transistorsMost}
 use Rattle.model.proofs.Placing.{lent-stops, lent-free, lent-number, lent-card, lent-works, lent-over}
 use Rattle.model.specs.Model.{placedOf}
-use Rattle.model.proofs.Placing.{lent-places, lent-seen}
+use Rattle.model.proofs.Placing.{lent-gives, lent-places, lent-seen}
 use Rattle.model.proofs.calls.place.Statement.{statement}
 use Rattle.model.proofs.calls.place.Tie as tie
 
@@ -35,8 +35,8 @@ start c = looked c .before .before .before
 abbrev went : tie.After-known-told2 → tie.After-may-place
 went c = c .before .before .before
 
-abbrev worked : tie.After-put-in → tie.After-known-told2
-worked c = c .before .before .before .before .before .before
+abbrev known : tie.After-work → tie.After-known-told2
+known c = c .before .before .before .before
 
 -- the nodes that the card looks at
 abbrev seen : tie.After-may-place → List ℤ
@@ -77,7 +77,7 @@ way-is c =
 
 -- the places of the card and of the transistor to be, and its number, are in range
 abbrev going : tie.Else1 → tie.After-known-told2
-going c = worked (c .before .before)
+going c = known (c .before .before)
 
 free-there : (c : tie.Else1) → going c .before .way2 .given .0 .1 .0 < transistorsMost
 free-there c =
@@ -103,26 +103,35 @@ number-there c =
     (way-is m)
     (going c .before .way2 .given .1)
 
-put-in-requires : tie.Need-put-in-requires
-put-in-requires c κs =
-    let k = c .before .before .before .before .before in
+work-requires : tie.Need-work-requires
+work-requires c κs =
+    let k = c .before .before .before in
     let m = went k in
     let s = start m in
     let p = s .pre in
     lent-works (p .2) (p .1) (s .args .card) (seen m) (long m) (asked m .nodes-of .ensures) (way-is m)
-    (k .before .way2 .given .1) _
-    (c .before .before .before .before .table .ensures)
+    (k .before .way2 .given .1) _ (c .before .before .table .ensures)
+
+put-in-requires : tie.Need-put-in-requires
+put-in-requires c κs =
+    let e = c .before .before .before .before in
+    let k = going e in
+    let m = went k in
+    let s = start m in
+    let p = s .pre in
+    lent-gives (p .2) (p .1) (s .args .card) (seen m) (long m) (asked m .nodes-of .ensures) (way-is m)
+    (k .before .way2 .given .1) (e .before .before .work .ensures)
 
 returns : tie.Need-returns
 unfolding placedOf
 returns c =
     let f = c .before in
     let t = f .before .before in
-    let k = worked t in
+    let k = known t in
     let m = went k in
     λ b r l. rw (lent-seen l r (start m .args .card) (start m .args .roles) ∙ sym (seen-is m), c .refusal-of .ensures)
     (lent-over l r (start m .args .card) (seen m) (long m) (asked m .nodes-of .ensures) (way-is m) (k .before .way2 .given .1)
-    (t .put-in .ensures .0) (sym (f .before .is-over .ensures) ∙ f .if1 .taken))
+    (t .work .ensures) (sym (f .before .is-over .ensures) ∙ f .if1 .taken))
 
 returns-2 : tie.Need-returns-2
 unfolding placedOf
@@ -131,17 +140,23 @@ returns-2 c =
     λ b r l. rw (lent-seen l r (start m .args .card) (start m .args .roles) ∙ sym (seen-is m))
     (lent-stops l r (start m .args .card) (seen m) (long m) (asked m .nodes-of .ensures) (way-is m) _ (c .before .way .given .1))
 
+-- the tests passed, from the place where all is written
+abbrev passed : tie.After-put-in → tie.Else1
+passed c = c .before .before .before .before .before
+
 returns-3 : tie.Need-returns-3
 unfolding placedOf
 returns-3 c =
-    let f = c .before .before .before .before in
+    let n = c .before .before .before in
+    let u = n .before .before .before .before in
+    let f = passed u in
     let t = f .before .before in
-    let k = worked t in
+    let k = known t in
     let m = went k in
-    λ b r l. rw (lent-seen l r (start m .args .card) (start m .args .roles) ∙ sym (seen-is m), c .put-nodes .ensures)
+    λ b r l. rw (lent-seen l r (start m .args .card) (start m .args .roles) ∙ sym (seen-is m), n .put-nodes .ensures, c .put-currents .ensures)
     (lent-places l r (start m .args .card) (seen m) (long m) (asked m .nodes-of .ensures) (way-is m) (k .before .way2 .given
     .1)
-    (t .put-in .ensures .0) (sym (f .before .is-over .ensures) ∙ f .if1 .left) (t .put-in .ensures .1))
+    (t .work .ensures) (sym (f .before .is-over .ensures) ∙ f .if1 .left) (u .put-in .ensures))
 
 pub place-spec : {M : Type 1} → statement M
 place-spec =
@@ -149,10 +164,14 @@ place-spec =
     (tie.spec (λ c κs. search needs) (λ c κs. search needs) (λ c κs. search needs) (λ c κs. search needs)
     (λ c κs. search needs) (λ c. search needs) (λ c. search
     needs)
-    (λ c κs. search needs) put-in-requires (λ c κs. search needs) (λ c κs. search needs) returns
-    (λ c. let h = free-there c in omega arith)
-    (λ c. let h = free-there c in omega arith) (λ c. let h = card-there c in omega arith)
-    (λ c. let h = card-there c in omega arith) (λ c. let h = free-there (c .before) in omega arith)
-    (λ c. let h = free-there (c .before) in omega arith) (λ c. let h = card-there (c .before) in omega arith)
-    (λ c. let h = free-there (c .before) in omega arith) (λ c κs. free-there (c .before .before .before))
-    (λ c. let h = number-there (c .before .before .before .before) in omega arith) returns-2 returns-3)
+    (λ c κs. search needs) work-requires (λ c κs. search needs) (λ c κs. search needs) returns put-in-requires
+    (λ c. let h = free-there (passed c) in omega arith)
+    (λ c. let h = free-there (passed c) in omega arith) (λ c. let h = card-there (passed c) in omega arith)
+    (λ c. let h = card-there (passed c) in omega arith) (λ c. let h = free-there (passed (c .before)) in omega arith)
+    (λ c. let h = free-there (passed (c .before)) in omega arith)
+    (λ c. let h = card-there (passed (c .before)) in omega arith)
+    (λ c. let h = free-there (passed (c .before)) in omega arith)
+    (λ c κs. free-there (passed (c .before .before .before)))
+    (λ c κs. free-there (passed (c .before .before .before .before .before .before)))
+    (λ c. let h = number-there (passed (c .before .before .before .before .before .before .before)) in omega arith)
+    returns-2 returns-3)
