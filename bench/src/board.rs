@@ -2,7 +2,7 @@
 //! works only what it changes.
 
 use crate::card::{judge, Card};
-use crate::currents::{by_role, currents, overload, Currents, NARROW, ROLES};
+use crate::currents::{by_role, currents, overload, Currents, ENDS, NARROW, ROLES};
 use crate::library::well_formed;
 use crate::numbers::{Curve, CURVE};
 
@@ -348,6 +348,37 @@ impl Board {
     /// The held currents of a transistor, branch by branch.
     pub fn currents_of(&self, issue: i64) -> Result<Currents, u32> {
         Ok(self.currents[self.place_of(issue)?])
+    }
+
+    /// The issue numbers of the transistors that name a node, in rising order.
+    pub fn who(&self, n: i64) -> Result<Vec<i64>, u32> {
+        let mut issues: Vec<i64> = Members(self.naming[node(n)?])
+            .map(|p| self.issues[p])
+            .collect();
+        issues.sort_unstable();
+        Ok(issues)
+    }
+
+    /// How many transistors name a node, on how many cards, and the largest size of a branch that starts or ends there.
+    pub fn sum(&self, n: i64) -> Result<(usize, usize, u64), u32> {
+        let n = node(n)?;
+        let card = |p: usize| self.cards[self.standing[p].card as usize % CARDS].as_ref();
+        let mut cards: Vec<i64> = Members(self.naming[n])
+            .filter_map(|p| Some(card(p)?.issue))
+            .collect();
+        let transistors = cards.len();
+        cards.sort_unstable();
+        cards.dedup();
+        let largest = Members(self.naming[n])
+            .flat_map(|p| {
+                let on = self.standing[p].nodes.map(|m| m as usize == n);
+                let ends = ENDS.iter().zip(self.currents[p]);
+                ends.filter_map(move |(&(from, to), i)| {
+                    (on[from] || on[to]).then_some(i.unsigned_abs())
+                })
+            })
+            .max();
+        Ok((transistors, cards.len(), largest.unwrap_or(0)))
     }
 
     pub fn node(&self, n: i64) -> Result<(i64, i64), u32> {

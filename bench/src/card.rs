@@ -228,7 +228,8 @@ pub fn judge(record: &[u8]) -> Result<Card, u32> {
         }
     });
     let all = [sn, bulk, side, nonideal, ex, sub, sf, rex, rsub, product, s];
-    if all.iter().chain(&leads).any(|v| !v.is_finite()) || product.trunc() > 1e9 || vlr.abs() > 5.0 {
+    if all.iter().chain(&leads).any(|v| !v.is_finite()) || product.trunc() > 1e9 || vlr.abs() > 5.0
+    {
         return Err(10);
     }
     let exsub = exsub == 1.0;

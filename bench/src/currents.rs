@@ -15,6 +15,23 @@ pub type Volts = [i64; ROLES];
 /// The currents of the branches, in ticks.
 pub type Currents = [i64; 13];
 
+/// The roles at which each branch starts and ends.
+pub const ENDS: [(usize, usize); 13] = [
+    (4, 0),
+    (2, 0),
+    (1, 0),
+    (2, 0),
+    (1, 5),
+    (1, 6),
+    (6, 3),
+    (1, 5),
+    (7, 0),
+    (8, 1),
+    (9, 10),
+    (10, 5),
+    (5, 3),
+];
+
 /// What a transistor gives to the totals of the nodes of its roles.
 #[inline]
 pub fn by_role([i1, i2, i3, i4, i5, i6, i7, i8, e, b, c, x, i]: Currents) -> [i64; ROLES] {
@@ -172,13 +189,16 @@ pub fn overload(curve: &Curve, c: &Card, v: &Volts) -> Option<(u32, u32)> {
     ];
     let leads = c.leads.iter().flat_map(|l| l.g.iter().zip(drops(v)));
     let leads = leads.map(|(g, volts)| (g.through(volts).is_some(), true));
-    rows.into_iter().chain(leads).zip(1..).find_map(|((ticks, ratio), branch)| {
-        if !ticks {
-            Some((branch, 15))
-        } else if !ratio {
-            Some((branch, 18))
-        } else {
-            None
-        }
-    })
+    rows.into_iter()
+        .chain(leads)
+        .zip(1..)
+        .find_map(|((ticks, ratio), branch)| {
+            if !ticks {
+                Some((branch, 15))
+            } else if !ratio {
+                Some((branch, 18))
+            } else {
+                None
+            }
+        })
 }

@@ -175,7 +175,7 @@ fn script(d: &mut Dice) -> Vec<u8> {
         );
     }
     for _ in 0..120 {
-        let line = match d.roll(18) {
+        let line = match d.roll(20) {
             0 => format!(
                 "record {} {}",
                 String::from_utf8(name(d)).unwrap(),
@@ -204,6 +204,8 @@ fn script(d: &mut Dice) -> Vec<u8> {
             11 => format!("node {}", number(d, 33)),
             12 => "sheet".into(),
             15 | 16 => format!("currents {}", number(d, 40)),
+            17 => format!("who {}", number(d, 33)),
+            18 => format!("sum {}", number(d, 33)),
             _ => d
                 .one_of(&[
                     "",

@@ -3,7 +3,7 @@
 //!   bench vectors FOLDER    this implementation against a folder of outside vectors
 //!   bench desk SCRIPT       what the desk must answer to a script
 //!   bench time NAME TIMES   one of the timed runs: root, exponential, currents, saturated, wide, reverse, sister, empty, still,
-//!                           move, refused, all, singly, together, pair, write, read, find, and the last three with _wide, the last
+//!                           move, refused, all, named_0, named_1, named_8, named_32, named_64, singly, together, pair, write, read, find, and the last three with _wide, the last
 //!                           two with _alike and _crowded
 //!   bench differ ROUNDS     random inputs through the built programs (`./desk`, `./listing` of the project) and this implementation
 
@@ -214,10 +214,21 @@ fn told(b: &board::Board) -> i64 {
 /// A voltage moved so often, on a board with so many transistors, carried out or turned away; the first move brings the
 /// collectors to 2 V.
 fn time_moves(times: u64, places: i64, node: impl Fn(u64) -> u64, microvolts: i64) {
+    time_moves_on(times, places, |i| 1 + i % 8, node, microvolts)
+}
+
+/// The same, where the transistor i has its base on a node of its own.
+fn time_moves_on(
+    times: u64,
+    places: i64,
+    base: impl Fn(i64) -> i64,
+    node: impl Fn(u64) -> u64,
+    microvolts: i64,
+) {
     let mut b = board::Board::fresh();
     b.load(b"a", &timed_record()).unwrap();
     for i in 0..places {
-        let n = 1 + i % 8;
+        let n = base(i);
         b.place(1, &narrow([0, n, n, 20, 20, 20, 0])).unwrap();
     }
     let mut x = 1u32;
@@ -228,6 +239,12 @@ fn time_moves(times: u64, places: i64, node: impl Fn(u64) -> u64, microvolts: i6
         next = (node(n) as i64, microvolts + x as i64);
     }
     println!("{}", told(&b));
+}
+
+/// One node of a full board moved so often, which the first so many of its transistors name.
+fn time_named(times: u64, named: i64) {
+    let base = |i| if i < named { 1 } else { 2 };
+    time_moves_on(times, 64, base, |_| 1, 600_000)
 }
 
 /// Every node of a full board moved so often, node by node or all together: eight stages of eight transistors.
@@ -391,6 +408,11 @@ fn time(name: &str, times: u64) {
         "move" => time_moves(times, 64, |n| 1 + n % 8, 600_000),
         "refused" => time_moves(times, 64, |n| 1 + n % 8, 2_300_000),
         "all" => time_moves(times, 64, |_| 20, 2_000_000),
+        "named_0" => time_named(times, 0),
+        "named_1" => time_named(times, 1),
+        "named_8" => time_named(times, 8),
+        "named_32" => time_named(times, 32),
+        "named_64" => time_named(times, 64),
         "singly" => time_stages(times, false),
         "together" => time_stages(times, true),
         "pair" => time_pair(times),

@@ -190,7 +190,16 @@ impl Desk {
                 told(self.board.node(n), |(v, t)| format!("node {n} {v} {t}"))
             }
             (b"currents", 1) => told(self.board.currents_of(number(rest[0])?), |i| {
-                i.iter().fold(String::from("currents"), |s, x| format!("{s} {x}"))
+                i.iter()
+                    .fold(String::from("currents"), |s, x| format!("{s} {x}"))
+            }),
+            (b"who", 1) => told(self.board.who(number(rest[0])?), |issues| {
+                issues
+                    .iter()
+                    .fold(String::from("who"), |s, i| format!("{s} {i}"))
+            }),
+            (b"sum", 1) => told(self.board.sum(number(rest[0])?), |(t, c, largest)| {
+                format!("sum {t} {c} {largest}")
             }),
             (b"sheet", 0) => {
                 let (volts, totals) = self.board.reading();

@@ -6,7 +6,7 @@ use lib.Ieee.{Float, binary64, toBits, eq}
 use lib.ListN.{take}
 use lib.IntN.{ℤ}
 use Rattle.refusal.specs.Told.{told}
-use Rattle.sheet.specs.Digits.{maskDigits, wordDigits, hexDigits, signedDigits}
+use Rattle.sheet.specs.Digits.{maskDigits, wordDigits, hexDigits, decimalOf, signedDigits}
 use Rattle.sheet.specs.Lines.{labelLine, toldLine, nodeLine}
 use Rattle.spelling.specs.Bytes.{space, newline}
 use Rattle.answers.specs.declared.Answer.{Answer}
@@ -43,15 +43,23 @@ errorLine first = bytes "error " ++ (take shownBytes first ++ newline ∷ [])
 unfoldable pub unreadableLine : List ℕ → List ℕ
 unreadableLine path = bytes "error cannot read " ++ (path ++ newline ∷ [])
 
--- ---- a transistor's currents
+-- ---- as many as there are: each written by its digits, a space before each, and the newline
 
--- numbers with a sign, a space before each, and the newline
-unfoldable pub ticksLine : List ℤ → List ℕ
-ticksLine [] = newline ∷ []
-ticksLine (x ∷ l) = space ∷ (signedDigits x ++ ticksLine l)
+unfoldable pub spacedLine : {A : Type 0} → (A → List ℕ) → List A → List ℕ
+spacedLine digits [] = newline ∷ []
+spacedLine digits (x ∷ l) = space ∷ (digits x ++ spacedLine digits l)
 
+-- a transistor's currents
 unfoldable pub currentsLine : List ℤ → List ℕ
-currentsLine ticks = bytes "currents" ++ ticksLine ticks
+currentsLine ticks = bytes "currents" ++ spacedLine signedDigits ticks
+
+-- who names a node, by issue numbers
+unfoldable pub whoLine : List ℕ → List ℕ
+whoLine issues = bytes "who" ++ spacedLine decimalOf issues
+
+-- a node summed up: its transistors, their cards, and the largest of its branches
+unfoldable pub sumLine : ℕ → ℕ → ℕ → List ℕ
+sumLine transistors cards most = bytes "sum" ++ spacedLine decimalOf (transistors ∷ cards ∷ most ∷ [])
 
 -- ---- a clipped record
 
@@ -59,9 +67,8 @@ currentsLine ticks = bytes "currents" ++ ticksLine ticks
 unfoldable pub bitsOf : Float → ℕ
 bitsOf x = cond (eq x x) (toBits binary64 x) 0
 
-unfoldable pub wordsLine : List Float → List ℕ
-wordsLine [] = newline ∷ []
-wordsLine (x ∷ l) = space ∷ (hexDigits wordDigits (bitsOf x) ++ wordsLine l)
+abbrev pub wordOf : Float → List ℕ
+wordOf x = hexDigits wordDigits (bitsOf x)
 
 unfoldable pub clipLine : ℕ → Bool → List Float → List ℕ
-clipLine mask wide numbers = bytes "clip " ++ (hexDigits (maskDigits wide) mask ++ wordsLine numbers)
+clipLine mask wide numbers = bytes "clip " ++ (hexDigits (maskDigits wide) mask ++ spacedLine wordOf numbers)

@@ -1,6 +1,6 @@
 // The line that answers a command, written in a lent buffer.
 ghost use Rattle.answers.specs.Page.{Writes};
-ghost use Rattle.answers.specs.Answers.{answerLine, errorLine, unreadableLine, currentsLine, clipLine};
+ghost use Rattle.answers.specs.Answers.{answerLine, errorLine, unreadableLine, currentsLine, whoLine, sumLine, clipLine};
 
 mod page; // page.rt: bytes written in a lent buffer
 mod parts; // parts.rt: what the answers are made of
@@ -10,7 +10,7 @@ use refusal::Refusal;
 // Room for the longest answer, that to `clip`.
 pub const ANSWER_ROOM: usize = 512;
 
-// An answer; that to a `clip` and to `currents`, an unreadable file and a line that is no command are apart.
+// An answer; those to `clip`, `currents`, `who` and `sum`, an unreadable file and a line that is no command are apart.
 pub enum Answer {
     Library(u32),
     Offset(usize),
@@ -78,4 +78,20 @@ pub fn currents_line(ticks: &[i64], out: &mut [u8; ANSWER_ROOM]) -> usize
 {
     let start = page::put(b"currents", out, 0);
     parts::put_ticks(ticks, out, start)
+}
+
+// Who names a node, by issue numbers.
+pub fn who_line(issues: &[u64], out: &mut [u8; ANSWER_ROOM]) -> usize
+    ensures { λ r. ⌜ Writes (whoLine (now (issues .entry))) (now (out .entry)) 0 (now (out .exit)) r ⌝ }
+{
+    let start = page::put(b"who", out, 0);
+    parts::put_numbers(issues, out, start)
+}
+
+// A node summed up: its transistors, their cards, and the largest of its branches.
+pub fn sum_line(transistors: u32, cards: u32, most: u64, out: &mut [u8; ANSWER_ROOM]) -> usize
+    ensures { λ r. ⌜ Writes (sumLine transistors cards most) (now (out .entry)) 0 (now (out .exit)) r ⌝ }
+{
+    let start = page::put(b"sum", out, 0);
+    parts::put_numbers(&[transistors as u64, cards as u64, most], out, start)
 }

@@ -4,9 +4,10 @@ ghost use mathlib.Core.List.{[], _∷_};
 ghost use Prim.Native.Nat.{_≤_};
 ghost use lib.ListN.{length, take};
 ghost use Rattle.refusal.specs.Told.{told};
+ghost use Rattle.sheet.specs.Digits.{decimalOf, signedDigits};
 ghost use Rattle.sheet.specs.Lines.{labelLine, toldLine, nodeLine};
 ghost use Rattle.answers.specs.Page.{Writes};
-ghost use Rattle.answers.specs.Answers.{shownBytes, bitsOf, wordsLine, ticksLine};
+ghost use Rattle.answers.specs.Answers.{shownBytes, bitsOf, wordOf, spacedLine};
 use crate::ANSWER_ROOM;
 use crate::page;
 use refusal::Refusal;
@@ -69,7 +70,7 @@ fn bits(x: f64) -> u64
 
 // The bits of each number, a space before each, and the newline.
 pub(crate) fn put_words(numbers: &[f64], out: &mut [u8; ANSWER_ROOM], at: usize) -> usize
-    ensures { λ r. ⌜ Writes (wordsLine (now (numbers .entry))) (now (out .entry)) at (now (out .exit)) r ⌝ }
+    ensures { λ r. ⌜ Writes (spacedLine wordOf (now (numbers .entry))) (now (out .entry)) at (now (out .exit)) r ⌝ }
 {
     let mut used = at;
     let mut i = 0;
@@ -81,15 +82,29 @@ pub(crate) fn put_words(numbers: &[f64], out: &mut [u8; ANSWER_ROOM], at: usize)
     page::put(b"\n", out, used)
 }
 
-// Each number, a space before each, and the newline.
+// Each number with its sign, a space before each, and the newline.
 pub(crate) fn put_ticks(ticks: &[i64], out: &mut [u8; ANSWER_ROOM], at: usize) -> usize
-    ensures { λ r. ⌜ Writes (ticksLine (now (ticks .entry))) (now (out .entry)) at (now (out .exit)) r ⌝ }
+    ensures { λ r. ⌜ Writes (spacedLine signedDigits (now (ticks .entry))) (now (out .entry)) at (now (out .exit)) r ⌝ }
 {
     let mut used = at;
     let mut i = 0;
     while i < ticks.len() {
         let spaced = page::put(b" ", out, used);
         used = page::put_text(sheet::signed_digits(ticks[i]), out, spaced);
+        i += 1;
+    }
+    page::put(b"\n", out, used)
+}
+
+// The same of numbers without a sign.
+pub(crate) fn put_numbers(numbers: &[u64], out: &mut [u8; ANSWER_ROOM], at: usize) -> usize
+    ensures { λ r. ⌜ Writes (spacedLine decimalOf (now (numbers .entry))) (now (out .entry)) at (now (out .exit)) r ⌝ }
+{
+    let mut used = at;
+    let mut i = 0;
+    while i < numbers.len() {
+        let spaced = page::put(b" ", out, used);
+        used = page::put_text(sheet::decimal_digits(numbers[i]), out, spaced);
         i += 1;
     }
     page::put(b"\n", out, used)

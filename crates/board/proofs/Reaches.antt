@@ -4,15 +4,16 @@ use mathlib.Core.List.{List, [], _∷_}
 use Prim.Native.Nat.{ℕ}
 use lib.ListN.{length}
 use lib.IntN.{ℤ}
+use Rattle.bytes_le.specs.Buffer.{over}
 use Rattle.terms.specs.Rows.{roles}
 use Rattle.model.specs.Board as model
-use Rattle.model.specs.Desk.{Call, load, place, move, lift, withdraw, lookUp, node, currents}
+use Rattle.model.specs.Desk.{Call, load, place, move, lift, withdraw, lookUp, node, currents, who, sumUp}
 use Rattle.model.specs.Model.{freshBoard, loadedOf, placedOf, movedOf, liftedOf, withdrawnOf, lookedOf, showedOf}
-use Rattle.model.specs.Model.{openedOf, answered, boardAfter, Reached}
+use Rattle.model.specs.Model.{openedOf, listedOf, summedOf, answered, boardAfter, Reached}
 use Rattle.board.specs.declared.Board.{Board}
 use Rattle.board.specs.declared.Answered.{Answered}
 use Rattle.board.specs.Promise.{modelOf, boardOf, givenAs}
-use Rattle.board.specs.Unique.{Allows}
+use Rattle.board.specs.Unique.{Allows, AllowsList}
 
 pub fresh-reached : {b : Board} → b ≡ boardOf freshBoard → (b ≡ boardOf freshBoard) × Reached (modelOf b)
 unfolding boardAfter
@@ -66,3 +67,13 @@ module _ {b : model.Board} {r : Answered} (k : Reached b) where
   pub after-currents : (n : ℤ) {a : model.Answered} → r ≡ givenAs a → a ≡ openedOf b n → Allows (openedOf b n) r
   unfolding answered
   after-currents n e d = gives (currents n) k e d
+
+  pub after-sum : (n : ℤ) {a : model.Answered} → r ≡ givenAs a → a ≡ summedOf b n → Allows (summedOf b n) r
+  unfolding answered
+  after-sum n e d = gives (sumUp n) k e d
+
+  pub after-list : (n : ℤ) (old : List ℕ) {new : List ℕ} {a : model.Answered} → r ≡ givenAs a →
+      a ≡ listedOf b n (length old) → new ≡ over (listedOf b n (length old) .list) old →
+      AllowsList (listedOf b n (length old)) old r new
+  unfolding answered
+  after-list n old e d l = let g = gives (who n (length old)) k e d in (g .0, (g .1, l))

@@ -1,4 +1,6 @@
 -- The board's struct and the model: the same lists, so that what the model says is what a method promises.
+use mathlib.Core.List.{List}
+use Prim.Native.Nat.{ℕ}
 use Rattle.model.specs.Board.{Board, Answered}
 use Rattle.model.specs.Model as model
 use Rattle.board.specs.declared.Board as code
@@ -21,6 +23,7 @@ modelOf b =
       cards = b .cards;
       seats = b .seats;
       nodes = b .nodes;
+      naming = b .naming;
       currents = b .currents;
     }
 
@@ -41,6 +44,7 @@ boardOf b =
       cards = b .cards;
       seats = b .seats;
       nodes = b .nodes;
+      naming = b .naming;
       currents = b .currents;
     }
 
@@ -48,8 +52,9 @@ boardOf b =
 abbrev pub givenAs : Answered → answered.Answered
 givenAs a = record { board = boardOf (a .board); answer = a .answer; ticks = a .ticks }
 
-abbrev pub takenAs : answered.Answered → Answered
-takenAs r = record { board = modelOf (r .board); answer = r .answer; ticks = r .ticks }
+-- with the list that it left in a lent buffer
+abbrev pub takenAs : answered.Answered → List ℕ → Answered
+takenAs r list = record { board = modelOf (r .board); answer = r .answer; ticks = r .ticks; list = list }
 
 -- some calls from a fresh board leave this board
 abbrev pub Reached : code.Board → Type 0

@@ -2,13 +2,16 @@
 // Each method asks that calls from a fresh board left the board as it is, and gives the answer with the next board, which is such a board again.
 ghost use mathlib.Core.Path.{_≡_};
 ghost use mathlib.Core.List.{[], _∷_};
-ghost use Rattle.model.specs.Model.{freshBoard, loadedOf, placedOf, movedOf, liftedOf, withdrawnOf, lookedOf, showedOf, openedOf};
+ghost use lib.ListN.{length};
+ghost use Rattle.bytes_le.specs.Buffer.{over};
+ghost use Rattle.model.specs.Model.{freshBoard, loadedOf, placedOf, movedOf, liftedOf, withdrawnOf, lookedOf, showedOf, openedOf, listedOf, summedOf};
 ghost use Rattle.board.specs.Promise.{modelOf, boardOf, givenAs, Reached};
 pub use model::Answer;
 use terms::BRANCHES;
 use terms::ROLES;
 
-// Flat arrays of numbers, so that each can be lent. The first six hold the cards by their places, the last five the transistors.
+// Flat arrays of numbers, so that each can be lent. The first six hold the cards by their places; then come the transistors, with a set of their places for each node; what a move changes stands last.
+// A method that changes arrays on one side of `next` alone reads it and puts it back: there the compiler parts the struct, and what does not change is not copied.
 pub struct Board {
     pub numbers: [u32; deck::ALL_NUMBERS],
     pub powers: [u16; deck::ALL_POWERS],
@@ -17,13 +20,15 @@ pub struct Board {
     pub names: [u8; places::ALL_NAMES],
     pub held: [u32; Board::CARDS],
     pub next: u32,
-    // as `volts` keeps them
-    pub volts: [u32; Board::NODES],
-    pub totals: [i64; Board::NODES],
     pub issues: [u32; Board::TRANSISTORS],
     pub cards: [u32; Board::TRANSISTORS],
     pub seats: [u8; Board::TRANSISTORS],
     pub nodes: [u8; places::ALL_NODES],
+    // for each node the places of the transistors that name it
+    pub naming: [u64; Board::NODES],
+    // as `volts` keeps them
+    pub volts: [u32; Board::NODES],
+    pub totals: [i64; Board::NODES],
     // what each transistor's branches carry, in ticks
     pub currents: [i64; places::ALL_CURRENTS],
 }
@@ -61,6 +66,7 @@ impl Board {
             cards: [0u32; Board::TRANSISTORS],
             seats: [0u8; Board::TRANSISTORS],
             nodes: [0u8; places::ALL_NODES],
+            naming: [0u64; Board::NODES],
             currents: [0i64; places::ALL_CURRENTS],
         }
     }
@@ -121,12 +127,14 @@ impl Board {
         let mut cards = self.cards;
         let mut seats = self.seats;
         let mut on = self.nodes;
+        let mut naming = self.naming;
         let mut currents = self.currents;
         let answer = model::place(
             &mut issues,
             &mut cards,
             &mut seats,
             &mut on,
+            &mut naming,
             &mut totals,
             &mut currents,
             &mut next,
@@ -145,6 +153,7 @@ impl Board {
         self.cards = cards;
         self.seats = seats;
         self.nodes = on;
+        self.naming = naming;
         self.currents = currents;
         Answered {
             board: self,
@@ -166,6 +175,8 @@ impl Board {
         let issues = self.issues;
         let seats = self.seats;
         let nodes = self.nodes;
+        let naming = self.naming;
+        let number = self.next;
         let mut volts = self.volts;
         let mut totals = self.totals;
         let mut held = self.currents;
@@ -180,8 +191,10 @@ impl Board {
             &issues,
             &seats,
             &nodes,
+            &naming,
             pairs,
         );
+        self.next = number;
         self.volts = volts;
         self.totals = totals;
         self.currents = held;
@@ -207,26 +220,31 @@ impl Board {
         ensures { λ r. ⌜ r ≡ givenAs (liftedOf (modelOf self) transistor) ⌝ }
         ensures { λ r. ⌜ Reached (r .board) ⌝ }
     {
+        let number = self.next;
         let mut totals = self.totals;
         let mut issues = self.issues;
         let mut cards = self.cards;
         let mut seats = self.seats;
         let mut nodes = self.nodes;
+        let mut sets = self.naming;
         let mut left = self.currents;
         let answer = model::lift(
             &mut issues,
             &mut cards,
             &mut seats,
             &mut nodes,
+            &mut sets,
             &mut totals,
             &mut left,
             transistor,
         );
+        self.next = number;
         self.totals = totals;
         self.issues = issues;
         self.cards = cards;
         self.seats = seats;
         self.nodes = nodes;
+        self.naming = sets;
         self.currents = left;
         Answered {
             board: self,
@@ -320,6 +338,41 @@ impl Board {
             board: self,
             answer,
             ticks,
+        }
+    }
+
+    // Who names a node: the issue numbers of its transistors in rising order, at the start of the list, and how many they are: 13, then 5 where the list has not room for all.
+    pub fn list_node(self, node: i64, list: &mut [u32]) -> Answered
+        requires { ⌜ Reached self ⌝ }
+        ensures { λ r. ⌜ r ≡ givenAs (listedOf (modelOf self) node (length (now (list .entry)))) ⌝ }
+        ensures { λ r. ⌜ Reached (r .board) ⌝ }
+        ensures { λ _. ⌜ now (list .exit) ≡ over (listedOf (modelOf self) node (length (now (list .entry))) .list) (now (list .entry)) ⌝ }
+    {
+        let given = self.issues;
+        let naming = self.naming;
+        let answer = roster::list_node(&given, &naming, node, list);
+        Answered {
+            board: self,
+            answer,
+            ticks: [0i64; BRANCHES],
+        }
+    }
+
+    // A node summed up: how many transistors name it, on how many cards, and the largest size of a branch that starts or ends there: 13.
+    pub fn sum_up(self, node: i64) -> Answered
+        requires { ⌜ Reached self ⌝ }
+        ensures { λ r. ⌜ r ≡ givenAs (summedOf (modelOf self) node) ⌝ }
+        ensures { λ r. ⌜ Reached (r .board) ⌝ }
+    {
+        let kinds = self.cards;
+        let nodes = self.nodes;
+        let naming = self.naming;
+        let currents = self.currents;
+        let answer = summary::sum_up(&kinds, &nodes, &naming, &currents, node);
+        Answered {
+            board: self,
+            answer,
+            ticks: [0i64; BRANCHES],
         }
     }
 }

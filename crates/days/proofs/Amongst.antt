@@ -8,7 +8,7 @@ use native.Mathlib.Omega.{arith}
 use lib.Dec.{eqb}
 use lib.ListN.{length, getD}
 use borrow.Author.Tests.{eqb-false, eq-eqb, ne-eqb}
-use Rattle.model.specs.Desk.{keepIf}
+use Rattle.given.specs.Lists.{keepIf}
 use Rattle.model.specs.Faults.{Fault, faultsAmong}
 use Rattle.days.specs.Perm.{Perm, empty, keep, swap, then}
 use Rattle.days.specs.Stands.{occupied}
@@ -43,7 +43,7 @@ module _ {A : Type 0} (a : A) where
 -- ---- of a key that at most one has
 
 module _ {A : Type 0} (key : A → ℕ) (n : ℕ) where
-  counted : (b : A) (l : List A) → Among b l → key b ≡ n → 1 ≤ count (λ (a : A). eqb (key a) n) l
+  pub counted : (b : A) (l : List A) → Among b l → key b ≡ n → 1 ≤ count (λ (a : A). eqb (key a) n) l
   unfolding count
   counted b [] m e = absurd m
   counted b (a ∷ l) (inl p) e = rw (eq-eqb (key a) n (ap key (sym p) ∙ e)) (omega arith)

@@ -11,7 +11,7 @@ use lib.ListN.{length, getD, set, length-map, length-replicate}
 use lib.IntN.{ℤ, pos, natAbs}
 use borrow.Author.Tests.{eqb-true, eqb-false, leb-false, ltb-true, ltb-false}
 use Rattle.refusal.specs.declared.Refusal.{Refusal}
-use Rattle.refusal.specs.declared.Refusal.the-variants.{CardInUse}
+use Rattle.refusal.specs.declared.Refusal.the-variants.{CardInUse, ShortOutput}
 use Rattle.refusal.specs.Order.{Verdict, no, yes, refuseIf}
 use Rattle.name.specs.Name.{padded, same}
 use Rattle.volts.specs.Volts.{givenBack}
@@ -23,11 +23,12 @@ use Rattle.places.specs.Gathered.{Card, Transistor}
 use Rattle.model.specs.Board.{Board}
 use Rattle.model.specs.Model.{cardsOf, transistorsOf, transistorAt}
 use Rattle.model.specs.Counts.{nodesMost, cardsMost, transistorsMost}
-use Rattle.given.specs.Arguments.{Found, none, some, issueOf, usedUp, Ties, tiesOf, wideBy}
+use Rattle.given.specs.Arguments.{Found, none, some, issueOf, offNode, usedUp, Ties, tiesOf, wideBy}
 use Rattle.terms.specs.Looked.{lookedAt}
 use Rattle.model.specs.Verdict.{placeVerdict, moveVerdict, liftVerdict, withdrawVerdict, nodeVerdict, openVerdict}
+use Rattle.model.specs.Verdict.{listVerdict}
 use Rattle.model.specs.Desk as desk
-use Rattle.model.specs.Desk.{Held, Standing, Desk, Call, load, place, move, lift, withdraw, lookUp, node, currents}
+use Rattle.model.specs.Desk.{Held, Standing, Desk, Call, load, place, move, lift, withdraw, lookUp, node, currents, who, sumUp}
 use Rattle.totals.specs.Flow.{overloads, sumOver}
 use Rattle.given.specs.Lists.{anyOf, larger}
 use Rattle.model.specs.Desk.{firstWith, heldAs, standsAs, without, highest}
@@ -40,7 +41,8 @@ use Rattle.places.specs.Gathered.{noCard, emptyTransistor, noTransistor, worked
 use Rattle.model.specs.inner.Sums.{placeGives}
 use Rattle.model.specs.Model.{freshBoard, voltsOf, loadedOf}
 use Rattle.places.specs.Finding.{freeCard, freeTransistor, standsOn, highestAt}
-use Rattle.model.specs.Model.{placedOf, movedOf, liftedOf, withdrawnOf, lookedOf, showedOf, openedOf, answered, boardAfter}
+use Rattle.model.specs.Model.{placedOf, movedOf, liftedOf, withdrawnOf, lookedOf, showedOf, openedOf, listedOf, summedOf}
+use Rattle.model.specs.Model.{answered, boardAfter}
 use Rattle.days.specs.Perm.{empty}
 use Rattle.days.specs.Stands.{occupied, heldOf, standingOf, heldIn, standingIn, heldAt, standingAt, mapFound}
 use Rattle.days.specs.Stands.{standsUnder, Stands, Follow}
@@ -51,7 +53,7 @@ use Rattle.days.proofs.Places.{count-occupied, leave, alike}
 use Rattle.totals.proofs.Lists.{getD-map}
 use Rattle.flows.proofs.Currents.{ticks-count}
 use Rattle.model.proofs.NodeSums.{totals-at}
-use Rattle.model.proofs.Verdicts.{loads, places, moves, lifts, withdraws, shown, opens}
+use Rattle.model.proofs.Verdicts.{loads, places, moves, lifts, withdraws, shown, opens, on-node}
 use Rattle.model.proofs.Invariant.{Invariant, invariant-after, at-card, AtCard, at-transistor, AtTransistor}
 use Rattle.model.proofs.Invariant.{Away, unused-away, worked-same, free-below, free-away, aside, still, cards-holding}
 use Rattle.model.proofs.Invariant.{transistors-holding, cards-standing, transistors-standing, cards-then}
@@ -78,6 +80,8 @@ use Rattle.model.proofs.Shifts.{shifted-back}
 use Rattle.days.proofs.Orderly.{Orderly, orderly-after}
 use Rattle.days.proofs.Orders.{seenIn, order-load, order-place, order-move, order-lift, order-withdraw, order-look}
 use Rattle.days.proofs.Orders.{order-read, order-open}
+use Rattle.days.proofs.Ordered.{perm-different, perm-largest}
+use Rattle.days.proofs.Rosters.{issues-told, cards-told, sizes-told, issues-same}
 
 -- ---- verdicts on what was found by place, and on the same found by itself
 
@@ -443,8 +447,8 @@ module _ (b : Board) (d : Desk) (g : Invariant b) (o : Orderly d) (s : Stands b 
             reply = ap desk.issued (s .next);
             board =
                 rw (
-                  cards-standing b (g .sized) free t _ (b .next + 1),
-                  transistors-standing b (g .sized) free t _ (b .next + 1) below
+                  cards-standing b (g .sized) free t _ _ (b .next + 1),
+                  transistors-standing b (g .sized) free t _ _ (b .next + 1) below
                       (length-map on natAbs ∙ looked-long _ nodes sized) (ticks-count _ _ _),
                 )
                 (record {
@@ -552,8 +556,8 @@ module _ (b : Board) (d : Desk) (g : Invariant b) (o : Orderly d) (s : Stands b 
             reply = refl;
             board =
                 rw (
-                  cards-standing b (g .sized) i emptyTransistor _ (b .next),
-                  transistors-standing b (g .sized) i emptyTransistor _ (b .next) below (length-replicate roles zero)
+                  cards-standing b (g .sized) i emptyTransistor _ _ (b .next),
+                  transistors-standing b (g .sized) i emptyTransistor _ _ (b .next) below (length-replicate roles zero)
                       (length-replicate branches (pos 0)),
                 )
                 (record {
@@ -656,6 +660,41 @@ module _ (b : Board) (d : Desk) (g : Invariant b) (o : Orderly d) (s : Stands b 
           let held = held-is g i (λ z. a .given (sym (a .issue-is) ∙ z)) in
           record { reply = rw (held, s .volts); board = s }
 
+  follow-who : (n : ℤ) (room : ℕ) → Follow (listedOf b n room) (step d (who n room))
+  unfolding listedOf listVerdict step
+  follow-who n room = go (offNode n) refl
+    where
+      short : (l m : List ℕ) → l ≡ m → (t : Bool) → ltb room (length m) ≡ t →
+          refuseIf (ltb room (length l)) ShortOutput (yes (natAbs n)) ≡ refuseIf t ShortOutput (yes (natAbs n))
+      short l m e t q = ap (λ (x : List ℕ). refuseIf (ltb room (length x)) ShortOutput (yes (natAbs n))) e ∙ rw q
+
+      told : natAbs n < nodesMost → (t : Bool) → ltb room (length (desk.issuesOn d (natAbs n))) ≡ t →
+          Follow
+          (board.listed b (refuseIf (ltb room (length (board.issuesOn b (natAbs n)))) ShortOutput (yes (natAbs n))))
+          (desk.listed d (refuseIf (ltb room (length (desk.issuesOn d (natAbs n)))) ShortOutput (yes (natAbs n))))
+      told h true q =
+          rw (short _ _ (issues-same b d g s (natAbs n) h) true q, q) (record { reply = refl; board = s })
+      told h false q =
+          rw (short _ _ (issues-same b d g s (natAbs n) h) false q, q)
+          (record { reply = ap desk.lists (issues-same b d g s (natAbs n) h); board = s })
+
+      go : (t : Bool) → offNode n ≡ t → Follow (listedOf b n room) (step d (who n room))
+      go true e = rw e (record { reply = refl; board = s })
+      go false e = rw e (told (on-node n e) (ltb room (length (desk.issuesOn d (natAbs n)))) refl)
+
+  follow-sum : (n : ℤ) → Follow (summedOf b n) (step d (sumUp n))
+  unfolding summedOf step nodeVerdict
+  follow-sum n = go (desk.maySum n) refl
+    where
+      go : (v : Verdict ℕ) → nodeVerdict n ≡ v → Follow (board.summed b v) (desk.summed d v)
+      go (no f) e = record { reply = refl; board = s }
+      go (yes k) e =
+          let h = shown n e in
+          let count = perm-length (issues-told b d g s k h) ∙ length-map (desk.standingOn d k) (λ (t : Standing). t .issue) in
+          let cards = perm-different (cards-told b d g s k h) in
+          let most = perm-largest (sizes-told b d g s k h) in
+          record { reply = λ j. desk.sums (count j) (cards j) (most j); board = s }
+
 -- ---- any calls
 
 pub stands-fresh : Stands freshBoard freshDesk
@@ -674,6 +713,8 @@ follow b d g o s (withdraw n) = follow-withdraw b d g o s n
 follow b d g o s (lookUp name) = follow-look b d g o s name
 follow b d g o s (node n) = follow-node b d g o s n
 follow b d g o s (currents n) = follow-open b d g o s n
+follow b d g o s (who n room) = follow-who b d g o s n room
+follow b d g o s (sumUp n) = follow-sum b d g o s n
 
 pub stands-after : (calls : List Call) → Stands (boardAfter calls) (after calls)
 unfolding boardAfter after

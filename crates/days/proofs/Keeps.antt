@@ -17,9 +17,9 @@ use Rattle.card.specs.declared.WorkedCard.{WorkedCard}
 use Rattle.given.specs.Arguments.{Found, none, some, issueOf, known}
 use Rattle.given.specs.Pairs.{Shift}
 use Rattle.model.specs.Desk as desk
-use Rattle.model.specs.Desk.{Held, Standing, Desk, Call, load, place, move, lift, withdraw, lookUp, node, currents}
-use Rattle.given.specs.Lists.{anyOf}
-use Rattle.model.specs.Desk.{firstWith, ifTrue, standsAs, without, keepIf, step, after}
+use Rattle.model.specs.Desk.{Held, Standing, Desk, Call, load, place, move, lift, withdraw, lookUp, node, currents, who, sumUp}
+use Rattle.given.specs.Lists.{anyOf, keepIf}
+use Rattle.model.specs.Desk.{firstWith, ifTrue, standsAs, without, step, after}
 use Rattle.model.specs.Model.{boardAfter}
 use Rattle.model.proofs.Invariant.{invariant-after}
 use Rattle.days.specs.Stands.{standsUnder}
@@ -146,6 +146,16 @@ module _ (d : Desk) (k : ℕ) (given : k < d .next) where
       go : (w : Verdict Standing) → Stays d k false (desk.opened d w .desk)
       go (no f) = still d k
       go (yes t) = still d k
+  stays (who n room) = go (desk.mayList d n room)
+    where
+      go : (w : Verdict ℕ) → Stays d k false (desk.listed d w .desk)
+      go (no f) = still d k
+      go (yes m) = still d k
+  stays (sumUp n) = go (desk.maySum n)
+    where
+      go : (w : Verdict ℕ) → Stays d k false (desk.summed d w .desk)
+      go (no f) = still d k
+      go (yes m) = still d k
 
 -- ---- any calls
 

@@ -3,11 +3,14 @@ pub mod Places
 pub mod Orderly
 pub mod FaultOrder
 pub mod Amongst
+pub mod Ordered
 pub mod Faults
 pub mod Orders
+pub mod Rosters
 pub mod Follows
 pub mod Totals
 pub mod Held
+pub mod Named
 pub mod Numbers
 pub mod Keeps
 pub mod Methods

@@ -23,12 +23,13 @@ use Rattle.given.specs.Pairs.{Shift}
 use Rattle.given.specs.Arguments.{issueOf}
 use Rattle.model.specs.Verdict.{nodeVerdict}
 use Rattle.model.specs.Desk as desk
-use Rattle.model.specs.Desk.{Held, Standing, Desk, Call, load, place, move, lift, withdraw, lookUp, node, currents}
-use Rattle.model.specs.Desk.{firstWith, without, keepIf, total, step, after}
+use Rattle.model.specs.Desk.{Held, Standing, Desk, Call, load, place, move, lift, withdraw, lookUp, node, currents, who, sumUp}
+use Rattle.given.specs.Lists.{keepIf}
+use Rattle.model.specs.Desk.{firstWith, without, total, step, after}
 use Rattle.places.specs.Finding.{cardPlace}
 use Rattle.model.specs.Model as board
 use Rattle.model.specs.Model.{loadedOf, placedOf, movedOf, liftedOf, withdrawnOf, lookedOf, showedOf, answered}
-use Rattle.model.specs.Model.{openedOf, boardAfter}
+use Rattle.model.specs.Model.{openedOf, listedOf, summedOf, boardAfter}
 use Rattle.days.specs.Stands.{replyOf}
 use Rattle.days.specs.Numbers.{withNumber, gives, givenBy, Falls, end, next}
 use Rattle.days.proofs.Perms.{count, more}
@@ -70,7 +71,7 @@ module _ (b : Board) (l : List ℕ) (begun : 1 ≤ b .next) (f : Falls (b .next)
       go (yes i) e = one-more begun (places (cardPlace (issueOf card) (cardsOf b)) (b .next) e .number) f
 
   falls-call : (c : Call) → Falls (answered b c .board .next) (gives c (answered b c .answer) l)
-  unfolding answered movedOf liftedOf withdrawnOf lookedOf showedOf openedOf
+  unfolding answered movedOf liftedOf withdrawnOf lookedOf showedOf openedOf listedOf summedOf
   falls-call (load name bytes) = falls-load name bytes
   falls-call (place card nodes sized) = falls-place card nodes
   falls-call (move pairs) = go (board.mayMove b pairs)
@@ -101,6 +102,16 @@ module _ (b : Board) (l : List ℕ) (begun : 1 ≤ b .next) (f : Falls (b .next)
   falls-call (currents n) = go (board.mayOpen b n)
     where
       go : (w : Verdict ℕ) → Falls (board.opened b w .board .next) l
+      go (no g) = f
+      go (yes k) = f
+  falls-call (who n room) = go (board.mayList b n room)
+    where
+      go : (w : Verdict ℕ) → Falls (board.listed b w .board .next) l
+      go (no g) = f
+      go (yes k) = f
+  falls-call (sumUp n) = go (nodeVerdict n)
+    where
+      go : (w : Verdict ℕ) → Falls (board.summed b w .board .next) l
       go (no g) = f
       go (yes k) = f
 
@@ -192,7 +203,10 @@ lift-undoes-place calls card nodes sized n e =
     told : step (after calls) (place card nodes sized) .reply ≡ desk.issued n
     told =
         sym (follows calls (place card nodes sized) .reply)
-        ∙ ap (λ (a : Answer). replyOf a (answered (boardAfter calls) (place card nodes sized) .ticks)) e
+        ∙ ap
+        (λ (a : Answer). replyOf a (answered (boardAfter calls) (place card nodes sized) .ticks)
+        (answered (boardAfter calls) (place card nodes sized) .list))
+        e
 
     back : (i : ℕ) → total (after (lift (pos n) ∷ place card nodes sized ∷ calls)) i ≡ total (after calls) i
     back i = total-same (after-undone calls card nodes sized n told) i

@@ -10,10 +10,11 @@ use borrow.Author.Tests.{eqb-true, ne-eqb}
 use Rattle.refusal.specs.Order.{Verdict, no, yes}
 use Rattle.card.specs.declared.WorkedCard.{WorkedCard}
 use Rattle.given.specs.Pairs.{Shift}
-use Rattle.model.specs.Desk.{Held, Standing, Desk, Call, load, place, move, lift, withdraw, lookUp, node, currents}
-use Rattle.model.specs.Desk.{without, keepIf, loaded, placed, moved, lifted, withdrawn, looked, showed, opened, mayLoad}
+use Rattle.model.specs.Desk.{Held, Standing, Desk, Call, load, place, move, lift, withdraw, lookUp, node, currents, who, sumUp}
+use Rattle.given.specs.Lists.{keepIf}
+use Rattle.model.specs.Desk.{without, loaded, placed, moved, lifted, withdrawn, looked, showed, opened, mayLoad}
 use Rattle.model.specs.Desk.{mayPlace, mayMove, mayLift, mayWithdraw, mayLookUp, mayRead, mayOpen, step, freshDesk}
-use Rattle.model.specs.Desk.{after}
+use Rattle.model.specs.Desk.{after, listed, mayList, summed, maySum}
 use Rattle.days.proofs.Perms.{count, more}
 
 -- things whose keys are their numbers: each number at most once, and below next
@@ -125,6 +126,16 @@ orderly-step d (currents n) o = go (mayOpen d n)
     go : (v : Verdict Standing) → Orderly (opened d v .desk)
     go (no f) = o
     go (yes t) = o
+orderly-step d (who n room) o = go (mayList d n room)
+  where
+    go : (v : Verdict ℕ) → Orderly (listed d v .desk)
+    go (no f) = o
+    go (yes k) = o
+orderly-step d (sumUp n) o = go (maySum n)
+  where
+    go : (v : Verdict ℕ) → Orderly (summed d v .desk)
+    go (no f) = o
+    go (yes k) = o
 
 pub orderly-after : (calls : List Call) → Orderly (after calls)
 unfolding after

@@ -11,8 +11,8 @@ use lib.IntN.{ℤ, _+ℤ_, +ℤ-assoc, +ℤ-comm}
 use borrow.Author.Tests.{ltb-true, ltb-false}
 use Rattle.name.specs.Name.{same}
 use Rattle.totals.specs.Flow.{sumOver}
-use Rattle.given.specs.Lists.{anyOf, larger}
-use Rattle.model.specs.Desk.{firstWith, ifTrue, without, keepIf, Held, highest}
+use Rattle.given.specs.Lists.{anyOf, keepIf, larger}
+use Rattle.model.specs.Desk.{firstWith, ifTrue, without, Held, highest}
 use Rattle.days.specs.Perm.{Perm, empty, keep, swap, then}
 
 pub perm-self : {A : Type 0} (xs : List A) → Perm xs xs
@@ -39,7 +39,7 @@ perm-sum f (keep {a = a} p) = ap (λ (z : ℤ). f a +ℤ z) (perm-sum f p)
 perm-sum f (swap {a = a} {b = b} {xs = xs}) = turn (f a) (f b) (sumOver f xs)
 perm-sum f (then p q) = perm-sum f p ∙ perm-sum f q
 
-or-turn : (a b c : Bool) → a || (b || c) ≡ b || (a || c)
+pub or-turn : (a b c : Bool) → a || (b || c) ≡ b || (a || c)
 or-turn true true c = refl
 or-turn true false c = refl
 or-turn false true c = refl
@@ -127,7 +127,7 @@ larger-is m n = go (ltb m n) refl
     go true e = second (ltb-true m n e)
     go false e = first (ltb-false m n e)
 
-larger-turn : (a b c : ℕ) → larger a (larger b c) ≡ larger b (larger a c)
+pub larger-turn : (a b c : ℕ) → larger a (larger b c) ≡ larger b (larger a c)
 larger-turn a b c = go (larger-is b c) (larger-is a c) (larger-is a (larger b c)) (larger-is b (larger a c))
   where
     go : {x y z w : ℕ} → Larger b c x → Larger a c y → Larger a x z → Larger b y w → z ≡ w

@@ -11,7 +11,8 @@ use lib.IntN.{ℤ, pos, _+ℤ_, +ℤ-idl}
 use borrow.Author.Tests.{eqb-true, eqb-false, eq-eqb, ne-eqb, lt-leb, lt-ltb}
 use Rattle.totals.specs.Flow.{sumOver}
 use Rattle.given.specs.Lists.{anyOf}
-use Rattle.model.specs.Desk.{firstWith, without, keepIf}
+use Rattle.given.specs.Lists.{keepIf}
+use Rattle.model.specs.Desk.{firstWith, without}
 use Rattle.given.specs.Arguments.{none, some}
 use Rattle.places.specs.Finding.{first, foundAt}
 use Rattle.days.specs.Stands.{occupied, mapFound}

@@ -201,7 +201,8 @@ board-tells-of-a-move calls pairs f e =
     move-told (after calls) pairs f
     (no-of (after calls) (refusalFor f) (mayMove (after calls) pairs)
     (sym (follows calls (move pairs) .reply)
-    ∙ ap (λ (a : Answer). replyOf a (answered (boardAfter calls) (move pairs) .ticks)) e))
+    ∙ ap (λ (a : Answer). replyOf a (answered (boardAfter calls) (move pairs) .ticks)
+    (answered (boardAfter calls) (move pairs) .list)) e))
 
 pub board-tells-of-a-placing : (calls : List Call) (card : ℤ) (nodes : List ℤ) (sized : length nodes ≡ roles)
     (f : Fault) →
@@ -213,4 +214,5 @@ board-tells-of-a-placing calls card nodes sized f e =
     place-told (after calls) card nodes f
     (no-placing (after calls) nodes (refusalFor f) (mayPlace (after calls) card nodes)
     (sym (follows calls (place card nodes sized) .reply)
-    ∙ ap (λ (a : Answer). replyOf a (answered (boardAfter calls) (place card nodes sized) .ticks)) e))
+    ∙ ap (λ (a : Answer). replyOf a (answered (boardAfter calls) (place card nodes sized) .ticks)
+    (answered (boardAfter calls) (place card nodes sized) .list)) e))

@@ -4,5 +4,6 @@ pub mod Fitted
 pub mod Numbers
 pub mod Promised
 pub mod Singly
+pub mod Rising
 pub mod Told
 pub mod Bare

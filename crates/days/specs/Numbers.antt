@@ -4,10 +4,10 @@ use mathlib.Core.List.{List, [], _∷_}
 use Prim.Native.Nat.{ℕ, _≤_, _<_}
 use lib.Dec.{eqb}
 use Rattle.model.specs.declared.Answer.{Answer}
-use Rattle.model.specs.declared.Answer.the-variants.{Issue, Done, Node, Currents, Refused}
+use Rattle.model.specs.declared.Answer.the-variants.{Issue, Done, Node, Currents, Listed, Summed, Refused}
 use Rattle.given.specs.Arguments.{issuesMost}
 use Rattle.given.specs.Arguments.{issueOf}
-use Rattle.model.specs.Desk.{Call, load, place, move, lift, withdraw, lookUp, node, currents}
+use Rattle.model.specs.Desk.{Call, load, place, move, lift, withdraw, lookUp, node, currents, who, sumUp}
 use Rattle.model.specs.Model.{answered, boardAfter}
 
 -- the number that a call gives: only loading and placing give one
@@ -16,6 +16,8 @@ withNumber (Issue n) earlier = n ∷ earlier
 withNumber Done earlier = earlier
 withNumber (Node v t) earlier = earlier
 withNumber Currents earlier = earlier
+withNumber (Listed n) earlier = earlier
+withNumber (Summed t c s) earlier = earlier
 withNumber (Refused f) earlier = earlier
 
 abbrev pub gives : Call → Answer → List ℕ → List ℕ
@@ -27,6 +29,8 @@ gives (withdraw n) a earlier = earlier
 gives (lookUp name) a earlier = earlier
 gives (node n) a earlier = earlier
 gives (currents n) a earlier = earlier
+gives (who n room) a earlier = earlier
+gives (sumUp n) a earlier = earlier
 
 -- the numbers given by calls from a fresh board, the last first
 unfoldable pub givenBy : List Call → List ℕ
@@ -48,3 +52,5 @@ asksToLift k (withdraw n) = false
 asksToLift k (lookUp name) = false
 asksToLift k (node n) = false
 asksToLift k (currents n) = false
+asksToLift k (who n room) = false
+asksToLift k (sumUp n) = false

@@ -11,10 +11,11 @@ use Rattle.places.specs.Gathered.{Card, Transistor}
 use Rattle.model.specs.Board.{Board}
 use Rattle.model.specs.Model.{cardsOf, transistorsOf, transistorAt}
 use Rattle.model.specs.declared.Answer.{Answer}
-use Rattle.model.specs.declared.Answer.the-variants.{Issue, Done, Node, Currents, Refused}
+use Rattle.model.specs.declared.Answer.the-variants.{Issue, Done, Node, Currents, Listed, Summed, Refused}
 use Rattle.model.specs.Board.{Answered}
 use Rattle.given.specs.Arguments.{Found, none, some}
-use Rattle.model.specs.Desk.{Held, Standing, Desk, Step, Reply, issued, done, shows, carries, refused, keepIf}
+use Rattle.model.specs.Desk.{Held, Standing, Desk, Step, Reply, issued, done, shows, carries, lists, sums, refused}
+use Rattle.given.specs.Lists.{keepIf}
 use Rattle.places.specs.Gathered.{noCard, workedAt}
 use Rattle.places.specs.Finding.{transistorPlace}
 use Rattle.model.specs.Model.{voltsOf}
@@ -66,14 +67,16 @@ abbrev pub Stands : Board → Desk → Type 0
 Stands b d = StandFor (cardsOf b) (transistorsOf b) (voltsOf b) (b .next) d
 
 -- a board's answer, and the numbers beside it, in the desk's words
-abbrev pub replyOf : Answer → List ℤ → Reply
-replyOf (Issue n) ticks = issued n
-replyOf Done ticks = done
-replyOf (Node v t) ticks = shows v t
-replyOf Currents ticks = carries ticks
-replyOf (Refused f) ticks = refused f
+abbrev pub replyOf : Answer → List ℤ → List ℕ → Reply
+replyOf (Issue n) ticks list = issued n
+replyOf Done ticks list = done
+replyOf (Node v t) ticks list = shows v t
+replyOf Currents ticks list = carries ticks
+replyOf (Listed n) ticks list = lists list
+replyOf (Summed t c s) ticks list = sums t c s
+replyOf (Refused f) ticks list = refused f
 
 -- a board's answer is the desk's, and its next board stands for the next desk
 pub record Follow (a : Answered) (t : Step) : Type 0 where
-  pub reply : replyOf (a .answer) (a .ticks) ≡ t .reply
+  pub reply : replyOf (a .answer) (a .ticks) (a .list) ≡ t .reply
   pub board : Stands (a .board) (t .desk)

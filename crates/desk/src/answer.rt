@@ -5,6 +5,7 @@ use crate::out::puts;
 use answers::ANSWER_ROOM;
 use answers::Answer;
 use card::Clipping;
+use places::TRANSISTORS;
 use refusal::Refusal;
 use terms::BRANCHES;
 
@@ -39,10 +40,41 @@ pub fn put_unreadable(path: &[u8], out: &mut [u8; ROOM], at: &mut usize) {
     puts(part(&text, 0, n), out, at);
 }
 
+// The first n of the numbers; all of them where there are not so many.
+fn firsts(numbers: &[u64], n: usize) -> &[u64] {
+    if n < numbers.len() {
+        return &numbers[0..n];
+    }
+    numbers
+}
+
 // The currents of a transistor.
 pub fn put_currents(ticks: &[i64; BRANCHES], out: &mut [u8; ROOM], at: &mut usize) {
     let mut text = [0u8; ANSWER_ROOM];
     let n = answers::currents_line(ticks, &mut text);
+    put_part(&text, n, out, at);
+}
+
+fn widened(n: u32) -> u64 {
+    n as u64
+}
+
+// Who names a node: the first of these issue numbers.
+pub fn put_who(list: &[u32; TRANSISTORS], count: usize, out: &mut [u8; ROOM], at: &mut usize) {
+    let mut issues = [0u64; TRANSISTORS];
+    for k in 0..TRANSISTORS {
+        let wide = widened(list[k]);
+        issues[k] = wide;
+    }
+    let mut text = [0u8; ANSWER_ROOM];
+    let n = answers::who_line(firsts(&issues, count), &mut text);
+    put_part(&text, n, out, at);
+}
+
+// A node summed up.
+pub fn put_sum(transistors: u32, cards: u32, most: u64, out: &mut [u8; ROOM], at: &mut usize) {
+    let mut text = [0u8; ANSWER_ROOM];
+    let n = answers::sum_line(transistors, cards, most, &mut text);
     put_part(&text, n, out, at);
 }
 

@@ -5,7 +5,9 @@ use crate::answer::put_clipping;
 use crate::answer::put_currents;
 use crate::answer::put_error;
 use crate::answer::put_refused;
+use crate::answer::put_sum;
 use crate::answer::put_unreadable;
+use crate::answer::put_who;
 use crate::out::ROOM;
 use crate::out::part;
 use crate::out::put_text;
@@ -16,6 +18,7 @@ use answers::Answer;
 use board::Board;
 use library::Located;
 use library::Reading;
+use places::TRANSISTORS;
 use script::Command;
 use script::MOST_BYTES;
 use script::MOST_NUMBERS;
@@ -201,7 +204,7 @@ fn move_to(board: Board, node: i64, microvolts: i64, out: &mut [u8; ROOM], at: &
     requires { ⌜ Reached board ⌝ }
     ensures { λ r. ⌜ Reached r ⌝ }
 {
-    let asked = board.move_to(node, microvolts);
+    let asked = board.move_all(&[node, microvolts]);
     let answer = asked.answer;
     put_done(answer, Answer::Moved, out, at);
     asked.board
@@ -271,6 +274,44 @@ fn read_currents(board: Board, transistor: i64, out: &mut [u8; ROOM], at: &mut u
     put_told(answer, &ticks, out, at);
 }
 
+fn put_listed(
+    answer: board::Answer,
+    list: &[u32; TRANSISTORS],
+    out: &mut [u8; ROOM],
+    at: &mut usize,
+) {
+    match answer {
+        board::Answer::Listed(n) => put_who(list, n as usize, out, at),
+        board::Answer::Refused(f) => put_refused(f, out, at),
+        _ => {}
+    }
+}
+
+fn list_node(board: Board, node: i64, out: &mut [u8; ROOM], at: &mut usize)
+    requires { ⌜ Reached board ⌝ }
+{
+    let mut list = [0u32; TRANSISTORS];
+    let asked = board.list_node(node, &mut list);
+    let answer = asked.answer;
+    put_listed(answer, &list, out, at);
+}
+
+fn put_summed(answer: board::Answer, out: &mut [u8; ROOM], at: &mut usize) {
+    match answer {
+        board::Answer::Summed(t, c, most) => put_sum(t, c, most, out, at),
+        board::Answer::Refused(f) => put_refused(f, out, at),
+        _ => {}
+    }
+}
+
+fn sum_up(board: Board, node: i64, out: &mut [u8; ROOM], at: &mut usize)
+    requires { ⌜ Reached board ⌝ }
+{
+    let asked = board.sum_up(node);
+    let answer = asked.answer;
+    put_summed(answer, out, at);
+}
+
 fn put_row(node: u32, answer: board::Answer, out: &mut [u8; ROOM], at: &mut usize) {
     match answer {
         board::Answer::Node(v, t) => put_text(sheet::sheet_line(node, v, t), out, at),
@@ -338,6 +379,8 @@ fn show(board: Board, verb: Verb, number: i64, out: &mut [u8; ROOM], at: &mut us
     match verb {
         Verb::Node => read_node(board, number, out, at),
         Verb::Currents => read_currents(board, number, out, at),
+        Verb::Who => list_node(board, number, out, at),
+        Verb::Sum => sum_up(board, number, out, at),
         _ => put_sheet(board, out, at),
     }
 }

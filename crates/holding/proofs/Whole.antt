@@ -9,8 +9,9 @@ use Rattle.card.specs.declared.WorkedCard.{WorkedCard}
 use Rattle.model.specs.Board.{Board, Answered}
 use Rattle.model.specs.declared.Answer.{Answer}
 use Rattle.model.specs.Verdict.{nodeVerdict}
-use Rattle.model.specs.Model.{noTicks, plain, loaded, loadedOf, mayLoad, withdrawn, withdrawnOf, mayWithdraw, looked, lookedOf}
+use Rattle.model.specs.Model.{plain, loaded, loadedOf, mayLoad, withdrawn, withdrawnOf, mayWithdraw, looked, lookedOf}
 use Rattle.model.specs.Model.{mayLookUp, showed, showedOf}
+use Rattle.model.proofs.Whole.{Plain}
 use Rattle.holding.specs.inner.Lent.{CardArrays, LeavesCards}
 
 -- a board lends its own arrays
@@ -42,6 +43,7 @@ withCards b numbers powers ticks switches names held next =
       cards = b .cards;
       seats = b .seats;
       nodes = b .nodes;
+      naming = b .naming;
       currents = b .currents;
     }
 
@@ -68,26 +70,26 @@ withdraw-only b n = go (mayWithdraw b n)
 
 -- ---- and neither call tells numbers beside its answer
 
-load-plain : (b : Board) (name bytes : List ℕ) → loadedOf b name bytes .ticks ≡ noTicks
+pub load-plain : (b : Board) (name bytes : List ℕ) → Plain (loadedOf b name bytes)
 unfolding loadedOf
 load-plain b name bytes = go (mayLoad b name bytes)
   where
-    go : (v : Verdict WorkedCard) → loaded b name v .ticks ≡ noTicks
-    go (no f) = refl
-    go (yes c) = refl
+    go : (v : Verdict WorkedCard) → Plain (loaded b name v)
+    go (no f) = (refl, refl)
+    go (yes c) = (refl, refl)
 
-withdraw-plain : (b : Board) (n : ℤ) → withdrawnOf b n .ticks ≡ noTicks
+pub withdraw-plain : (b : Board) (n : ℤ) → Plain (withdrawnOf b n)
 unfolding withdrawnOf
 withdraw-plain b n = go (mayWithdraw b n)
   where
-    go : (v : Verdict ℕ) → withdrawn b v .ticks ≡ noTicks
-    go (no f) = refl
-    go (yes i) = refl
+    go : (v : Verdict ℕ) → Plain (withdrawn b v)
+    go (no f) = (refl, refl)
+    go (yes i) = (refl, refl)
 
 -- ---- so that what was left is the answer, whole
 
 cards-whole : (b : Board) {a : Answered} {answer : Answer} {numbers powers ticks : List ℕ} {switches : List Bool}
-    {names held : List ℕ} {next : ℕ} → OnlyCards b (a .board) → a .ticks ≡ noTicks →
+    {names held : List ℕ} {next : ℕ} → OnlyCards b (a .board) → Plain a →
     LeavesCards a answer numbers powers ticks switches names held next →
     plain (withCards b numbers powers ticks switches names held next) answer ≡ a
 cards-whole b {a} only none l =
@@ -102,7 +104,8 @@ cards-whole b {a} only none l =
       l .next-is,
       l .answer-is,
       ← only,
-      ← none,
+      ← (none .0),
+      ← (none .1),
     )
 
 pub loaded-whole : (b : Board) (name bytes : List ℕ) {answer : Answer} {numbers powers ticks : List ℕ}

@@ -13,12 +13,8 @@ use Rattle.rows.specs.Ticks.{rowTicks}
 use Rattle.rows.specs.Outcome.{firstOver, outcomeAt, outcomeAcross}
 use Rattle.polarity.specs.Polarity.{turned, seenBy, turnedOutcome, outcomeOf}
 use Rattle.mirrors.specs.Sister.{sisterOf}
+use Rattle.polarity.proofs.Laws.{negated-at}
 use Rattle.polarity.proofs.Turned.{turned-less}
-
-pub negated-at : (l : List ℤ) (k : ℕ) → getD (map negℤ l) k (pos 0) ≡ negℤ (getD l k (pos 0))
-negated-at [] k = refl
-negated-at (x ∷ l) zero = refl
-negated-at (x ∷ l) (suc k) = negated-at l k
 
 -- a number turned over twice, once for its sign and once for the other polarity
 turned-back : (pnp : Bool) (x : ℤ) → turned (not pnp) (negℤ x) ≡ turned pnp x

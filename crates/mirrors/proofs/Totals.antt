@@ -20,7 +20,8 @@ use Rattle.days.specs.Fitted.{Fitted, fittedIn}
 use Rattle.days.proofs.Perms.{perm-sum}
 use Rattle.days.proofs.Totals.{totals-fitted}
 use Rattle.mirrors.specs.Sister.{sisterOf, sisterFitted, Mirrored}
-use Rattle.mirrors.proofs.Currents.{negated-at, pnp-mirrors}
+use Rattle.polarity.proofs.Laws.{negated-at}
+use Rattle.mirrors.proofs.Currents.{pnp-mirrors}
 
 roles-negated : (volts : List ℤ) (nodes : List ℕ) → rolesAt (map negℤ volts) nodes ≡ map negℤ (rolesAt volts nodes)
 roles-negated volts [] = refl

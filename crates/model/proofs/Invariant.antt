@@ -1,5 +1,5 @@
--- What holds of every board that calls from a fresh board leave: who stands where, and that each total is worked from
--- what stands.
+-- What holds of every board that calls from a fresh board leave: who stands where, that each total is worked from what
+-- stands, and that each node's set is a scan of it.
 use mathlib.Core.Path.{_≡_, refl, sym, ap, _∙_, subst}
 use mathlib.Core.Bool.{Bool, true, false, cond, _||_}
 use mathlib.Core.List.{List, [], _∷_, map}
@@ -27,11 +27,11 @@ use Rattle.given.specs.Lists.{anyOf}
 use Rattle.given.specs.Arguments.{none, some, issueOf, offNode, someNodeOff}
 use Rattle.given.specs.Pairs.{Shift}
 use Rattle.deck.specs.Layout.{numbersEach, powersEach, ticksEach, switchesEach}
-use Rattle.deck.specs.laws.Stretches.{length-written}
+use Rattle.deck.specs.laws.Stretches.{length-written, getD-none}
 use Rattle.deck.specs.laws.Ups.{up-all, up-same}
 use Rattle.places.specs.Gathered.{Card, Transistor, transistorIn, emptyCard, emptyTransistor, noCard, noTransistor, workedAt}
 use Rattle.places.specs.Finding.{first, foundAt, isCard, isTransistor, cardPlace, transistorPlace, freeCard}
-use Rattle.places.specs.Finding.{freeTransistor, standsOn}
+use Rattle.places.specs.Finding.{freeTransistor, standsOn, standsAt}
 use Rattle.places.specs.laws.Change.{cards-set, cards-fresh, transistors-set, transistors-fresh}
 use Rattle.places.specs.laws.Gather.{length-transistors, transistor-there}
 use Rattle.settle.specs.Change.{changes}
@@ -41,17 +41,22 @@ use Rattle.flows.proofs.Currents.{ticks-count}
 use Rattle.model.specs.Board.{Board}
 use Rattle.model.specs.Counts.{nodesMost, cardsMost, transistorsMost}
 use Rattle.model.specs.Verdict.{lookVerdict, nodeVerdict}
-use Rattle.model.specs.Desk.{Call, load, place, move, lift, withdraw, lookUp, node, currents}
-use Rattle.model.specs.Model.{cardsOf, transistorsOf, transistorAt, workedOn, Levels, voltsOf, shifted, touched}
+use Rattle.model.specs.Desk.{Call, load, place, move, lift, withdraw, lookUp, node, currents, who, sumUp}
+use Rattle.model.specs.Model.{cardsOf, transistorsOf, transistorAt, workedOn, Levels, levelsOf, voltsOf}
+use Rattle.model.specs.Model.{putIn, takenOut, shifted, touched}
 use Rattle.model.specs.Model.{firstOver, settled, currentThen, heldThen, leveled, holding, standing, freshBoard}
 use Rattle.model.specs.Model.{loaded, loadedOf, newcomer}
 use Rattle.model.specs.Model.{placed, seenOn, placedOn, placedOf, moved, movedOf, lifted, liftedOf, withdrawn, withdrawnOf, looked}
 use Rattle.model.specs.Model.{lookedOf, showed, showedOf, mayLoad, mayPlace, mayMove, mayLift, mayWithdraw}
-use Rattle.model.specs.Model.{opened, openedOf, mayOpen, answered, boardAfter, Reached}
+use Rattle.model.specs.Model.{opened, openedOf, mayOpen, listed, listedOf, mayList, summed, summedOf}
+use Rattle.model.specs.Model.{answered, boardAfter, Reached}
 use Rattle.model.specs.inner.Sums.{placeGives, totalsOf}
 use Rattle.model.specs.inner.Sized.{Sized}
+use Rattle.places.specs.Naming.{joined, parted}
+use Rattle.places.specs.laws.Members.{set-same, set-empty}
 use Rattle.places.proofs.Scans.{none-of}
 use Rattle.model.proofs.Lists.{each-set, each-replicate, first-passes, found-is, stands, padded-long}
+use Rattle.model.proofs.Named.{scanOf, Scans, at-nodes-long, scans-joined, scans-parted}
 use Rattle.model.proofs.NodeSums.{sum-same, sum-alike, totals-count}
 use Rattle.model.proofs.Shifts.{shifted-long, shifted-near}
 use Rattle.model.proofs.Gains.{roles-same, ticks-same, HeldIs, totals-settled, totals-put, totals-taken}
@@ -82,6 +87,7 @@ pub record Holds (cards : List Card) (ts : List Transistor) (volts : List ℕ) (
 pub record Invariant (b : Board) : Type 0 where
   pub sized : Sized b
   pub holds : Holds (cardsOf b) (transistorsOf b) (b .volts) (b .totals) (b .next)
+  pub named : Scans (b .naming) (transistorsOf b)
 
 -- ---- other cards leave what stands as it is
 
@@ -160,6 +166,7 @@ sized-fresh =
       cards = length-replicate transistorsMost zero;
       seats = length-replicate transistorsMost zero;
       nodes = length-replicate (roles * transistorsMost) zero;
+      naming = length-replicate nodesMost zero;
       currents = length-replicate (branches * transistorsMost) (pos 0);
     }
 
@@ -191,9 +198,24 @@ fresh-transistors =
     transistors-fresh transistorsMost transistorsMost transistorsMost (roles * transistorsMost)
     (branches * transistorsMost)
 
+scans-fresh : Scans (replicate nodesMost 0) (replicate transistorsMost emptyTransistor)
+scans-fresh =
+    record {
+      at =
+          λ n h. getD-none 0 nodesMost n
+          ∙ set-empty _ transistorsMost
+          (λ i l. each-replicate (λ (t : Transistor). standsAt n t ≡ false) transistorsMost i emptyTransistor
+          noTransistor refl refl);
+    }
+
 invariant-fresh : Invariant freshBoard
 unfolding freshBoard
-invariant-fresh = record { sized = sized-fresh; holds = rw (fresh-cards, fresh-transistors) holds-fresh }
+invariant-fresh =
+    record {
+      sized = sized-fresh;
+      holds = rw (fresh-cards, fresh-transistors) holds-fresh;
+      named = rw fresh-transistors scans-fresh;
+    }
 
 -- ---- something else at one place of a board
 
@@ -212,6 +234,7 @@ module _ (b : Board) (z : Sized b) (p : ℕ) (c : Card) (next : ℕ) where
         cards = z .cards;
         seats = z .seats;
         nodes = z .nodes;
+        naming = z .naming;
         currents = z .currents;
       }
 
@@ -226,9 +249,10 @@ module _ (b : Board) (z : Sized b) (p : ℕ) (c : Card) (next : ℕ) where
   unfolding transistorsOf
   transistors-holding = refl
 
-module _ (b : Board) (z : Sized b) (p : ℕ) (t : Transistor) (levels : Levels) (next : ℕ) where
-  sized-standing : length (levels .volts) ≡ nodesMost → Sized (standing b p t levels next)
-  sized-standing v =
+module _ (b : Board) (z : Sized b) (p : ℕ) (t : Transistor) (sets : List ℕ) (levels : Levels) (next : ℕ) where
+  sized-standing : length (levels .volts) ≡ nodesMost → length sets ≡ nodesMost →
+      Sized (standing b p t sets levels next)
+  sized-standing v n =
       record {
         numbers = z .numbers;
         powers = z .powers;
@@ -241,15 +265,16 @@ module _ (b : Board) (z : Sized b) (p : ℕ) (t : Transistor) (levels : Levels) 
         cards = length-set (b .cards) p (t .card) ∙ z .cards;
         seats = length-set (b .seats) p (t .seat) ∙ z .seats;
         nodes = length-written 0 (b .nodes) (roles * p) (t .nodes) roles ∙ z .nodes;
+        naming = n;
         currents = length-written (pos 0) (b .currents) (branches * p) (t .currents) branches ∙ z .currents;
       }
 
-  pub cards-standing : cardsOf (standing b p t levels next) ≡ cardsOf b
+  pub cards-standing : cardsOf (standing b p t sets levels next) ≡ cardsOf b
   unfolding cardsOf
   cards-standing = refl
 
   pub transistors-standing : p < transistorsMost → length (t .nodes) ≡ roles → length (t .currents) ≡ branches →
-      transistorsOf (standing b p t levels next) ≡ set (transistorsOf b) p t
+      transistorsOf (standing b p t sets levels next) ≡ set (transistorsOf b) p t
   unfolding transistorsOf
   transistors-standing h l k =
       transistors-set (b .issues) (b .cards) (b .seats) (b .nodes) (b .currents) p t h l k (z .issues) (z .cards)
@@ -396,6 +421,7 @@ invariant-loaded {b} name bytes g = go (mayLoad b name bytes) refl
               )
               (holds-card (g .holds) p (b .next + 1) card (omega arith) (free-away (g .holds) (l .room))
               (λ h. made-ready bytes c (l .judged)));
+          named = rw (transistors-holding b (g .sized) p card (b .next + 1)) (g .named);
         }
 
 invariant-withdrawn : {b : Board} (n : ℤ) → Invariant b → Invariant (withdrawnOf b n .board)
@@ -417,6 +443,7 @@ invariant-withdrawn {b} n g = go _ refl
               )
               (holds-card (g .holds) p (b .next) emptyCard (g .holds .begun)
               (unused-away (g .holds) (issueOf n) p a (w .unused)) (λ h. absurd (h refl)));
+          named = rw (transistors-holding b (g .sized) p emptyCard (b .next)) (g .named);
         }
 
 -- what a card looks at is a node for each role
@@ -455,11 +482,11 @@ invariant-placed-on {b} card nodes sized g = go _ refl
         let t = newcomer b i nodes in
         let long = length-map nodes natAbs ∙ sized in
         record {
-          sized = sized-standing b (g .sized) free t _ (b .next + 1) (g .sized .volts);
+          sized = sized-standing b (g .sized) free t _ _ (b .next + 1) (g .sized .volts) (at-nodes-long _ _ _);
           holds =
               rw (
-                cards-standing b (g .sized) free t _ (b .next + 1),
-                transistors-standing b (g .sized) free t _ (b .next + 1) below long (ticks-count _ _ _),
+                cards-standing b (g .sized) free t _ _ (b .next + 1),
+                transistors-standing b (g .sized) free t _ _ (b .next + 1) below long (ticks-count _ _ _),
               )
               (holds-transistor (g .holds) free (b .next + 1) t (omega arith)
               (λ h. record {
@@ -473,6 +500,11 @@ invariant-placed-on {b} card nodes sized g = go _ refl
               })
               (totals-put (cardsOf b) (transistorsOf b) (voltsOf b) (g .holds .balanced) free
               (rw (g .holds .transistors-long) below) t (free-empty g below) (begun g)));
+          named =
+              rw
+              (transistors-standing b (g .sized) free t (joined (b .naming) free (t .nodes))
+              (putIn (levelsOf b) (workedAt (cardsOf b) i) (t .nodes)) (b .next + 1) below long (ticks-count _ _ _))
+              (scans-joined (g .named) free t (rw (g .holds .transistors-long) below) (free-empty g below) (begun g));
         }
 
 invariant-placed : {b : Board} (card : ℤ) (nodes : List ℤ) → length nodes ≡ roles → Invariant b →
@@ -491,16 +523,22 @@ invariant-lifted {b} n g = go _ refl
         let a = at-transistor (issueOf n) (transistorsOf b) i (g .holds .transistors-long) (lifts _ e) in
         let below = subst (λ (k : ℕ). i < k) (g .holds .transistors-long) (a .below) in
         record {
-          sized = sized-standing b (g .sized) i emptyTransistor _ (b .next) (g .sized .volts);
+          sized = sized-standing b (g .sized) i emptyTransistor _ _ (b .next) (g .sized .volts) (at-nodes-long _ _ _);
           holds =
               rw (
-                cards-standing b (g .sized) i emptyTransistor _ (b .next),
-                transistors-standing b (g .sized) i emptyTransistor _ (b .next) below (length-replicate roles zero)
+                cards-standing b (g .sized) i emptyTransistor _ _ (b .next),
+                transistors-standing b (g .sized) i emptyTransistor _ _ (b .next) below (length-replicate roles zero)
                     (length-replicate branches (pos 0)),
               )
               (holds-transistor (g .holds) i (b .next) emptyTransistor (g .holds .begun) (λ h. absurd (h refl))
               (totals-taken (cardsOf b) (transistorsOf b) (voltsOf b) (g .holds .balanced) i (a .below) emptyTransistor
               (λ z. a .given (sym (a .issue-is) ∙ z)) refl (held-is g i)));
+          named =
+              rw
+              (transistors-standing b (g .sized) i emptyTransistor (parted (b .naming) i (transistorAt b i .nodes))
+              (takenOut (levelsOf b) (transistorAt b i .nodes) (transistorAt b i .currents)) (b .next) below
+              (length-replicate roles zero) (length-replicate branches (pos 0)))
+              (scans-parted (g .named) i emptyTransistor (a .below) refl);
         }
 
 -- ---- moving
@@ -554,6 +592,7 @@ module _ {b : Board} (g : Invariant b) (shifts : List Shift) where
         cards = z .cards;
         seats = z .seats;
         nodes = z .nodes;
+        naming = z .naming;
         currents =
             renewed-long (λ (i : ℕ). touched shifts (transistorAt b i)) (currentThen b shifts) (b .currents)
             transistorsMost 0 ∙ z .currents;
@@ -618,6 +657,11 @@ module _ {b : Board} (g : Invariant b) (shifts : List Shift) where
       (transistors-count ∙ sym (g .holds .transistors-long))
       (λ i q. ap (placeGives (cardsOf b) volts (0 + n)) (transistor-then i (rw transistors-count at q))))
 
+  -- who names a node is not moved
+  scan-then : (n : ℕ) → scanOf (transistorsOf b) n ≡ scanOf (transistorsOf then) n
+  scan-then n =
+      set-same _ _ transistorsMost (λ j h. sym (ap (standsAt n) (transistor-then j h)))
+
   pub invariant-settled : isOver (firstOver b shifts .over) ≡ false → length (shifted (b .volts) shifts) ≡ nodesMost →
       AllNear (shifted (b .volts) shifts) → Invariant then
   unfolding changes cardsOf
@@ -649,6 +693,7 @@ module _ {b : Board} (g : Invariant b) (shifts : List Shift) where
                   transistorsMost (g .holds .transistors-long)
                   ∙ sym (totals-then (map givenBack (shifted (b .volts) shifts)));
             };
+        named = record { at = λ n h. g .named .at n h ∙ scan-then n };
       }
 
 invariant-moved : {b : Board} (pairs : List ℤ) → Invariant b → Invariant (movedOf b pairs .board)
@@ -688,6 +733,22 @@ invariant-opened {b} n g = go (mayOpen b n)
     go (no f) = g
     go (yes i) = g
 
+invariant-listed : {b : Board} (n : ℤ) (room : ℕ) → Invariant b → Invariant (listedOf b n room .board)
+unfolding listedOf
+invariant-listed {b} n room g = go (mayList b n room)
+  where
+    go : (w : Verdict ℕ) → Invariant (listed b w .board)
+    go (no f) = g
+    go (yes k) = g
+
+invariant-summed : {b : Board} (n : ℤ) → Invariant b → Invariant (summedOf b n .board)
+unfolding summedOf
+invariant-summed {b} n g = go (nodeVerdict n)
+  where
+    go : (w : Verdict ℕ) → Invariant (summed b w .board)
+    go (no f) = g
+    go (yes k) = g
+
 invariant-answered : {b : Board} (c : Call) → Invariant b → Invariant (answered b c .board)
 unfolding answered
 invariant-answered (load name bytes) g = invariant-loaded name bytes g
@@ -698,6 +759,8 @@ invariant-answered (withdraw n) g = invariant-withdrawn n g
 invariant-answered (lookUp name) g = invariant-looked name g
 invariant-answered (node n) g = invariant-showed n g
 invariant-answered (currents n) g = invariant-opened n g
+invariant-answered (who n room) g = invariant-listed n room g
+invariant-answered (sumUp n) g = invariant-summed n g
 
 pub invariant-after : (calls : List Call) → Invariant (boardAfter calls)
 unfolding boardAfter

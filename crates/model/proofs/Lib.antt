@@ -3,6 +3,7 @@ pub mod Lists
 pub mod NodeSums
 pub mod Gains
 pub mod Shifts
+pub mod Named
 pub mod Invariant
 pub mod Lent
 pub mod PlacingTests

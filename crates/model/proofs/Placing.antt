@@ -31,8 +31,9 @@ use Rattle.placing.specs.declared.Way.{Way}
 use Rattle.placing.specs.declared.Way.the-variants.{Go, Stop}
 use Rattle.places.specs.Gathered.{workedAt}
 use Rattle.places.specs.Finding.{cardPlace, transistorPlace, freeTransistor}
+use Rattle.places.specs.Naming.{joined, parted}
 use Rattle.places.specs.inner.Flat.{firstAt, freePlace, numberPlace, tiesAt, wideAt}
-use Rattle.places.specs.inner.Parts.{placeOr}
+use Rattle.places.specs.inner.Parts.{placeOr, Entering}
 use Rattle.placing.specs.inner.Placing.{placing, wayOf}
 use Rattle.places.specs.laws.Gather.{card-place, ties-flat, wide-flat, first-transistor, transistor-place}
 use Rattle.places.specs.laws.Founds.{not-there}
@@ -57,7 +58,7 @@ use Rattle.model.proofs.Lent.{deckIn, ready-there, issue-there, nodes-t
 use Rattle.model.proofs.Lent.{card-able, volts-kept, room-now}
 
 places-stay : {b : Board} {f : Refusal} (a : Answered) → refuse b f ≡ a →
-    LeavesPlaces a (Refused f) (b .issues) (b .cards) (b .seats) (b .nodes) (b .totals) (b .currents) (b .next)
+    LeavesPlaces a (Refused f) (b .issues) (b .cards) (b .seats) (b .nodes) (b .naming) (b .totals) (b .currents) (b .next)
 places-stay a e =
     rw (← e)
     (record {
@@ -66,6 +67,7 @@ places-stay a e =
       cards-are = refl;
       seats-are = refl;
       nodes-are = refl;
+      naming-are = refl;
       totals-are = refl;
       currents-are = refl;
       next-is = refl;
@@ -119,7 +121,7 @@ module _ (b : Board) (k : Reached b) (card : ℤ) (nodes : List ℤ) (long : len
   may-is = then-lastly place joins _ (b .next) nodes _ _
 
   pub place-stops : (f : Refusal) → w ≡ Stop f →
-      LeavesPlaces (placedOn b card nodes) (Refused f) (b .issues) (b .cards) (b .seats) (b .nodes) (b .totals)
+      LeavesPlaces (placedOn b card nodes) (Refused f) (b .issues) (b .cards) (b .seats) (b .nodes) (b .naming) (b .totals)
       (b .currents) (b .next)
   place-stops f e =
       places-stay {b = b} (placedOn b card nodes)
@@ -156,6 +158,15 @@ module _ (b : Board) (k : Reached b) (card : ℤ) (nodes : List ℤ) (long : len
     on-wired : (j : ℕ) → getD on j 0 < nodesMost
     on-wired j = rw on-is (on-nodes nodes (passed .on) j)
 
+    pub place-enters : Entering (b .naming) free on
+    place-enters =
+        record {
+          sets-long = g .sized .naming;
+          place = free-there;
+          on-long = on-long;
+          nodes = record { wired = on-wired };
+        }
+
     pub place-works : (table : List ℕ) → table ≡ entries → Workable table (deckIn b) i on (b .volts)
     place-works table h =
         record {
@@ -187,14 +198,14 @@ module _ (b : Board) (k : Reached b) (card : ℤ) (nodes : List ℤ) (long : len
 
       pub place-over : isOver (o .over) ≡ true →
           LeavesPlaces (placedOn b card nodes) (Refused (drawnBy (b .next) (o .over))) (b .issues) (b .cards) (b .seats)
-          (b .nodes) (b .totals) (b .currents) (b .next)
+          (b .nodes) (b .naming) (b .totals) (b .currents) (b .next)
       place-over h = places-stay {b = b} (placedOn b card nodes) (rw (may-is, found .0, ← over-is, h))
 
       pub places-it : isOver (o .over) ≡ false → {l : List ℤ} →
           More nodesMost (b .totals) l (ticksGive on (o .ticks)) →
           LeavesPlaces (placedOn b card nodes) (Issue (b .next)) (set (b .issues) free (b .next))
           (set (b .cards) free (getD (b .held) i 0)) (set (b .seats) free i) (written 0 (b .nodes) (roles * free) on
-          roles) l
+          roles) (joined (b .naming) free on) l
           (written (pos 0) (b .currents) (branches * free) (o .ticks) branches) (b .next + 1)
       unfolding flow
       places-it h {l} more =
@@ -210,6 +221,9 @@ module _ (b : Board) (k : Reached b) (card : ℤ) (nodes : List ℤ) (long : len
             nodes-are =
                 ap (λ (j : ℕ). written 0 (b .nodes) (roles * j) on roles) (found .1)
                 ∙ ap (λ (m : List ℕ). written 0 (b .nodes) (roles * freeTransistor (transistorsOf b)) m roles) on-is;
+            naming-are =
+                ap (λ (j : ℕ). joined (b .naming) j on) (found .1)
+                ∙ ap (joined (b .naming) (freeTransistor (transistorsOf b))) on-is;
             totals-are =
                 more-is (flow (workedAt (cardsOf b) i) (map natAbs nodes) (voltsOf b)) more
                 (λ n q. rw (ticks-are, on-is));
@@ -231,7 +245,7 @@ module _ (b : Board) (k : Reached b) (z : ℤ) where
       transistor-place (b .issues) (b .cards) (b .seats) (b .nodes) (b .currents) (issueOf z)
 
   pub lift-unknown : numberPlace transistorsMost (issueOf z) (b .issues) ≡ none →
-      LeavesPlaces (liftedOf b z) (Refused Unknown) (b .issues) (b .cards) (b .seats) (b .nodes) (b .totals)
+      LeavesPlaces (liftedOf b z) (Refused Unknown) (b .issues) (b .cards) (b .seats) (b .nodes) (b .naming) (b .totals)
       (b .currents) (b .next)
   unfolding liftedOf liftVerdict
   lift-unknown e = places-stay {b = b} (liftedOf b z) (rw (same-transistor, e))
@@ -264,9 +278,18 @@ module _ (b : Board) (k : Reached b) (z : ℤ) where
         rw p (length-stretch (pos 0) (b .currents) (branches * i) branches),
       )
 
+      pub lift-leaves : Entering (b .naming) i on
+      lift-leaves =
+          record {
+            sets-long = invariant k .sized .naming;
+            place = lift-there;
+            on-long = rw o (length-stretch 0 (b .nodes) (roles * i) roles);
+            nodes = record { wired = rw nodes-are (invariant k .holds .transistor i leaver-stands .wired) };
+          }
+
       pub lifts-it : {l : List ℤ} → More nodesMost (b .totals) l (ticksBack on own) →
           LeavesPlaces (liftedOf b z) Done (set (b .issues) i 0) (set (b .cards) i 0) (set (b .seats) i 0)
-          (written 0 (b .nodes) (roles * i) (replicate roles 0) roles) l
+          (written 0 (b .nodes) (roles * i) (replicate roles 0) roles) (parted (b .naming) i on) l
           (written (pos 0) (b .currents) (branches * i) (replicate branches (pos 0)) branches) (b .next)
       unfolding liftedOf liftVerdict
       lifts-it {l} more =
@@ -277,6 +300,7 @@ module _ (b : Board) (k : Reached b) (z : ℤ) where
             cards-are = refl;
             seats-are = refl;
             nodes-are = refl;
+            naming-are = ap (parted (b .naming) i) nodes-are;
             totals-are =
                 more-is (ticksBack (transistorAt b i .nodes) (transistorAt b i .currents)) more
                 (λ n h. rw (nodes-are, own-is));
@@ -296,18 +320,18 @@ seen-flat b k card given =
     (card-place (b .held) (b .names) (b .numbers) (b .powers) (b .ticks) (b .switches) (issueOf card))
 
 pub lent-seen : {b : Board} {numbers powers ticks : List ℕ} {switches : List Bool}
-    {held issues cards seats nodes volts : List ℕ} {totals currents : List ℤ} {next : ℕ} →
-    LendsPlaces b numbers powers ticks switches held issues cards seats nodes volts totals currents next → Reached b →
+    {held issues cards seats nodes naming volts : List ℕ} {totals currents : List ℤ} {next : ℕ} →
+    LendsPlaces b numbers powers ticks switches held issues cards seats nodes naming volts totals currents next → Reached b →
     (card : ℤ) (given : List ℤ) → seenOn b card given
     ≡ lookedAt (wideBy (wideAt switches) (numberPlace cardsMost (issueOf card) held)) given
 lent-seen {b} l r card given = rw (l .lends .switches-are, l .held-are) (seen-flat b r card given)
 
 -- ---- the same of arrays that are the board's
 
-module _ {b : Board} {numbers powers ticks : List ℕ} {switches : List Bool} {held issues cards seats nodes volts :
+module _ {b : Board} {numbers powers ticks : List ℕ} {switches : List Bool} {held issues cards seats nodes naming volts :
     List ℕ}
     {totals currents : List ℤ} {next : ℕ}
-    (l : LendsPlaces b numbers powers ticks switches held issues cards seats nodes volts totals currents next)
+    (l : LendsPlaces b numbers powers ticks switches held issues cards seats nodes naming volts totals currents next)
     (r : Reached b)
     (card : ℤ) (given : List ℤ) (long : length given ≡ roles) {on : List ℕ} (on-are : on ≡ map nodeOf given) {w : Way}
     (way-is : w ≡ wayOf (freePlace issues)
@@ -318,13 +342,14 @@ module _ {b : Board} {numbers powers ticks : List ℕ} {switches : List Bool} {h
       rw (← (l .lends .switches-are), ← (l .lends .issues-are), ← (l .held-are), ← (l .next-is)) way-is
 
   pub lent-stops : (f : Refusal) → w ≡ Stop f →
-      LeavesPlaces (placedOn b card given) (Refused f) issues cards seats nodes totals currents next
+      LeavesPlaces (placedOn b card given) (Refused f) issues cards seats nodes naming totals currents next
   lent-stops f e =
       rw (
         l .lends .issues-are,
         l .cards-are,
         l .lends .seats-are,
         l .lends .nodes-are,
+        l .lends .naming-are,
         l .lends .totals-are,
         l .lends .currents-are,
         l .next-is,
@@ -340,6 +365,9 @@ module _ {b : Board} {numbers powers ticks : List ℕ} {switches : List Bool} {h
 
     pub lent-card : i < cardsMost
     lent-card = place-there b r card given long on-are own-way e
+
+    pub lent-enters : Entering naming free on
+    lent-enters = rw (l .lends .naming-are) (place-enters b r card given long on-are own-way e)
 
     pub lent-works : (table : List ℕ) → table ≡ entries →
         Workable table (deckOf numbers powers ticks switches) i on volts
@@ -369,7 +397,7 @@ module _ {b : Board} {numbers powers ticks : List ℕ} {switches : List Bool} {h
       lent-gives = rw (l .lends .totals-are) (place-gives b r card given long on-are own-way e own-works)
 
       pub lent-over : isOver (o .over) ≡ true →
-          LeavesPlaces (placedOn b card given) (Refused (drawnBy next (o .over))) issues cards seats nodes totals
+          LeavesPlaces (placedOn b card given) (Refused (drawnBy next (o .over))) issues cards seats nodes naming totals
           currents next
       lent-over h =
           rw (
@@ -377,35 +405,42 @@ module _ {b : Board} {numbers powers ticks : List ℕ} {switches : List Bool} {h
             l .cards-are,
             l .lends .seats-are,
             l .lends .nodes-are,
+            l .lends .naming-are,
             l .lends .totals-are,
             l .lends .currents-are,
             l .next-is,
           )
           (place-over b r card given long on-are own-way e own-works h)
 
+      -- whatever was left in the arrays that others write
       pub lent-places : isOver (o .over) ≡ false → {t : List ℤ} → More nodesMost totals t (ticksGive on (o .ticks)) →
+          {n s : List ℕ} {c : List ℤ} → n ≡ written 0 nodes (roles * free) on roles → s ≡ joined naming free on →
+          c ≡ written (pos 0) currents (branches * free) (o .ticks) branches →
           LeavesPlaces (placedOn b card given) (Issue next) (set issues free next) (set cards free (getD held i 0))
-          (set seats free i) (written 0 nodes (roles * free) on roles) t
-          (written (pos 0) currents (branches * free) (o .ticks) branches) (next + 1)
-      lent-places h {t} more =
+          (set seats free i) n s t c (next + 1)
+      lent-places h {t} more p q u =
           let own : More nodesMost (b .totals) t (ticksGive on (o .ticks)) = rw (← (l .lends .totals-are)) more in
           rw (
+            p,
+            q,
+            u,
             l .lends .issues-are,
             l .cards-are,
             l .lends .seats-are,
             l .lends .nodes-are,
+            l .lends .naming-are,
             l .lends .currents-are,
             l .held-are,
             l .next-is,
           )
           (places-it b r card given long on-are own-way e own-works h own)
 
-module _ {b : Board} {issues cards seats nodes : List ℕ} {totals currents : List ℤ}
-    (l : LendsStanding b issues cards seats nodes totals currents) (r : Reached b) (z : ℤ) where
+module _ {b : Board} {issues cards seats nodes naming : List ℕ} {totals currents : List ℤ}
+    (l : LendsStanding b issues cards seats nodes naming totals currents) (r : Reached b) (z : ℤ) where
   pub lent-unknown : transistorsMost ≤ placeOr transistorsMost (numberPlace transistorsMost (issueOf z) issues) →
-      LeavesPlaces (liftedOf b z) (Refused Unknown) issues cards seats nodes totals currents (b .next)
+      LeavesPlaces (liftedOf b z) (Refused Unknown) issues cards seats nodes naming totals currents (b .next)
   lent-unknown h =
-      rw (l .issues-are, l .cards-are, l .seats-are, l .nodes-are, l .totals-are, l .currents-are)
+      rw (l .issues-are, l .cards-are, l .seats-are, l .nodes-are, l .naming-are, l .totals-are, l .currents-are)
       (lift-unknown b r z (rw (← (l .issues-are)) (not-there transistorsMost (firstAt transistorsMost (issueOf z)
       issues) (eqb (issueOf z) 0) h)))
 
@@ -423,11 +458,14 @@ module _ {b : Board} {issues cards seats nodes : List ℕ} {totals currents : Li
       pub lent-takes : Givable totals on own × (length own ≡ branches)
       lent-takes = rw (l .totals-are) (lift-takes b r z i own-place own-nodes own-held)
 
+      pub lent-leaves : Entering naming i on
+      lent-leaves = rw (l .naming-are) (lift-leaves b r z i own-place own-nodes own-held)
+
       pub lent-lifts : {t : List ℤ} → More nodesMost totals t (ticksBack on own) →
           LeavesPlaces (liftedOf b z) Done (set issues i 0) (set cards i 0) (set seats i 0)
-          (written 0 nodes (roles * i) (replicate roles 0) roles) t
+          (written 0 nodes (roles * i) (replicate roles 0) roles) (parted naming i on) t
           (written (pos 0) currents (branches * i) (replicate branches (pos 0)) branches) (b .next)
       lent-lifts {t} more =
           let now : More nodesMost (b .totals) t (ticksBack on own) = rw (← (l .totals-are)) more in
-          rw (l .issues-are, l .cards-are, l .seats-are, l .nodes-are, l .currents-are)
+          rw (l .issues-are, l .cards-are, l .seats-are, l .nodes-are, l .naming-are, l .currents-are)
           (lifts-it b r z i own-place own-nodes own-held now)

@@ -1,6 +1,6 @@
 -- What a call leaves in the arrays that it was lent is the whole next board: it changes nothing else.
 use mathlib.Core.Path.{_≡_, refl}
-use mathlib.Core.List.{List}
+use mathlib.Core.List.{List, []}
 use Prim.Native.Nat.{ℕ}
 use lib.IntN.{ℤ}
 use Rattle.refusal.specs.Order.{Verdict, no, yes}
@@ -14,8 +14,8 @@ use Rattle.model.specs.inner.Lent.{Lends, LendsPlaces, LendsStanding, Le
 
 -- a board lends its own arrays
 pub own-lends : (b : Board) →
-    Lends b (b .numbers) (b .powers) (b .ticks) (b .switches) (b .issues) (b .seats) (b .nodes) (b .volts) (b .totals)
-    (b .currents)
+    Lends b (b .numbers) (b .powers) (b .ticks) (b .switches) (b .issues) (b .seats) (b .nodes) (b .naming) (b .volts)
+    (b .totals) (b .currents)
 own-lends b =
     record {
       numbers-are = refl;
@@ -25,32 +25,34 @@ own-lends b =
       issues-are = refl;
       seats-are = refl;
       nodes-are = refl;
+      naming-are = refl;
       volts-are = refl;
       totals-are = refl;
       currents-are = refl;
     }
 
 pub own-standing : (b : Board) →
-    LendsStanding b (b .issues) (b .cards) (b .seats) (b .nodes) (b .totals) (b .currents)
+    LendsStanding b (b .issues) (b .cards) (b .seats) (b .nodes) (b .naming) (b .totals) (b .currents)
 own-standing b =
     record {
       issues-are = refl;
       cards-are = refl;
       seats-are = refl;
       nodes-are = refl;
+      naming-are = refl;
       totals-are = refl;
       currents-are = refl;
     }
 
 pub own-lends-places : (b : Board) →
     LendsPlaces b (b .numbers) (b .powers) (b .ticks) (b .switches) (b .held) (b .issues) (b .cards) (b .seats)
-    (b .nodes)
+    (b .nodes) (b .naming)
     (b .volts) (b .totals) (b .currents) (b .next)
 own-lends-places b = record { lends = own-lends b; held-are = refl; cards-are = refl; next-is = refl }
 
--- b with other places of transistors, other totals and another next number
-abbrev pub withPlaces : Board → List ℕ → List ℕ → List ℕ → List ℕ → List ℤ → List ℤ → ℕ → Board
-withPlaces b issues cards seats nodes totals currents next =
+-- b with other places of transistors, other sets, other totals and another next number
+abbrev pub withPlaces : Board → List ℕ → List ℕ → List ℕ → List ℕ → List ℕ → List ℤ → List ℤ → ℕ → Board
+withPlaces b issues cards seats nodes naming totals currents next =
     record {
       numbers = b .numbers;
       powers = b .powers;
@@ -65,13 +67,15 @@ withPlaces b issues cards seats nodes totals currents next =
       cards = cards;
       seats = seats;
       nodes = nodes;
+      naming = naming;
       currents = currents;
     }
 
 -- ---- nothing else changes
 
 abbrev OnlyPlaces : Board → Board → Type 0
-OnlyPlaces b c = c ≡ withPlaces b (c .issues) (c .cards) (c .seats) (c .nodes) (c .totals) (c .currents) (c .next)
+OnlyPlaces b c =
+    c ≡ withPlaces b (c .issues) (c .cards) (c .seats) (c .nodes) (c .naming) (c .totals) (c .currents) (c .next)
 
 place-only : (b : Board) (card : ℤ) (nodes : List ℤ) → OnlyPlaces b (placedOf b card nodes .board)
 unfolding placedOf
@@ -102,60 +106,65 @@ move-only b pairs = go (mayMove b pairs)
 
 -- ---- and none of these calls tells numbers beside its answer
 
-place-plain : (b : Board) (card : ℤ) (nodes : List ℤ) → placedOf b card nodes .ticks ≡ noTicks
+abbrev pub Plain : Answered → Type 0
+Plain a = (a .ticks ≡ noTicks) × (a .list ≡ [])
+
+pub place-plain : (b : Board) (card : ℤ) (nodes : List ℤ) → Plain (placedOf b card nodes)
 unfolding placedOf
 place-plain b card nodes = go (mayPlace b card (seenOn b card nodes))
   where
-    go : (v : Verdict ℕ) → placed b (seenOn b card nodes) v .ticks ≡ noTicks
-    go (no f) = refl
-    go (yes i) = refl
+    go : (v : Verdict ℕ) → Plain (placed b (seenOn b card nodes) v)
+    go (no f) = (refl, refl)
+    go (yes i) = (refl, refl)
 
-lift-plain : (b : Board) (n : ℤ) → liftedOf b n .ticks ≡ noTicks
+pub lift-plain : (b : Board) (n : ℤ) → Plain (liftedOf b n)
 unfolding liftedOf
 lift-plain b n = go (mayLift b n)
   where
-    go : (v : Verdict ℕ) → lifted b v .ticks ≡ noTicks
-    go (no f) = refl
-    go (yes i) = refl
+    go : (v : Verdict ℕ) → Plain (lifted b v)
+    go (no f) = (refl, refl)
+    go (yes i) = (refl, refl)
 
-move-plain : (b : Board) (pairs : List ℤ) → movedOf b pairs .ticks ≡ noTicks
+pub move-plain : (b : Board) (pairs : List ℤ) → Plain (movedOf b pairs)
 unfolding movedOf
 move-plain b pairs = go (mayMove b pairs)
   where
-    go : (w : Verdict (List Shift)) → moved b w .ticks ≡ noTicks
-    go (no f) = refl
-    go (yes shifts) = refl
+    go : (w : Verdict (List Shift)) → Plain (moved b w)
+    go (no f) = (refl, refl)
+    go (yes shifts) = (refl, refl)
 
 -- ---- so that what was left is the answer, whole
 
-places-whole : (b : Board) {a : Answered} {answer : Answer} {issues cards seats nodes : List ℕ}
-    {totals currents : List ℤ} {next : ℕ} → OnlyPlaces b (a .board) → a .ticks ≡ noTicks →
-    LeavesPlaces a answer issues cards seats nodes totals currents next →
-    plain (withPlaces b issues cards seats nodes totals currents next) answer ≡ a
+places-whole : (b : Board) {a : Answered} {answer : Answer} {issues cards seats nodes naming : List ℕ}
+    {totals currents : List ℤ} {next : ℕ} → OnlyPlaces b (a .board) → Plain a →
+    LeavesPlaces a answer issues cards seats nodes naming totals currents next →
+    plain (withPlaces b issues cards seats nodes naming totals currents next) answer ≡ a
 places-whole b {a} only none l =
     rw (
       l .issues-are,
       l .cards-are,
       l .seats-are,
       l .nodes-are,
+      l .naming-are,
       l .totals-are,
       l .currents-are,
       l .next-is,
       l .answer-is,
       ← only,
-      ← none,
+      ← (none .0),
+      ← (none .1),
     )
 
-pub placed-whole : (b : Board) (card : ℤ) (on : List ℤ) {answer : Answer} {issues cards seats nodes : List ℕ}
+pub placed-whole : (b : Board) (card : ℤ) (on : List ℤ) {answer : Answer} {issues cards seats nodes naming : List ℕ}
     {totals currents : List ℤ} {next : ℕ} →
-    LeavesPlaces (placedOf b card on) answer issues cards seats nodes totals currents next →
-    plain (withPlaces b issues cards seats nodes totals currents next) answer ≡ placedOf b card on
+    LeavesPlaces (placedOf b card on) answer issues cards seats nodes naming totals currents next →
+    plain (withPlaces b issues cards seats nodes naming totals currents next) answer ≡ placedOf b card on
 placed-whole b card on l = places-whole b (place-only b card on) (place-plain b card on) l
 
-pub lifted-whole : (b : Board) (n : ℤ) {answer : Answer} {issues cards seats nodes : List ℕ}
+pub lifted-whole : (b : Board) (n : ℤ) {answer : Answer} {issues cards seats nodes naming : List ℕ}
     {totals currents : List ℤ} →
-    LeavesPlaces (liftedOf b n) answer issues cards seats nodes totals currents (b .next) →
-    plain (withPlaces b issues cards seats nodes totals currents (b .next)) answer ≡ liftedOf b n
+    LeavesPlaces (liftedOf b n) answer issues cards seats nodes naming totals currents (b .next) →
+    plain (withPlaces b issues cards seats nodes naming totals currents (b .next)) answer ≡ liftedOf b n
 lifted-whole b n l = places-whole b (lift-only b n) (lift-plain b n) l
 
 pub moved-whole : (b : Board) (pairs : List ℤ) {answer : Answer} {volts : List ℕ} {totals currents : List ℤ} →
@@ -168,5 +177,6 @@ moved-whole b pairs l =
       l .currents-are,
       l .answer-is,
       ← (move-only b pairs),
-      ← (move-plain b pairs),
+      ← (move-plain b pairs .0),
+      ← (move-plain b pairs .1),
     )

@@ -1,5 +1,6 @@
 -- The board as flat lists of numbers: the cards by their places, voltages and totals by node, the transistors by their
--- places, with the currents that they hold. And a board with the answer to a call.
+-- places, a set of places for each node, and the currents that the transistors hold. And a board with the answer to a
+-- call.
 use mathlib.Core.Bool.{Bool}
 use mathlib.Core.List.{List}
 use Prim.Native.Nat.{ℕ}
@@ -20,10 +21,13 @@ pub record Board : Type 0 where
   pub cards : List ℕ
   pub seats : List ℕ
   pub nodes : List ℕ
+  pub naming : List ℕ
   pub currents : List ℤ
 
--- the numbers of an answer stand beside it: they are 0 where it has none
+-- the numbers of an answer stand beside it: ticks, which are 0 where it has none, and a list for a lent buffer, which is
+-- empty where it has none
 pub record Answered : Type 0 where
   pub board : Board
   pub answer : Answer
   pub ticks : List ℤ
+  pub list : List ℕ

@@ -1,16 +1,16 @@
 -- The desk by its own bookkeeping: the cards held, the transistors standing, each with the very card it was placed
 -- with, the voltages and the next issue number.
--- No place, no array, no stored total and no held current is known here.
+-- No place, no array, no stored total, no held current and no set of places is known here.
 use mathlib.Core.Path.{_≡_}
 use mathlib.Core.Bool.{Bool, true, false, cond, not}
 use mathlib.Core.List.{List, [], _∷_, map}
 use Prim.Native.Nat.{ℕ, suc}
-use lib.Dec.{eqb, leb}
+use lib.Dec.{eqb, leb, ltb}
 use lib.ListN.{getD, replicate, length}
 use lib.IntN.{ℤ, pos, natAbs}
 use Rattle.refusal.specs.declared.Refusal.{Refusal}
 use Rattle.refusal.specs.declared.Refusal.the-variants.{Malformed, BadName, NameNotHeld, NoRoom, OutOfRange}
-use Rattle.refusal.specs.declared.Refusal.the-variants.{SplitCollector, CardInUse, NumbersUsedUp}
+use Rattle.refusal.specs.declared.Refusal.the-variants.{SplitCollector, CardInUse, NumbersUsedUp, ShortOutput}
 use Rattle.refusal.specs.Order.{Verdict, no, yes, refuseIf, andThen}
 use Rattle.name.specs.Name.{asked, padded, same}
 use Rattle.card.specs.Judge.{judgeOf}
@@ -19,10 +19,12 @@ use Rattle.card.specs.declared.WorkedCard.{WorkedCard}
 use Rattle.terms.specs.Rows.{roles}
 use Rattle.terms.specs.Looked.{lookedAt}
 use Rattle.totals.specs.Flow.{ticksAt, flow, sumOver}
-use Rattle.given.specs.Lists.{anyOf, larger}
+pub use Rattle.given.specs.Lists.{keepIf}
+use Rattle.given.specs.Lists.{anyOf, only, larger, largest, inOrder, different}
 use Rattle.given.specs.Arguments.{Found, none, some, issueOf, offNode, someNodeOff, tiesOf, torn, known, usedUp}
 use Rattle.given.specs.Pairs.{arePairs, somePairOff, Shift, shiftsOf, shiftedIn}
 use Rattle.model.specs.Counts.{nodesMost, cardsMost, transistorsMost}
+use Rattle.model.specs.Largest.{sizeAt}
 use Rattle.model.specs.Faults.{Fault, refuseFirst, faultsOf, faultsAmong}
 
 pub record Held : Type 0 where
@@ -51,6 +53,8 @@ pub data Call : Type 0 where
   lookUp : List ℕ → Call
   node : ℤ → Call
   currents : ℤ → Call
+  who : ℤ → (room : ℕ) → Call
+  sumUp : ℤ → Call
 
 -- one node moved: a list of one pair
 abbrev pub moveOne : ℤ → ℤ → Call
@@ -61,6 +65,8 @@ pub data Reply : Type 0 where
   done : Reply
   shows : ℤ → ℤ → Reply
   carries : List ℤ → Reply
+  lists : List ℕ → Reply
+  sums : ℕ → ℕ → ℕ → Reply
   refused : Refusal → Reply
 
 pub record Step : Type 0 where
@@ -83,10 +89,6 @@ ifTrue false a next = next
 unfoldable pub firstWith : {A : Type 0} → (A → Bool) → List A → Found A
 firstWith p [] = none
 firstWith p (a ∷ rest) = ifTrue (p a) a (firstWith p rest)
-
-abbrev pub keepIf : {A : Type 0} → Bool → A → List A → List A
-keepIf true a rest = a ∷ rest
-keepIf false a rest = rest
 
 -- those of another key
 unfoldable pub without : {A : Type 0} → (A → ℕ) → ℕ → List A → List A
@@ -192,6 +194,30 @@ abbrev pub opened : Desk → Verdict Standing → Step
 opened d (no f) = refuse d f
 opened d (yes t) = record { reply = carries (ticksAt (t .worked) (t .nodes) (d .volts)); desk = d }
 
+-- the transistors that name the node n, and their issue numbers in rising order
+abbrev pub standingOn : Desk → ℕ → List Standing
+standingOn d n = only (λ (t : Standing). anyOf (λ (m : ℕ). eqb m n) (t .nodes)) (d .standing)
+
+abbrev pub issuesOn : Desk → ℕ → List ℕ
+issuesOn d n = inOrder (map (λ (t : Standing). t .issue) (standingOn d n))
+
+abbrev pub listed : Desk → Verdict ℕ → Step
+listed d (no f) = refuse d f
+listed d (yes n) = record { reply = lists (issuesOn d n); desk = d }
+
+-- how many transistors name a node, on how many cards, and the largest size of a branch that starts or ends there, each
+-- worked at the present voltages
+abbrev pub summed : Desk → Verdict ℕ → Step
+summed d (no f) = refuse d f
+summed d (yes n) =
+    record {
+      reply =
+          sums (length (standingOn d n)) (different (map (λ (t : Standing). t .card) (standingOn d n)))
+          (largest
+          (map (λ (t : Standing). sizeAt n (t .nodes) (ticksAt (t .worked) (t .nodes) (d .volts))) (standingOn d n)));
+      desk = d;
+    }
+
 -- all that would overload in the transistors that stand, at these voltages
 abbrev pub faultsAt : Desk → List ℤ → List Fault
 faultsAt d volts = faultsAmong (λ (t : Standing). faultsOf (t .issue) (t .worked) (t .nodes) volts) (d .standing)
@@ -255,6 +281,16 @@ mayRead n = refuseIf (offNode n) OutOfRange (yes (natAbs n))
 abbrev pub mayOpen : Desk → ℤ → Verdict Standing
 mayOpen d n = known (standsAs (issueOf n) (d .standing))
 
+-- Listing who names a node: 13, then 5 where there is no room for all
+abbrev pub mayList : Desk → ℤ → ℕ → Verdict ℕ
+mayList d n room =
+    refuseIf (offNode n) OutOfRange
+    (refuseIf (ltb room (length (issuesOn d (natAbs n)))) ShortOutput (yes (natAbs n)))
+
+-- Summing a node up: 13
+abbrev pub maySum : ℤ → Verdict ℕ
+maySum n = refuseIf (offNode n) OutOfRange (yes (natAbs n))
+
 -- ---- one call
 
 unfoldable pub step : Desk → Call → Step
@@ -266,6 +302,8 @@ step d (withdraw n) = withdrawn d (mayWithdraw d n)
 step d (lookUp name) = looked d (mayLookUp d name)
 step d (node n) = showed d (mayRead n)
 step d (currents n) = opened d (mayOpen d n)
+step d (who n room) = listed d (mayList d n room)
+step d (sumUp n) = summed d (maySum n)
 
 -- a fresh desk
 unfoldable pub freshDesk : Desk

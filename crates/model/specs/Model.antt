@@ -1,10 +1,11 @@
--- The board of places, held currents and stored totals, and what each of its methods gives: the answer and the next board, whole.
+-- The board of places, kept sets, held currents and stored totals, and what each of its methods gives: the answer and the
+-- next board, whole.
 use mathlib.Core.Path.{_≡_}
 use mathlib.Core.Bool.{Bool, false}
 use mathlib.Core.List.{List, [], _∷_, map}
 use Prim.Native.Nat.{ℕ, _+_, _*_}
-use lib.Dec.{leb}
-use lib.ListN.{getD, set, replicate}
+use lib.Dec.{leb, ltb}
+use lib.ListN.{length, getD, set, replicate}
 use lib.IntN.{ℤ, pos, natAbs}
 use Rattle.refusal.specs.declared.Refusal.{Refusal}
 use Rattle.refusal.specs.Order.{Verdict, no, yes}
@@ -15,7 +16,7 @@ use Rattle.terms.specs.inner.Ready.{readyOf}
 use Rattle.terms.specs.Rows.{roles, branches}
 use Rattle.terms.specs.Looked.{lookedAt}
 use Rattle.totals.specs.Flow.{ticksAt, flow, overAt, withMore}
-use Rattle.given.specs.Lists.{anyOf}
+use Rattle.given.specs.Lists.{anyOf, largest, inOrder, different}
 use Rattle.given.specs.Arguments.{issueOf, usedUp, tiesOf, wideBy}
 use Rattle.given.specs.Pairs.{Shift, shiftsOf, shiftedIn}
 use Rattle.deck.specs.Stretch.{written}
@@ -24,6 +25,8 @@ use Rattle.deck.specs.Layout.{switchesOf}
 use Rattle.places.specs.Gathered.{Card, Transistor, cardsIn, transistorsIn, emptyCard, emptyTransistor, noCard}
 use Rattle.places.specs.Gathered.{noTransistor, workedAt}
 use Rattle.places.specs.Finding.{cardPlace, transistorPlace, freeCard, freeTransistor, standsOn, standsAt, highestAt}
+use Rattle.places.specs.Sets.{member, listOf}
+use Rattle.places.specs.Naming.{joined, parted}
 use Rattle.settle.specs.declared.First.{First}
 use Rattle.flows.specs.Back.{ticksBack}
 use Rattle.settle.specs.Change.{changes}
@@ -31,12 +34,13 @@ use Rattle.settle.specs.First.{firstBelow}
 use Rattle.settle.specs.Renewed.{renewed}
 use Rattle.model.specs.Board.{Board}
 use Rattle.model.specs.declared.Answer.{Answer}
-use Rattle.model.specs.declared.Answer.the-variants.{Issue, Done, Node, Currents, Refused}
+use Rattle.model.specs.declared.Answer.the-variants.{Issue, Done, Node, Currents, Listed, Summed, Refused}
 use Rattle.model.specs.Board.{Answered}
 use Rattle.model.specs.Counts.{nodesMost, cardsMost, transistorsMost}
 use Rattle.model.specs.Verdict.{loadVerdict, placeVerdict, moveVerdict, liftVerdict, withdrawVerdict, lookVerdict}
-use Rattle.model.specs.Verdict.{nodeVerdict, openVerdict}
-use Rattle.model.specs.Desk.{Call, load, place, move, lift, withdraw, lookUp, node, currents}
+use Rattle.model.specs.Verdict.{nodeVerdict, openVerdict, listVerdict}
+use Rattle.model.specs.Largest.{sizeAt}
+use Rattle.model.specs.Desk.{Call, load, place, move, lift, withdraw, lookUp, node, currents, who, sumUp}
 
 -- ---- what stands at a place
 
@@ -128,12 +132,13 @@ holding b i c next =
       cards = b .cards;
       seats = b .seats;
       nodes = b .nodes;
+      naming = b .naming;
       currents = b .currents;
     }
 
--- the transistor t at place i
-abbrev pub standing : Board → ℕ → Transistor → Levels → ℕ → Board
-standing b i t levels next =
+-- the transistor t at place i, and other sets
+abbrev pub standing : Board → ℕ → Transistor → List ℕ → Levels → ℕ → Board
+standing b i t sets levels next =
     record {
       numbers = b .numbers;
       powers = b .powers;
@@ -148,6 +153,7 @@ standing b i t levels next =
       cards = set (b .cards) i (t .card);
       seats = set (b .seats) i (t .seat);
       nodes = written 0 (b .nodes) (roles * i) (t .nodes) roles;
+      naming = sets;
       currents = written (pos 0) (b .currents) (branches * i) (t .currents) branches;
     }
 
@@ -168,6 +174,7 @@ leveled b levels held =
       cards = b .cards;
       seats = b .seats;
       nodes = b .nodes;
+      naming = b .naming;
       currents = held;
     }
 
@@ -189,6 +196,7 @@ freshBoard =
       cards = replicate transistorsMost 0;
       seats = replicate transistorsMost 0;
       nodes = replicate (roles * transistorsMost) 0;
+      naming = replicate nodesMost 0;
       currents = replicate (branches * transistorsMost) (pos 0);
     }
 
@@ -197,7 +205,7 @@ abbrev pub noTicks : List ℤ
 noTicks = replicate branches (pos 0)
 
 abbrev pub plain : Board → Answer → Answered
-plain b a = record { board = b; answer = a; ticks = noTicks }
+plain b a = record { board = b; answer = a; ticks = noTicks; list = [] }
 
 abbrev pub refuse : Board → Refusal → Answered
 refuse b f = plain b (Refused f)
@@ -231,6 +239,7 @@ placed b nodes (no f) = refuse b f
 placed b nodes (yes i) =
     plain
     (standing b (freeTransistor (transistorsOf b)) (newcomer b i nodes)
+    (joined (b .naming) (freeTransistor (transistorsOf b)) (map natAbs nodes))
     (putIn (levelsOf b) (workedAt (cardsOf b) i) (map natAbs nodes)) (b .next + 1))
     (Issue (b .next))
 
@@ -265,7 +274,7 @@ abbrev pub lifted : Board → Verdict ℕ → Answered
 lifted b (no f) = refuse b f
 lifted b (yes i) =
     plain
-    (standing b i emptyTransistor (takenOut (levelsOf b) (transistorAt b i .nodes) (transistorAt b i .currents))
+    (standing b i emptyTransistor (parted (b .naming) i (transistorAt b i .nodes)) (takenOut (levelsOf b) (transistorAt b i .nodes) (transistorAt b i .currents))
     (b .next))
     Done
 
@@ -306,13 +315,41 @@ showedOf b n = showed b (nodeVerdict n)
 -- what the transistor at a place holds
 abbrev pub opened : Board → Verdict ℕ → Answered
 opened b (no f) = refuse b f
-opened b (yes i) = record { board = b; answer = Currents; ticks = transistorAt b i .currents }
+opened b (yes i) = record { board = b; answer = Currents; ticks = transistorAt b i .currents; list = [] }
 
 abbrev pub mayOpen : Board → ℤ → Verdict ℕ
 mayOpen b n = openVerdict (transistorPlace (issueOf n) (transistorsOf b))
 
 unfoldable pub openedOf : Board → ℤ → Answered
 openedOf b n = opened b (mayOpen b n)
+
+-- what f tells of the transistors at the places of a node's set, and their issue numbers in rising order
+abbrev pub toldOn : {A : Type 0} → Board → (Transistor → A) → ℕ → List A
+toldOn b f n = listOf (member (getD (b .naming) n 0)) (λ (i : ℕ). f (transistorAt b i)) transistorsMost
+
+abbrev pub issuesOn : Board → ℕ → List ℕ
+issuesOn b n = inOrder (toldOn b (λ (t : Transistor). t .issue) n)
+
+abbrev pub listed : Board → Verdict ℕ → Answered
+listed b (no f) = refuse b f
+listed b (yes n) =
+    record { board = b; answer = Listed (length (issuesOn b n)); ticks = noTicks; list = issuesOn b n }
+
+abbrev pub mayList : Board → ℤ → ℕ → Verdict ℕ
+mayList b n room = listVerdict n (λ (k : ℕ). ltb room (length (issuesOn b k)))
+
+unfoldable pub listedOf : Board → ℤ → ℕ → Answered
+listedOf b n room = listed b (mayList b n room)
+
+abbrev pub summed : Board → Verdict ℕ → Answered
+summed b (no f) = refuse b f
+summed b (yes n) =
+    plain b
+    (Summed (length (toldOn b (λ (t : Transistor). t .issue) n)) (different (toldOn b (λ (t : Transistor). t .card) n))
+    (largest (toldOn b (λ (t : Transistor). sizeAt n (t .nodes) (t .currents)) n)))
+
+unfoldable pub summedOf : Board → ℤ → Answered
+summedOf b n = summed b (nodeVerdict n)
 
 -- ---- boards as calls leave them
 
@@ -325,6 +362,8 @@ answered b (withdraw n) = withdrawnOf b n
 answered b (lookUp name) = lookedOf b name
 answered b (node n) = showedOf b n
 answered b (currents n) = openedOf b n
+answered b (who n room) = listedOf b n room
+answered b (sumUp n) = summedOf b n
 
 -- the board after calls from a fresh one, the last call first in the list
 unfoldable pub boardAfter : List Call → Board

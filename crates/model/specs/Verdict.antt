@@ -6,7 +6,7 @@ use Prim.Native.Nat.{ℕ}
 use lib.Dec.{eqb}
 use lib.IntN.{ℤ, natAbs}
 use Rattle.refusal.specs.declared.Refusal.the-variants.{Malformed, BadName, NameNotHeld, NoRoom, OutOfRange}
-use Rattle.refusal.specs.declared.Refusal.the-variants.{SplitCollector, CardInUse, NumbersUsedUp}
+use Rattle.refusal.specs.declared.Refusal.the-variants.{SplitCollector, CardInUse, NumbersUsedUp, ShortOutput}
 use Rattle.refusal.specs.Order.{Verdict, yes, refuseIf, andThen}
 use Rattle.name.specs.Name.{asked}
 use Rattle.card.specs.declared.WorkedCard.{WorkedCard}
@@ -63,10 +63,14 @@ withdrawVerdict {A} found inUse = andThen (known found) (λ (a : A). refuseIf (i
 unfoldable pub lookVerdict : List ℕ → ℕ → Verdict ℕ
 lookVerdict name highest = refuseIf (not (asked name)) BadName (refuseIf (eqb highest 0) NameNotHeld (yes highest))
 
--- Reading a node: 13
+-- Reading a node, and summing one up: 13
 unfoldable pub nodeVerdict : ℤ → Verdict ℕ
 nodeVerdict n = refuseIf (offNode n) OutOfRange (yes (natAbs n))
 
 -- Reading a transistor's currents: 12
 unfoldable pub openVerdict : {A : Type 0} → Found A → Verdict A
 openVerdict found = known found
+
+-- Listing who names a node: 13, then 5 where that node's list is too long
+unfoldable pub listVerdict : ℤ → (ℕ → Bool) → Verdict ℕ
+listVerdict n short = refuseIf (offNode n) OutOfRange (refuseIf (short (natAbs n)) ShortOutput (yes (natAbs n)))

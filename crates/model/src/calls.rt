@@ -15,6 +15,7 @@ pub fn place(
     cards: &mut [u32; places::TRANSISTORS],
     seats: &mut [u8; places::TRANSISTORS],
     nodes: &mut [u8; places::ALL_NODES],
+    naming: &mut [u64; totals::NODES],
     totals: &mut [i64; totals::NODES],
     currents: &mut [i64; places::ALL_CURRENTS],
     next: &mut u32,
@@ -27,8 +28,8 @@ pub fn place(
     card: i64,
     roles: [i64; ROLES],
 ) -> Answer
-    requires { ⌜ ((b : Board) × Reached b × LendsPlaces b (now numbers) (now powers) (now ticks) (now switches) (now held) (now issues) (now cards) (now seats) (now nodes) (now volts) (now totals) (now currents) (now next)) ⌝ }
-    ensures { λ r. ⌜ ((b : Board) → Reached b → LendsPlaces b (now (numbers .entry)) (now (powers .entry)) (now (ticks .entry)) (now (switches .entry)) (now (held .entry)) (now (issues .entry)) (now (cards .entry)) (now (seats .entry)) (now (nodes .entry)) (now (volts .entry)) (now (totals .entry)) (now (currents .entry)) (now (next .entry)) → LeavesPlaces (placedOf b card roles) r (now (issues .exit)) (now (cards .exit)) (now (seats .exit)) (now (nodes .exit)) (now (totals .exit)) (now (currents .exit)) (now (next .exit))) ⌝ }
+    requires { ⌜ ((b : Board) × Reached b × LendsPlaces b (now numbers) (now powers) (now ticks) (now switches) (now held) (now issues) (now cards) (now seats) (now nodes) (now naming) (now volts) (now totals) (now currents) (now next)) ⌝ }
+    ensures { λ r. ⌜ ((b : Board) → Reached b → LendsPlaces b (now (numbers .entry)) (now (powers .entry)) (now (ticks .entry)) (now (switches .entry)) (now (held .entry)) (now (issues .entry)) (now (cards .entry)) (now (seats .entry)) (now (nodes .entry)) (now (naming .entry)) (now (volts .entry)) (now (totals .entry)) (now (currents .entry)) (now (next .entry)) → LeavesPlaces (placedOf b card roles) r (now (issues .exit)) (now (cards .exit)) (now (seats .exit)) (now (nodes .exit)) (now (naming .exit)) (now (totals .exit)) (now (currents .exit)) (now (next .exit))) ⌝ }
 {
     let n = given::issue_of(card);
     let wide = placing::is_wide(held, switches, n);
@@ -51,6 +52,7 @@ pub fn place(
             cards[free] = held[at];
             seats[free] = at as u8;
             sets::put_nodes(nodes, free, &on);
+            sets::join(naming, free, &on);
             sets::put_currents(currents, free, &own);
             *next = issue + 1;
             Answer::Issue(issue)
@@ -64,12 +66,13 @@ pub fn lift(
     cards: &mut [u32; places::TRANSISTORS],
     seats: &mut [u8; places::TRANSISTORS],
     nodes: &mut [u8; places::ALL_NODES],
+    naming: &mut [u64; totals::NODES],
     totals: &mut [i64; totals::NODES],
     currents: &mut [i64; places::ALL_CURRENTS],
     transistor: i64,
 ) -> Answer
-    requires { ⌜ ((b : Board) × Reached b × LendsStanding b (now issues) (now cards) (now seats) (now nodes) (now totals) (now currents)) ⌝ }
-    ensures { λ r. ⌜ ((b : Board) → Reached b → LendsStanding b (now (issues .entry)) (now (cards .entry)) (now (seats .entry)) (now (nodes .entry)) (now (totals .entry)) (now (currents .entry)) → LeavesPlaces (liftedOf b transistor) r (now (issues .exit)) (now (cards .exit)) (now (seats .exit)) (now (nodes .exit)) (now (totals .exit)) (now (currents .exit)) (b .next)) ⌝ }
+    requires { ⌜ ((b : Board) × Reached b × LendsStanding b (now issues) (now cards) (now seats) (now nodes) (now naming) (now totals) (now currents)) ⌝ }
+    ensures { λ r. ⌜ ((b : Board) → Reached b → LendsStanding b (now (issues .entry)) (now (cards .entry)) (now (seats .entry)) (now (nodes .entry)) (now (naming .entry)) (now (totals .entry)) (now (currents .entry)) → LeavesPlaces (liftedOf b transistor) r (now (issues .exit)) (now (cards .exit)) (now (seats .exit)) (now (nodes .exit)) (now (naming .exit)) (now (totals .exit)) (now (currents .exit)) (b .next)) ⌝ }
 {
     let n = given::issue_of(transistor);
     let i = places::transistor_at(issues, n);
@@ -84,6 +87,7 @@ pub fn lift(
     seats[i] = 0;
     let none = [0u8; ROLES];
     sets::put_nodes(nodes, i, &none);
+    sets::leave(naming, i, &on);
     let still = [0i64; BRANCHES];
     sets::put_currents(currents, i, &still);
     Answer::Done

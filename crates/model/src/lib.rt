@@ -11,5 +11,9 @@ pub enum Answer {
     Node(i64, i64),
     // those of a transistor, which stand beside the answer: an enum holds no array
     Currents,
+    // how many transistors were listed in the buffer that was lent for them
+    Listed(u32),
+    // a node's transistors, their cards, and the largest size of a branch there
+    Summed(u32, u32, u64),
     Refused(Refusal),
 }

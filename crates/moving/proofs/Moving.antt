@@ -34,6 +34,8 @@ use Rattle.model.specs.Model.{cardsOf, transistorsOf, transistorAt, workedOn, s
 use Rattle.model.specs.Model.{firstOver, gains, currentThen, heldThen, refuse, movedOf, Reached}
 use Rattle.model.specs.inner.Lent.{Lends, LeavesLevels}
 use Rattle.moving.specs.inner.Pairs.{NamesAny}
+use Rattle.places.specs.laws.Members.{member-set}
+use Rattle.moving.proofs.Pairs.{any-same}
 use Rattle.model.proofs.Shifts.{shifted-long, shifted-near}
 use Rattle.model.proofs.Gains.{more-is, touched-stands, gains-small}
 use Rattle.model.proofs.Invariant.{Invariant, invariant, held-is, totals-long}
@@ -60,7 +62,7 @@ move-off b pairs e f = levels-stay {b = b} (movedOf b pairs) (rw (e, f))
 
 module _ (b : Board) (k : Reached b) (pairs : List ℤ) (good : arePairs pairs ≡ true) (on : somePairOff pairs ≡ false)
     (will : List ℕ) (will-is : will ≡ shifted (b .volts) (shiftsOf pairs)) (places : ℕ)
-    (pe : NamesAny pairs (b .issues) (b .nodes) places) where
+    (pe : NamesAny pairs (b .naming) places) where
   g : Invariant b
   g = invariant k
 
@@ -71,7 +73,10 @@ module _ (b : Board) (k : Reached b) (pairs : List ℤ) (good : arePairs pairs �
   worked-is : (i : ℕ) → i < transistorsMost → member places i ≡ touched shifts (transistorAt b i)
   worked-is i h =
       pe .is i h
-      ∙ ap (λ (t : Transistor). anyOf (λ (s : Shift). standsAt (s .node) t) shifts) (sym (stands-there b i h))
+      ∙ any-same (λ (s : Shift). member (getD (b .naming) (s .node) 0) i)
+      (λ (s : Shift). standsAt (s .node) (transistorAt b i)) pairs on
+      (λ s q. ap (λ (x : ℕ). member x i) (g .named .at (s .node) q)
+      ∙ member-set (λ (j : ℕ). standsAt (s .node) (transistorAt b j)) transistorsMost i h)
 
   stands : (i : ℕ) → touched shifts (transistorAt b i) ≡ true → transistorAt b i .issue ≡ 0 → ⊥
   stands i t = touched-stands shifts (transistorAt b i) t
@@ -159,8 +164,8 @@ module _ (b : Board) (k : Reached b) (pairs : List ℤ) (good : arePairs pairs �
 
 -- ---- the same of arrays that are the board's
 
-module _ {b : Board} {numbers powers ticks : List ℕ} {switches : List Bool} {issues seats nodes volts : List ℕ}
-    {totals currents : List ℤ} (l : Lends b numbers powers ticks switches issues seats nodes volts totals currents)
+module _ {b : Board} {numbers powers ticks : List ℕ} {switches : List Bool} {issues seats nodes naming volts : List ℕ}
+    {totals currents : List ℤ} (l : Lends b numbers powers ticks switches issues seats nodes naming volts totals currents)
     (pairs : List ℤ) where
   pub lent-malformed : arePairs pairs ≡ false →
       LeavesLevels (movedOf b pairs) (Refused Malformed) volts totals currents
@@ -171,12 +176,12 @@ module _ {b : Board} {numbers powers ticks : List ℕ} {switches : List Bool} {i
   lent-off e f = rw (l .volts-are, l .totals-are, l .currents-are) (move-off b pairs e f)
 
   module _ (r : Reached b) (good : arePairs pairs ≡ true) (on : somePairOff pairs ≡ false) (will : List ℕ)
-      (will-is : will ≡ shifted volts (shiftsOf pairs)) (places : ℕ) (pe : NamesAny pairs issues nodes places) where
+      (will-is : will ≡ shifted volts (shiftsOf pairs)) (places : ℕ) (pe : NamesAny pairs naming places) where
     own-will : will ≡ shifted (b .volts) (shiftsOf pairs)
     own-will = rw (← (l .volts-are)) will-is
 
-    own-places : NamesAny pairs (b .issues) (b .nodes) places
-    own-places = rw (← (l .issues-are), ← (l .nodes-are)) pe
+    own-places : NamesAny pairs (b .naming) places
+    own-places = rw (← (l .naming-are)) pe
 
     pub lent-settling :
         Settling (roundOf (deckOf numbers powers ticks switches) issues seats nodes places will) currents totals

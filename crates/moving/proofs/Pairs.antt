@@ -1,11 +1,11 @@
 -- Going through a list of pairs: what is kept so far and what is named so far, with the pairs that are left.
 use mathlib.Core.Path.{_≡_, refl, sym, ap, _∙_}
 use mathlib.Core.Bool.{Bool, true, false, _||_, or-true, or-false, or-assoc}
-use mathlib.Core.List.{List}
-use Prim.Native.Nat.{ℕ, zero, suc, _+_, _/_, _%_, _^_, _≤_, _<_}
-use native.Mathlib.Nat.{mod-lt, zero-div}
+use mathlib.Core.List.{List, [], _∷_}
+use Prim.Native.Nat.{ℕ, _+_, _^_, _≤_, _<_, _%_}
+use native.Mathlib.Nat.{zero-div}
 use native.Mathlib.Omega.{arith}
-use lib.Bits.{bitOr, or-shr, or-mod}
+use lib.Bits.{bitOr}
 use lib.Dec.{eqb}
 use lib.ListN.{length, getD, drop, set}
 use lib.IntN.{ℤ, pos, natAbs}
@@ -19,37 +19,34 @@ use Rattle.given.specs.laws.Pairs.{shifts-from, off-from, shifts-end, off-end}
 use Rattle.given.specs.inner.Nodes.{nodeOf}
 use Rattle.places.specs.Counts.{transistorsMost}
 use Rattle.places.specs.Sets.{member}
-use Rattle.places.specs.inner.Flat.{standsAtIn, namingIn}
-use Rattle.places.specs.laws.Members.{member-set}
+use Rattle.places.specs.laws.Members.{member-or}
+use Rattle.totals.specs.Gives.{nodesMost}
 use Rattle.model.specs.Model.{shifted}
 use Rattle.model.proofs.Gains.{either-false}
+use Rattle.model.proofs.Verdicts.{on-node}
 use Rattle.moving.specs.inner.Pairs.{KeepsPairs, NamesAny}
-
--- a place is in either set
-pub member-or : (a b i : ℕ) → member (bitOr a b) i ≡ member a i || member b i
-member-or a b i =
-    ap (λ (x : ℕ). eqb x 1)
-    (ap (λ (x : ℕ). x % 2) (or-shr a b i) ∙ or-mod (a / 2 ^ i) (b / 2 ^ i) 1)
-    ∙ digit (a / 2 ^ i % 2) (b / 2 ^ i % 2) (mod-lt (a / 2 ^ i) (omega arith)) (mod-lt (b / 2 ^ i) (omega arith))
-  where
-    digit : (x y : ℕ) → x < 2 → y < 2 → eqb (bitOr x y) 1 ≡ eqb x 1 || eqb y 1
-    digit zero zero h k = refl
-    digit zero (suc zero) h k = refl
-    digit (suc zero) zero h k = refl
-    digit (suc zero) (suc zero) h k = refl
-    digit (suc (suc x)) y h k = absurd (omega arith)
-    digit zero (suc (suc y)) h k = absurd (omega arith)
-    digit (suc zero) (suc (suc y)) h k = absurd (omega arith)
 
 -- a node in range is held by its number
 node-held : (z : ℤ) {n : ℕ} → offNode z ≡ false → n ≡ nodeOf z → n ≡ natAbs z
 node-held z e h = rw e at h
 
+-- tests that agree on every node of the board agree on pairs in range
+pub any-same : (p q : Shift → Bool) (pairs : List ℤ) → somePairOff pairs ≡ false →
+    ((s : Shift) → s .node < nodesMost → p s ≡ q s) → anyOf p (shiftsOf pairs) ≡ anyOf q (shiftsOf pairs)
+unfolding anyOf shiftsOf somePairOff
+any-same p q [] e h = refl
+any-same p q (n ∷ []) e h = refl
+any-same p q (n ∷ v ∷ rest) e h =
+    let both = either-false (offNode n || offVolts v) (somePairOff rest) e in
+    let on = either-false (offNode n) (offVolts v) (both .0) .0 in
+    let here = h (record { node = natAbs n; volts = v }) (on-node n on) in
+    let more = any-same p q rest (both .1) h in λ j. here j || more j
+
 -- ---- naming
 
-module _ (pairs : List ℤ) (issues nodes : List ℕ) where
+module _ (pairs : List ℤ) (naming : List ℕ) where
   abbrev anyAt : List Shift → ℕ → Bool
-  anyAt shifts k = anyOf (λ (s : Shift). standsAtIn (s .node) issues nodes k) shifts
+  anyAt shifts k = anyOf (λ (s : Shift). member (getD naming (s .node) 0) k) shifts
 
   pub record NamedTo (places i : ℕ) : Type 0 where
     pub within : i ≤ length pairs
@@ -63,10 +60,20 @@ module _ (pairs : List ℤ) (issues nodes : List ℕ) where
       empty : (k : ℕ) → member 0 k ≡ false
       empty k = ap (λ (x : ℕ). eqb (x % 2) 1) (zero-div (2 ^ k))
 
-  pub named-more : {places i n more : ℕ} → NamedTo places i → i + 1 < length pairs → n ≡ nodeOf (getD pairs i (pos 0)) →
-      more ≡ namingIn n issues nodes → NamedTo (bitOr places more) (i + 2)
+  -- the node of the pair that is next is one of the board
+  pub node-next : {places i n : ℕ} → NamedTo places i → i + 1 < length pairs → n ≡ nodeOf (getD pairs i (pos 0)) →
+      n < nodesMost
+  node-next {places} {i} {n} t h ne =
+      let p = offNode (getD pairs i (pos 0)) in
+      let q = offVolts (getD pairs (i + 1) (pos 0)) in
+      let o : (p || q) || somePairOff (drop (i + 2) pairs) ≡ false = sym (off-from pairs i h) ∙ t .on in
+      let on = either-false p q (either-false (p || q) (somePairOff (drop (i + 2) pairs)) o .0) .0 in
+      rw (node-held (getD pairs i (pos 0)) on ne) (on-node (getD pairs i (pos 0)) on)
+
+  pub named-more : {places i n : ℕ} → NamedTo places i → i + 1 < length pairs → n ≡ nodeOf (getD pairs i (pos 0)) →
+      NamedTo (bitOr places (getD naming n 0)) (i + 2)
   unfolding anyOf
-  named-more {places} {i} {n} {more} t h ne me =
+  named-more {places} {i} {n} t h ne =
       let p = offNode (getD pairs i (pos 0)) in
       let q = offVolts (getD pairs (i + 1) (pos 0)) in
       let r = somePairOff (drop (i + 2) pairs) in
@@ -77,19 +84,15 @@ module _ (pairs : List ℤ) (issues nodes : List ℕ) where
         within = omega arith;
         on = both .1;
         left =
-            λ k s.
-            let m : member more k ≡ standsAtIn n issues nodes k =
-            ap (λ (s : ℕ). member s k) me ∙ member-set (standsAtIn n issues nodes) transistorsMost k s
-            in
-            ap (λ (b : Bool). b || anyAt (shiftsOf (drop (i + 2) pairs)) k) (member-or places more k)
-            ∙ or-assoc (member places k) (member more k) (anyAt (shiftsOf (drop (i + 2) pairs)) k)
-            ∙ ap (λ (b : Bool). member places k || (b || anyAt (shiftsOf (drop (i + 2) pairs)) k))
-            (m ∙ ap (λ (x : ℕ). standsAtIn x issues nodes k) at)
+            λ k s. ap (λ (b : Bool). b || anyAt (shiftsOf (drop (i + 2) pairs)) k) (member-or places (getD naming n 0) k)
+            ∙ or-assoc (member places k) (member (getD naming n 0) k) (anyAt (shiftsOf (drop (i + 2) pairs)) k)
+            ∙ ap (λ (x : ℕ). member places k || (member (getD naming x 0) k || anyAt (shiftsOf (drop (i + 2) pairs)) k))
+            at
             ∙ ap (λ (l : List Shift). member places k || anyAt l k) (sym (shifts-from pairs i h))
             ∙ t .left k s;
       }
 
-  pub named-all : {places i : ℕ} → NamedTo places i → length pairs ≤ i + 1 → NamesAny pairs issues nodes places
+  pub named-all : {places i : ℕ} → NamedTo places i → length pairs ≤ i + 1 → NamesAny pairs naming places
   unfolding anyOf
   named-all {places} {i} t h =
       record {

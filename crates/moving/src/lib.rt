@@ -47,17 +47,16 @@ fn keep_pairs(will: &mut [u32; NODES], pairs: &[i64]) -> bool
     true
 }
 
-// The places whose transistors name one of the nodes.
-fn naming_any(issues: &[u32; TRANSISTORS], nodes: &[u8; places::ALL_NODES], pairs: &[i64]) -> u64
+// The places in the set of one of the nodes.
+fn naming_any(naming: &[u64; NODES], pairs: &[i64]) -> u64
     requires { ⌜ somePairOff (now pairs) ≡ false ⌝ }
-    ensures { λ r. ⌜ NamesAny (now (pairs .entry)) (now (issues .entry)) (now (nodes .entry)) r ⌝ }
+    ensures { λ r. ⌜ NamesAny (now (pairs .entry)) (now (naming .entry)) r ⌝ }
 {
     let mut set: u64 = 0;
     let mut i: usize = 0;
     while i + 1 < pairs.len() {
-        let n = given::node_of(pairs[i]);
-        let more = sets::naming(issues, nodes, n);
-        set = set | more;
+        let named = given::node_of(pairs[i]) as usize;
+        set = set | naming[named];
         i += 2;
     }
     set
@@ -75,10 +74,11 @@ pub fn move_all(
     issues: &[u32; TRANSISTORS],
     seats: &[u8; TRANSISTORS],
     nodes: &[u8; places::ALL_NODES],
+    naming: &[u64; NODES],
     pairs: &[i64],
 ) -> Answer
-    requires { ⌜ ((b : Board) × Reached b × Lends b (now numbers) (now powers) (now ticks) (now switches) (now issues) (now seats) (now nodes) (now volts) (now totals) (now currents)) ⌝ }
-    ensures { λ r. ⌜ ((b : Board) → Reached b → Lends b (now (numbers .entry)) (now (powers .entry)) (now (ticks .entry)) (now (switches .entry)) (now (issues .entry)) (now (seats .entry)) (now (nodes .entry)) (now (volts .entry)) (now (totals .entry)) (now (currents .entry)) → LeavesLevels (movedOf b (now (pairs .entry))) r (now (volts .exit)) (now (totals .exit)) (now (currents .exit))) ⌝ }
+    requires { ⌜ ((b : Board) × Reached b × Lends b (now numbers) (now powers) (now ticks) (now switches) (now issues) (now seats) (now nodes) (now naming) (now volts) (now totals) (now currents)) ⌝ }
+    ensures { λ r. ⌜ ((b : Board) → Reached b → Lends b (now (numbers .entry)) (now (powers .entry)) (now (ticks .entry)) (now (switches .entry)) (now (issues .entry)) (now (seats .entry)) (now (nodes .entry)) (now (naming .entry)) (now (volts .entry)) (now (totals .entry)) (now (currents .entry)) → LeavesLevels (movedOf b (now (pairs .entry))) r (now (volts .exit)) (now (totals .exit)) (now (currents .exit))) ⌝ }
 {
     if !are_pairs(pairs) {
         return Answer::Refused(Refusal::Malformed);
@@ -87,7 +87,7 @@ pub fn move_all(
     if !keep_pairs(&mut will, pairs) {
         return Answer::Refused(Refusal::OutOfRange);
     }
-    let set = naming_any(issues, nodes, pairs);
+    let set = naming_any(naming, pairs);
     let mut l = *totals;
     let first = settle::settle(
         currents,

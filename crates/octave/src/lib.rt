@@ -327,11 +327,25 @@ pub struct Exponential {
     pub n: u64,
 }
 
+// Lays the table out, and its last point once more. A function that calls itself is never written into its callers, so that 257 stores do not stand between a board and its copy there.
+fn lay(t: &mut Table, turns: u64)
+    ensures { λ _. ⌜ now (t .exit) ≡ entries ⌝ }
+{
+    if turns == 0 {
+        *t = POWERS;
+        return;
+    }
+    lay(t, turns - 1);
+    t[ENTRIES - 1] = 2147483648;
+}
+
 // The table, to be made once for a call and lent.
 pub fn table() -> Table
     ensures { λ r. ⌜ r ≡ entries ⌝ }
 {
-    POWERS
+    let mut t = [0u32; ENTRIES];
+    lay(&mut t, 1);
+    t
 }
 
 // What is worked once for the octave w.

@@ -20,7 +20,7 @@ use Rattle.terms.specs.Rows.{roles}
 use Rattle.rows.specs.Outcome.{outcomeAcross}
 use Rattle.polarity.specs.Polarity.{outcomeOf}
 use Rattle.model.specs.declared.Answer.{Answer}
-use Rattle.model.specs.declared.Answer.the-variants.{Issue, Done, Node, Currents, Refused}
+use Rattle.model.specs.declared.Answer.the-variants.{Issue, Done, Node, Currents, Listed, Summed, Refused}
 use Rattle.model.specs.Board.{Board}
 use Rattle.model.specs.Model.{freshBoard, loadedOf, placedOf, movedOf}
 use Rattle.paper.specs.Words.{one, two, four, minus-zero, two-to-minus-40, two-to-minus-38, wordsOf, recordOf}
@@ -112,6 +112,8 @@ refusalIn (Issue n) = pos 0
 refusalIn Done = pos 0
 refusalIn (Node v t) = pos 0
 refusalIn Currents = pos 0
+refusalIn (Listed n) = pos 0
+refusalIn (Summed t c s) = pos 0
 
 -- lifted by 2 V: one node, the other, and both together
 abbrev pub lifts : Board → List ℤ

@@ -41,13 +41,15 @@ fn mask_of(bytes: [u8; RECORD]) -> i64 {
     c.mask as i64
 }
 
-// An answer as a number: what was issued, a node's ticks, or 0.
+// An answer as a number: what was issued, a node's ticks, how many are listed or summed, or 0.
 fn answer_number(a: Answer) -> i64 {
     match a {
         Answer::Issue(n) => n as i64,
         Answer::Done => 0,
         Answer::Node(_, ticks) => ticks,
         Answer::Currents => 0,
+        Answer::Listed(n) => n as i64,
+        Answer::Summed(n, _, _) => n as i64,
         Answer::Refused(f) => refusal::number(f) as i64,
     }
 }
@@ -112,6 +114,63 @@ fn run_stage() {
     shown::line(b"both lifted", b"", answer_number(together), 0);
 }
 
+// Two transistors listed into a buffer with no room.
+fn list_into_none(b: Board)
+    requires { ⌜ Reached b ⌝ }
+{
+    let mut none = [7u32; 0];
+    let r = b.list_node(3, &mut none);
+    let answer = r.answer;
+    shown::line(b"list of two into 0", b"", answer_number(answer), 5);
+}
+
+// Into one a number short.
+fn list_into_one(b: Board)
+    requires { ⌜ Reached b ⌝ }
+{
+    let mut short = [7u32; 1];
+    let r = b.list_node(3, &mut short);
+    let answer = r.answer;
+    shown::line(b"list of two into 1", b"", answer_number(answer), 5);
+    shown::line(b"list of two into 1", b" left", wide(short[0]), 7);
+}
+
+// Into one as long as the list.
+fn list_into_two(b: Board)
+    requires { ⌜ Reached b ⌝ }
+{
+    let mut exact = [7u32; 2];
+    let r = b.list_node(3, &mut exact);
+    let answer = r.answer;
+    shown::line(b"list of two into 2", b"", answer_number(answer), 2);
+    shown::line(b"list of two into 2", b" first", wide(exact[0]), 2);
+    shown::line(b"list of two into 2", b" second", wide(exact[1]), 3);
+}
+
+// Into a longer one, of a node of the board or of none.
+fn list_into_three(b: Board, node: i64, count: i64, second: i64)
+    requires { ⌜ Reached b ⌝ }
+{
+    let mut long = [7u32; 3];
+    let r = b.list_node(node, &mut long);
+    let answer = r.answer;
+    shown::line(b"list into 3", b"", answer_number(answer), count);
+    shown::line(b"list into 3", b" second", wide(long[1]), second);
+    shown::line(b"list into 3", b" left", wide(long[2]), 7);
+}
+
+// Who stands on node 3 of the stage, listed into buffers of several lengths.
+fn run_lists() {
+    let loaded = Board::fresh().load(b"a1", &records::paper());
+    let one = loaded.board.place(1, [2, 1, 1, 3, 3, 3, 0, -1, -1, -1, -1]);
+    let two = one.board.place(1, [1, 2, 2, 3, 3, 3, 0, -1, -1, -1, -1]);
+    list_into_none(two.board);
+    list_into_one(two.board);
+    list_into_two(two.board);
+    list_into_three(two.board, 3, 2, 3);
+    list_into_three(two.board, 32, 13, 7);
+}
+
 fn wide(x: u32) -> i64 {
     x as i64
 }
@@ -151,4 +210,5 @@ fn main() {
     );
     run_board();
     run_stage();
+    run_lists();
 }

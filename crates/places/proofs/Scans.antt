@@ -16,10 +16,10 @@ use Rattle.rows.specs.laws.Filled.{Filled}
 use Rattle.deck.specs.Stretch.{stretch}
 use Rattle.deck.specs.laws.Ups.{length-up, getD-up}
 use Rattle.deck.specs.laws.Stretches.{length-stretch, getD-stretch}
-use Rattle.given.specs.Lists.{anyOf, larger}
+use Rattle.given.specs.Lists.{anyOf, larger, largest}
 use Rattle.given.specs.Arguments.{none, some}
 use Rattle.places.specs.Finding.{first, foundAt}
-use Rattle.places.specs.inner.Flat.{below, isAt, firstAt, largest}
+use Rattle.places.specs.inner.Flat.{below, isAt, firstAt}
 use Rattle.places.specs.inner.Parts.{placeOr}
 
 -- none of the first i passes the test, so that the first that does is looked for in the rest
@@ -60,35 +60,6 @@ module _ {A : Type 0} {p : A → Bool} {l : List A} where
   unfolding anyOf
   any-nowhere {i} h s =
       let a : anyOf p (drop i l) ≡ false = rw (drop-of-length-le l h) in sym (s .rest-any ∙ a)
-
--- whether one of the first i passes the test
-pub record AnyAmong {A : Type 0} (p : A → Bool) (l : List A) (i : ℕ) (b : Bool) : Type 0 where
-  pub with-rest : anyOf p l ≡ b || anyOf p (drop i l)
-
-module _ {A : Type 0} {p : A → Bool} {l : List A} where
-  pub among-none : AnyAmong p l 0 false
-  among-none = record { with-rest = refl }
-
-  pub among-more : {i : ℕ} {b : Bool} (d : A) → i < length l → (c : Bool) → c ≡ p (getD l i d) → AnyAmong p l i b →
-      AnyAmong p l (i + 1) (b || c)
-  unfolding anyOf
-  among-more {i} {b} d h c e s =
-      let a : anyOf p (drop i l) ≡ c || anyOf p (drop (suc i) l) = rw (drop-cons l i d h, e) in
-      record { with-rest = rw add-one (s .with-rest ∙ ap (λ (x : Bool). b || x) a ∙ joined b c _) }
-    where
-      joined : (x y z : Bool) → x || (y || z) ≡ (x || y) || z
-      joined true y z = refl
-      joined false y z = refl
-
-  pub among-all : {i : ℕ} {b : Bool} → length l ≤ i → AnyAmong p l i b → b ≡ anyOf p l
-  unfolding anyOf
-  among-all {i} {b} h s =
-      let a : anyOf p (drop i l) ≡ false = rw (drop-of-length-le l h) in
-      sym (s .with-rest ∙ ap (λ (x : Bool). b || x) a ∙ alone b)
-    where
-      alone : (x : Bool) → x || false ≡ x
-      alone true = refl
-      alone false = refl
 
 pub none-of : {A : Type 0} (p : A → Bool) (l : List A) (d : A) → anyOf p l ≡ false → (i : ℕ) → i < length l →
     p (getD l i d) ≡ false

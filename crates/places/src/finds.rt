@@ -73,7 +73,7 @@ pub fn any_on(issues: &[u32; TRANSISTORS], cards: &[u32; TRANSISTORS], n: u32) -
     false
 }
 
-fn larger_of(a: u32, b: u32) -> u32
+pub fn larger_of(a: u32, b: u32) -> u32
     ensures { λ r. ⌜ r ≡ larger a b ⌝ }
 {
     if a < b { b } else { a }

@@ -4,7 +4,7 @@ use mathlib.Core.Bool.{Bool, true, false}
 use mathlib.Core.List.{List, [], _∷_, map}
 use Prim.Native.Nat.{ℕ, zero, suc, _≤_, zero-le}
 use lib.ListN.{getD, length, length-map}
-use lib.IntN.{ℤ, pos, natAbs}
+use lib.IntN.{ℤ, pos, negℤ, natAbs}
 use Rattle.whole.specs.laws.Machine.{abs-neg}
 use Rattle.card.specs.declared.WorkedCard.{WorkedCard}
 use Rattle.scaling.specs.Scaled.{tickLimit}
@@ -21,11 +21,17 @@ turned-size : (pnp : Bool) (x : ℤ) → natAbs (turned pnp x) ≡ natAbs x
 turned-size false x = refl
 turned-size true x = abs-neg x
 
-turned-small : (most : ℕ) (pnp : Bool) (l : List ℤ) → ((k : ℕ) → natAbs (getD l k (pos 0)) ≤ most) → (k : ℕ) →
+pub turned-small : (most : ℕ) (pnp : Bool) (l : List ℤ) → ((k : ℕ) → natAbs (getD l k (pos 0)) ≤ most) → (k : ℕ) →
     natAbs (getD (map (turned pnp) l) k (pos 0)) ≤ most
 turned-small most pnp [] h k = zero-le
 turned-small most pnp (x ∷ l) h zero = rw (turned-size pnp x) (h 0)
 turned-small most pnp (x ∷ l) h (suc k) = turned-small most pnp l (λ j. h (suc j)) k
+
+-- ticks turned over, place by place
+pub negated-at : (l : List ℤ) (k : ℕ) → getD (map negℤ l) k (pos 0) ≡ negℤ (getD l k (pos 0))
+negated-at [] k = refl
+negated-at (x ∷ l) zero = refl
+negated-at (x ∷ l) (suc k) = negated-at l k
 
 -- no current is above the limit in size, whatever the card and the voltages
 pub ticks-small : (c : WorkedCard) (v : List ℤ) (k : ℕ) →

@@ -1,23 +1,53 @@
--- Sets of places by their binary digits: one place more, and the next place of a set.
+-- Sets of places by their binary digits: one place more, one less, and the next place of a set.
 use mathlib.Core.Path.{_≡_, refl, sym, ap, _∙_}
-use mathlib.Core.Bool.{Bool, true, false}
+use mathlib.Core.Bool.{Bool, true, false, cond, not, _&&_, _||_}
 use Prim.Native.Nat.{ℕ, zero, suc, _+_, _-_, _*_, _/_, _%_, _^_, _≤_, _<_}
-use native.Mathlib.Nat.{div-one, div-eq-of-lt, zero-div, mod-lt, div-add-mod', lt-of-lt-of-le}
+use native.Mathlib.Nat.{one-mul, div-one, div-eq-of-lt, zero-div, mod-lt, div-add-mod', lt-of-lt-of-le}
 use native.Mathlib.Omega.{arith}
-use lib.Dec.{leb}
-use lib.Pow.{pow-mono, shr-lt, shl-exact, shr-shr, shr-le}
-use lib.Bits.{bitOr, or-shifted-r}
+use lib.Dec.{eqb, leb}
+use lib.Pow.{pow-lt, pow-mono, shr-lt, shl-exact, shr-shr, shr-le}
+use lib.Bits.{bitOr, bitXor, or-lt, xor-lt}
 use lib.Count.{under, trailingZeros}
 use borrow.Author.Tests.{eq-eqb, ne-eqb, leb-true, leb-false}
 use Rattle.places.specs.Counts.{transistorsMost}
+use Rattle.places.specs.Sets.{member, withPlace, withoutPlace}
 use Rattle.places.specs.inner.Parts.{NextIn}
+use Rattle.places.specs.laws.Members.{set-same, set-of-members, member-one, member-or, member-xor}
 
--- ---- one place more
+-- ---- one place more, and one less
 
-pub one-more : (s i : ℕ) → i < 64 → s < 2 ^ i → bitOr s (1 * 2 ^ i % 2 ^ 64) ≡ s + 2 ^ i
-one-more s i h l =
-    let e : 1 * 2 ^ i + s ≡ s + 2 ^ i = omega arith in
-    ap (bitOr s) (shl-exact {a = 1} 1 i 64 (omega arith) (omega arith)) ∙ or-shifted-r 1 i s l ∙ e
+shifted : (i : ℕ) → i < 64 → 1 * 2 ^ i % 2 ^ 64 ≡ 2 ^ i
+shifted i h = shl-exact {a = 1} 1 i 64 (omega arith) (omega arith) ∙ one-mul (2 ^ i)
+
+one-lt : (i : ℕ) → i < 64 → 2 ^ i < 2 ^ 64
+one-lt i h = pow-lt h
+
+pub with-is : (s i : ℕ) → s < 2 ^ 64 → i < 64 → bitOr s (1 * 2 ^ i % 2 ^ 64) ≡ withPlace s i
+unfolding withPlace
+with-is s i l h =
+    ap (bitOr s) (shifted i h)
+    ∙ set-of-members 64 (bitOr s (2 ^ i)) (or-lt 64 s (2 ^ i) l (one-lt i h))
+    ∙ set-same (member (bitOr s (2 ^ i))) (λ (j : ℕ). member s j || eqb j i) transistorsMost
+    (λ j q. member-or s (2 ^ i) j ∙ ap (λ (b : Bool). member s j || b) (member-one i j))
+
+pub without-is : (s i : ℕ) → s < 2 ^ 64 → i < 64 →
+    bitXor (bitOr s (1 * 2 ^ i % 2 ^ 64)) (1 * 2 ^ i % 2 ^ 64) ≡ withoutPlace s i
+unfolding withoutPlace
+without-is s i l h =
+    ap (λ (x : ℕ). bitXor (bitOr s x) x) (shifted i h)
+    ∙ set-of-members 64 (bitXor (bitOr s (2 ^ i)) (2 ^ i))
+    (xor-lt 64 (bitOr s (2 ^ i)) (2 ^ i) (or-lt 64 s (2 ^ i) l (one-lt i h)) (one-lt i h))
+    ∙ set-same (member (bitXor (bitOr s (2 ^ i)) (2 ^ i))) (λ (j : ℕ). member s j && not (eqb j i)) transistorsMost
+    (λ j q. member-xor (bitOr s (2 ^ i)) (2 ^ i) j
+    ∙ ap (λ (b : Bool). cond (member (2 ^ i) j) (not b) b) (member-or s (2 ^ i) j)
+    ∙ ap (λ (b : Bool). cond b (not (member s j || b)) (member s j || b)) (member-one i j)
+    ∙ off (member s j) (eqb j i))
+  where
+    off : (a b : Bool) → cond b (not (a || b)) (a || b) ≡ a && not b
+    off true true = refl
+    off true false = refl
+    off false true = refl
+    off false false = refl
 
 -- ---- the zeros below the lowest digit that is set
 

@@ -1,23 +1,22 @@
-// Nodes, held currents and names by place; and sets of places, one bit each: which transistors name a node.
+// Nodes, held currents and names by place; and sets of places, one bit each: kept by node, and gone through.
 ghost use mathlib.Core.Path.{_≡_};
-ghost use mathlib.Core.Bool.{cond, _||_};
-ghost use Prim.Native.Nat.{_+_, _*_, _^_, _≤_, _<_};
+ghost use Prim.Native.Nat.{_*_, _≤_, _<_};
 ghost use lib.Count.{trailingZeros};
 ghost use lib.IntN.{pos};
 ghost use Rattle.name.specs.Name.{nameLength};
 ghost use Rattle.terms.specs.Rows.{roles, branches};
 ghost use Rattle.deck.specs.Stretch.{stretch, written};
-ghost use Rattle.given.specs.Lists.{anyOf};
 ghost use Rattle.places.specs.Counts.{cardsMost, transistorsMost};
-ghost use Rattle.places.specs.Finding.{names};
-ghost use Rattle.places.specs.inner.Parts.{NextIn};
-ghost use Rattle.places.specs.inner.Flat.{below, isTaken, standsAtIn, namingIn};
+ghost use Rattle.places.specs.Sets.{sizeOf, withPlace, withoutPlace};
+ghost use Rattle.places.specs.Naming.{joined, parted};
+ghost use Rattle.places.specs.inner.Parts.{NextIn, Entering};
 use places::ALL_CURRENTS;
 use places::ALL_NAMES;
 use places::ALL_NODES;
 use places::TRANSISTORS;
 use terms::BRANCHES;
 use terms::ROLES;
+use totals::NODES;
 
 pub fn nodes_at(nodes: &[u8; ALL_NODES], i: usize) -> [u8; ROLES]
     requires { ⌜ i < transistorsMost ⌝ }
@@ -73,76 +72,51 @@ pub fn put_name(names: &mut [u8; ALL_NAMES], i: usize, own: &[u8; name::LENGTH])
     }
 }
 
-fn either(a: bool, b: bool) -> bool
-    ensures { λ r. ⌜ r ≡ a || b ⌝ }
+// The set with the place i in it, and without it.
+fn with(set: u64, i: usize) -> u64
+    requires { ⌜ i < transistorsMost ⌝ }
+    ensures { λ r. ⌜ r ≡ withPlace set i ⌝ }
 {
-    if a { true } else { b }
+    set | (1u64 << (i as u64))
 }
 
-// Whether one of the nodes at a place is n. Every node is looked at: without a way out the compiler needs no branches.
-fn has(nodes: &[u8; ALL_NODES], i: usize, n: u8) -> bool
+fn without(set: u64, i: usize) -> u64
     requires { ⌜ i < transistorsMost ⌝ }
-    ensures { λ r. ⌜ r ≡ names n (stretch 0 (now (nodes .entry)) (roles * i) roles) ⌝ }
+    ensures { λ r. ⌜ r ≡ withoutPlace set i ⌝ }
 {
-    let at = ROLES * i;
-    let mut found = false;
+    let one = 1u64 << (i as u64);
+    (set | one) ^ one
+}
+
+// Whoever comes to place i joins the sets of its nodes.
+pub fn join(naming: &mut [u64; NODES], i: usize, on: &[u8; ROLES])
+    requires { ⌜ Entering (now naming) i (now on) ⌝ }
+    ensures { λ _. ⌜ now (naming .exit) ≡ joined (now (naming .entry)) i (now (on .entry)) ⌝ }
+{
     for k in 0..ROLES {
-        let m = nodes[at + k];
-        let one = either(found, m == n);
-        found = one;
+        let n = on[k] as usize;
+        let more = with(naming[n], i);
+        naming[n] = more;
     }
-    found
 }
 
-// Whether a transistor stands at a place and names the node.
-fn is_at(issues: &[u32; TRANSISTORS], nodes: &[u8; ALL_NODES], i: usize, n: u8) -> bool
-    requires { ⌜ i < transistorsMost ⌝ }
-    ensures { λ r. ⌜ r ≡ standsAtIn n (now (issues .entry)) (now (nodes .entry)) i ⌝ }
+// Whoever leaves it leaves them.
+pub fn leave(naming: &mut [u64; NODES], i: usize, on: &[u8; ROLES])
+    requires { ⌜ Entering (now naming) i (now on) ⌝ }
+    ensures { λ _. ⌜ now (naming .exit) ≡ parted (now (naming .entry)) i (now (on .entry)) ⌝ }
 {
-    if has(nodes, i, n) {
-        return issues[i] != 0;
+    for k in 0..ROLES {
+        let m = on[k] as usize;
+        let less = without(naming[m], i);
+        naming[m] = less;
     }
-    false
 }
 
-// The set with the place i in it where it is to be: no place from i on is in it yet.
-fn with(set: u64, i: usize, is: bool) -> u64
-    requires { ⌜ i < transistorsMost ⌝ }
-    requires { ⌜ set < 2 ^ i ⌝ }
-    ensures { λ r. ⌜ r ≡ set + cond is (2 ^ i) 0 ⌝ }
+// How many places are in the set.
+pub fn count(set: u64) -> u32
+    ensures { λ r. ⌜ r ≡ sizeOf set ⌝ }
 {
-    if is {
-        return set | (1u64 << (i as u64));
-    }
-    set
-}
-
-// Whether anybody stands.
-fn any_standing(issues: &[u32; TRANSISTORS]) -> bool
-    ensures { λ r. ⌜ r ≡ anyOf (isTaken (now (issues .entry))) (below transistorsMost) ⌝ }
-{
-    let mut found = false;
-    for i in 0..TRANSISTORS {
-        let issue = issues[i];
-        let one = either(found, issue != 0);
-        found = one;
-    }
-    found
-}
-
-pub fn naming(issues: &[u32; TRANSISTORS], nodes: &[u8; ALL_NODES], n: u8) -> u64
-    ensures { λ r. ⌜ r ≡ namingIn n (now (issues .entry)) (now (nodes .entry)) ⌝ }
-{
-    if !any_standing(issues) {
-        return 0;
-    }
-    let mut set = 0u64;
-    for i in 0..TRANSISTORS {
-        let is = is_at(issues, nodes, i, n);
-        let more = with(set, i, is);
-        set = more;
-    }
-    set
+    u64::count_ones(set)
 }
 
 // How many zeros stand below the lowest digit that is set.

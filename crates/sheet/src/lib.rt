@@ -2,7 +2,7 @@
 ghost use mathlib.Core.Path.{_≡_};
 ghost use mathlib.Core.List.{[], _∷_};
 ghost use Rattle.sheet.specs.Text.{textOf};
-ghost use Rattle.sheet.specs.Digits.{maskDigits, wordDigits, hexDigits, signedDigits};
+ghost use Rattle.sheet.specs.Digits.{decimalOf, maskDigits, wordDigits, hexDigits, signedDigits};
 ghost use Rattle.sheet.specs.Lines.{labelLine, toldLine, listingLine, nodeLine, sheetLine};
 pub use listed::bare_name;
 
@@ -71,6 +71,13 @@ pub fn signed_digits(v: i64) -> Text
     ensures { λ r. ⌜ r ≡ textOf (signedDigits v) ⌝ }
 {
     digits::signed(gather::empty(), v)
+}
+
+// A number without a sign.
+pub fn decimal_digits(n: u64) -> Text
+    ensures { λ r. ⌜ r ≡ textOf (decimalOf n) ⌝ }
+{
+    digits::decimal(gather::empty(), n)
 }
 
 // A card's line in the listing, from its name without padding and its record.

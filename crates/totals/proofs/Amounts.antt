@@ -185,6 +185,10 @@ module _ (froms tos : List ℕ) (ticks : List ℤ) where
 
 -- ---- a role's amount to its node
 
+nothing-more : (t : Bool) (y : ℤ) → y +ℤ cond t (pos 0) (pos 0) ≡ y
+nothing-more true y = +ℤ-idr y
+nothing-more false y = +ℤ-idr y
+
 module _ (l : List ℤ) (n : ℕ) (x : ℤ) (p : (n < nodesMost) × Room nodesMost handedMost l × (natAbs x ≤ flowMost)) where
   amount-is : held x ≡ x
   amount-is = let b = p .2 in held-is x (omega (arith, amount-fits))
@@ -197,6 +201,11 @@ module _ (l : List ℤ) (n : ℕ) (x : ℤ) (p : (n < nodesMost) × Room nodesMo
 
   pub room-add : SFits w64 (held (getD l n (pos 0)) +ℤ held x)
   room-add = rw (total-is, amount-is) (fits _ small-total)
+
+  -- and nothing more where it is nothing
+  pub adds-nothing : held x ≡ pos 0 → More nodesMost l l (λ (m : ℕ). atNode n m x)
+  adds-nothing e =
+      record { long = p .1 .long; at = λ m h. rw (sym amount-is ∙ e) (sym (nothing-more (eqb n m) (getD l m (pos 0)))) }
 
   pub adds : More nodesMost l (set l n (held (held (getD l n (pos 0)) +ℤ held x))) (λ (m : ℕ). atNode n m x)
   adds =

@@ -16,6 +16,7 @@ use Rattle.terms.specs.Ends.{fromsOf, tosOf}
 use Rattle.totals.specs.Gives.{nodesMost, atNode, rowsGive}
 use Rattle.totals.specs.inner.Sums.{More, Within, Room, Wired, Givable, ends, endsGive, spread, rolesGive}
 use Rattle.totals.specs.inner.Sizes.{flowMost, roomMost}
+use Rattle.polarity.proofs.Laws.{negated-at}
 use Rattle.totals.proofs.Lists.{getD-map}
 use Rattle.totals.proofs.Integers.{turned, swap-inner}
 use Rattle.totals.proofs.Amounts.{room-more, ends-small}
@@ -116,6 +117,26 @@ ends-turned froms tos ticks (suc k) n =
     ∙ ap (λ (z : ℤ). negℤ (endsGive froms tos ticks k n) +ℤ z)
     (turned-ends (atNode (getD froms k 0) n x) (atNode (getD tos k 0) n x))
     ∙ sym (negℤ-+ℤ (endsGive froms tos ticks k n) (ends (getD froms k 0) (getD tos k 0) x n))
+
+-- and so does one of the negated ticks
+ends-less : (froms tos : List ℕ) (ticks : List ℤ) (k n : ℕ) →
+    endsGive froms tos (map negℤ ticks) k n ≡ negℤ (endsGive froms tos ticks k n)
+unfolding endsGive
+ends-less froms tos ticks zero n = refl
+ends-less froms tos ticks (suc k) n =
+    let x = getD ticks k (pos 0) in
+    let f = getD froms k 0 in
+    let t = getD tos k 0 in
+    rw (ends-less froms tos ticks k n, negated-at ticks k, turned (eqb f n) x, turned (eqb t n) x)
+    (ap (λ (z : ℤ). negℤ (endsGive froms tos ticks k n) +ℤ z) (sym (negℤ-+ℤ (atNode f n x) (negℤ (atNode t n x))))
+    ∙ sym (negℤ-+ℤ (endsGive froms tos ticks k n) (ends f t x n)))
+
+-- so that the negated ticks one way are the ticks the other way
+pub gives-turned : (nodes froms tos : List ℕ) (ticks : List ℤ) (n : ℕ) →
+    rolesGive nodes froms tos (map negℤ ticks) n ≡ rolesGive nodes tos froms ticks n
+gives-turned nodes froms tos ticks n =
+    spread-same nodes n _ _ roles
+    (λ r h. ends-less froms tos ticks branches r ∙ sym (ends-turned froms tos ticks branches r))
 
 -- the first branch before the others
 ends-first : (f t : ℕ) (froms tos : List ℕ) (x : ℤ) (ticks : List ℤ) (k n : ℕ) →

@@ -45,11 +45,14 @@ fn branches(
     }
 }
 
-// x more at the node n.
+// x more at the node n. Many roles give nothing, and a node that several give to waits for each.
 fn add(l: &mut [i64; NODES], n: u8, x: i64)
     requires { ⌜ (n < nodesMost) × Room nodesMost handedMost (now l) × (natAbs x ≤ flowMost) ⌝ }
     ensures { λ _. ⌜ More nodesMost (now (l .entry)) (now (l .exit)) (λ (m : ℕ). atNode n m x) ⌝ }
 {
+    if x == 0 {
+        return;
+    }
     let k = n as usize;
     let y = l[k] + x;
     l[k] = y;
@@ -79,14 +82,12 @@ pub fn put(l: &mut [i64; NODES], nodes: &[u8; ROLES], ticks: &[i64; BRANCHES])
     hand_out(l, nodes, &a);
 }
 
-// The same taken away: each branch turned about.
+// The same taken away: put, with every number turned over. So the ends of the branches are looked at in one place, where the compiler knows them.
 pub fn take(l: &mut [i64; NODES], nodes: &[u8; ROLES], ticks: &[i64; BRANCHES])
     requires { ⌜ Givable (now l) (now nodes) (now ticks) ⌝ }
     ensures { λ _. ⌜ More nodesMost (now (l .entry)) (now (l .exit)) (rolesGive (now (nodes .entry)) toRoles fromRoles (now (ticks .entry))) ⌝ }
 {
-    let from = terms::from_roles();
-    let to = terms::to_roles();
-    let mut a = [0i64; ROLES];
-    branches(&mut a, &to, &from, ticks);
-    hand_out(l, nodes, &a);
+    let own = *ticks;
+    let back = polarity::turn_ticks(true, own);
+    put(l, nodes, &back);
 }

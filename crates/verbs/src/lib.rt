@@ -18,6 +18,8 @@ pub enum Verb {
     Node,
     Sheet,
     Currents,
+    Who,
+    Sum,
     // a line that is passed over
     Nothing,
     TooLong,
@@ -41,7 +43,7 @@ pub struct Row {
 }
 
 // How many commands there are.
-const ROWS: usize = 14;
+const ROWS: usize = 16;
 
 // The words of the commands as numbers, in the table's order: the first byte is the lowest.
 const PACKED: [u64; ROWS] = [
@@ -59,6 +61,8 @@ const PACKED: [u64; ROWS] = [
     0x65646f6e,
     0x7465656873,
     0x73746e6572727563,
+    0x6f6877,
+    0x6d7573,
 ];
 
 // A word of one to eight bytes that a name may have, as a number; 0 for any other.
@@ -150,6 +154,14 @@ fn row_at(i: usize) -> Row
         },
         13 => Row {
             verb: Verb::Currents,
+            wants: Wants::Numbers(2),
+        },
+        14 => Row {
+            verb: Verb::Who,
+            wants: Wants::Numbers(2),
+        },
+        15 => Row {
+            verb: Verb::Sum,
             wants: Wants::Numbers(2),
         },
         _ => Row {

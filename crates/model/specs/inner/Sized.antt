@@ -20,4 +20,5 @@ pub record Sized (b : Board) : Type 0 where
   pub cards : length (b .cards) ≡ transistorsMost
   pub seats : length (b .seats) ≡ transistorsMost
   pub nodes : length (b .nodes) ≡ roles * transistorsMost
+  pub naming : length (b .naming) ≡ nodesMost
   pub currents : length (b .currents) ≡ branches * transistorsMost

@@ -1,6 +1,6 @@
 -- The same questions put to the flat arrays: where a number stands, who stands on a card, which issue of a name is the
 -- highest, and who names a node.
-use mathlib.Core.Bool.{Bool, false, cond, not}
+use mathlib.Core.Bool.{Bool, false, cond}
 use mathlib.Core.List.{List, [], _∷_}
 use Prim.Native.Nat.{ℕ, _+_, _*_}
 use lib.Dec.{eqb}
@@ -10,7 +10,7 @@ use Rattle.terms.specs.Rows.{roles}
 use Rattle.rows.specs.inner.FromTerms.{listUp}
 use Rattle.deck.specs.Stretch.{stretch}
 use Rattle.deck.specs.Layout.{switchesEach}
-use Rattle.given.specs.Lists.{anyOf, larger}
+use Rattle.given.specs.Lists.{anyOf, largest}
 use Rattle.given.specs.Arguments.{Found, none, Ties}
 use Rattle.places.specs.Counts.{cardsMost, transistorsMost}
 use Rattle.places.specs.Finding.{first, foundAt, onCard, onNode, issueIf}
@@ -35,20 +35,12 @@ numberPlace most n numbers = cond (eqb n 0) none (foundAt most (firstAt most n n
 abbrev pub freePlace : List ℕ → ℕ
 freePlace issues = firstAt transistorsMost 0 issues
 
--- somebody stands at place i
-abbrev pub isTaken : List ℕ → ℕ → Bool
-isTaken issues i = not (eqb (getD issues i 0) 0)
-
 abbrev pub standsOnAt : ℕ → List ℕ → List ℕ → ℕ → Bool
 standsOnAt n issues cards i = onCard n (getD issues i 0) (getD cards i 0)
 
 -- a transistor stands on the card n
 abbrev pub anyOn : ℕ → List ℕ → List ℕ → Bool
 anyOn n issues cards = anyOf (standsOnAt n issues cards) (below transistorsMost)
-
-unfoldable pub largest : List ℕ → ℕ
-largest [] = 0
-largest (n ∷ ns) = larger n (largest ns)
 
 abbrev pub issueIfAt : List ℕ → List ℕ → List ℕ → ℕ → ℕ
 issueIfAt asked held names i = issueIf asked (getD held i 0) (stretch 0 names (nameLength * i) nameLength)

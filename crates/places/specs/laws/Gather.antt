@@ -13,7 +13,7 @@ use Rattle.rows.specs.inner.FromTerms.{listUp}
 use Rattle.deck.specs.Layout.{switchesEach, readyAt}
 use Rattle.deck.specs.laws.Ups.{length-up, getD-up}
 use Rattle.deck.specs.laws.Laid.{ready-joined, ready-close, ready-wide}
-use Rattle.given.specs.Lists.{anyOf, larger}
+use Rattle.given.specs.Lists.{anyOf, larger, largest}
 use Rattle.card.specs.declared.WorkedCard.{WorkedCard}
 use Rattle.card.specs.Judge.{noWorked}
 use Rattle.given.specs.Arguments.{none, tiesOf}
@@ -24,7 +24,7 @@ use Rattle.places.specs.Finding.{first, foundAt, isCard, isTransistor, c
 use Rattle.places.specs.Finding.{standsOn, standsAt, issueIf, highestAt}
 use Rattle.places.specs.Sets.{setOf}
 use Rattle.places.specs.inner.Flat.{isAt, firstAt, numberPlace, tiesAt, wideAt}
-use Rattle.places.specs.inner.Flat.{standsOnAt, anyOn, largest, highestIn, namingIn}
+use Rattle.places.specs.inner.Flat.{standsOnAt, anyOn, highestIn, namingIn}
 use Rattle.places.specs.laws.Members.{set-same}
 
 -- ---- two lists made up alike

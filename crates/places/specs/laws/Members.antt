@@ -1,28 +1,20 @@
--- Sets of places: which places are in one, how large its number is, and that the next place of a set is one.
+-- Sets of places: which places are in one, how large its number is, what joins and parts two, and that the next place
+-- of a set is one.
 use mathlib.Core.Path.{_≡_, refl, sym, ap, _∙_}
-use mathlib.Core.Bool.{Bool, true, false, cond}
+use mathlib.Core.Bool.{Bool, true, false, cond, not, _&&_, _||_}
 use Prim.Native.Nat.{ℕ, zero, suc, _+_, _-_, _*_, _/_, _%_, _^_, _<_}
-use native.Mathlib.Nat.{pow-suc, add-mul-div-right, add-mul-mod-self-right, div-eq-of-lt}
-use native.Mathlib.Numerals.{add-one}
+use native.Mathlib.Nat.{pow-suc, add-mul-div-right, add-mul-mod-self-right, div-eq-of-lt, zero-div, zero-add, mod-lt}
 use native.Mathlib.Omega.{arith}
+use lib.Bits.{bitOr, bitXor, or-shr, or-mod, xor-shr, xor-mod}
 use lib.Dec.{eqb, ltb}
-use lib.Pow.{pow-pos, pow-add}
+use lib.Pow.{pow-pos, pow-lt, pow-add, split, field, mod-mod-pow, shr-lt}
 use lib.Arith.{digits-div}
-use borrow.Author.Tests.{eqb-true, eqb-false, ltb-true, ltb-false}
-use Rattle.places.specs.Sets.{member, setOf}
+use borrow.Author.Tests.{eqb-true, eqb-false, eq-eqb, ne-eqb, ltb-true, ltb-false}
+use Rattle.places.specs.Counts.{transistorsMost}
+use Rattle.places.specs.Sets.{member, setOf, withPlace, withoutPlace}
 use Rattle.places.specs.inner.Parts.{NextIn}
 
 module _ (p : ℕ → Bool) where
-  pub set-none : 0 ≡ setOf p 0
-  unfolding setOf
-  set-none = refl
-
-  -- one place more, as a loop goes through them
-  pub set-more : (k : ℕ) {s r : ℕ} {b : Bool} → s ≡ setOf p k → b ≡ p k → r ≡ s + cond b (2 ^ k) 0 →
-      r ≡ setOf p (k + 1)
-  unfolding setOf
-  set-more k e q h = rw add-one (h ∙ (λ j. e j + cond (q j) (2 ^ k) 0))
-
   pub set-below : (k : ℕ) → setOf p k < 2 ^ k
   unfolding setOf
   set-below zero = omega arith
@@ -76,6 +68,112 @@ set-same p q (suc k) h =
     let here = h k (omega arith) in
     let rest = set-same p q k (λ i l. h i (omega arith)) in
     λ j. rest j + cond (here j) (2 ^ k) 0
+
+-- ---- the digits of a number as a set
+
+-- a digit of what is left of a division by 2^k
+digit-left : (s i k : ℕ) → i < k → s % 2 ^ k / 2 ^ i % 2 ≡ s / 2 ^ i % 2
+digit-left s i k h =
+    let e : k ≡ (k - i) + i = omega arith in
+    let f : k - i ≡ (k - suc i) + 1 = omega arith in
+    ap (λ (x : ℕ). s % 2 ^ x / 2 ^ i % 2) e
+    ∙ ap (λ (x : ℕ). x % 2) (field s (k - i) i)
+    ∙ ap (λ (x : ℕ). s / 2 ^ i % 2 ^ x % 2) f
+    ∙ mod-mod-pow (s / 2 ^ i) (k - suc i) 1
+
+-- every number below 2^k is the set of its own digits
+pub set-of-members : (k s : ℕ) → s < 2 ^ k → s ≡ setOf (member s) k
+unfolding setOf
+set-of-members zero s h = omega arith
+set-of-members (suc k) s h =
+    go (s / 2 ^ k) refl (let e : suc k ≡ 1 + k = omega arith in shr-lt 1 k (rw e at h))
+    (set-of-members k (s % 2 ^ k) (mod-lt s (pow-pos k))
+    ∙ set-same (member (s % 2 ^ k)) (member s) k (λ i q. ap (λ (x : ℕ). eqb x 1) (digit-left s i k q)))
+  where
+    go : (d : ℕ) → s / 2 ^ k ≡ d → d < 2 → s % 2 ^ k ≡ setOf (member s) k →
+        s ≡ setOf (member s) k + cond (eqb (d % 2) 1) (2 ^ k) 0
+    go zero e q low = let w = rw e at (split s k) in omega arith
+    go (suc zero) e q low = let w = rw e at (split s k) in omega arith
+    go (suc (suc d)) e q low = absurd (omega arith)
+
+-- one place alone
+pub member-one : (i j : ℕ) → member (2 ^ i) j ≡ eqb j i
+member-one i j = go (eqb j i) refl (ltb j i) refl
+  where
+    none : member 0 j ≡ false
+    none = ap (λ (x : ℕ). eqb (x % 2) 1) (zero-div (2 ^ j))
+
+    go : (t : Bool) → eqb j i ≡ t → (u : Bool) → ltb j i ≡ u → member (2 ^ i) j ≡ t
+    go true e u f = let o = eqb-true j i e in rw o (rw zero-add at (top 0 i true (pow-pos i)))
+    go false e true f = ap (λ (x : ℕ). eqb x 1) (rw zero-add at (lower 0 j i (ltb-true j i f))) ∙ none
+    go false e false f =
+        let o = eqb-false j i e in
+        let h = ltb-false j i f in
+        ap (λ (x : ℕ). eqb (x % 2) 1) (div-eq-of-lt (pow-lt (let l : i < j = omega arith in l)))
+
+-- in either of two sets, and in one alone of them
+pub member-or : (a b i : ℕ) → member (bitOr a b) i ≡ member a i || member b i
+member-or a b i =
+    ap (λ (x : ℕ). eqb x 1)
+    (ap (λ (x : ℕ). x % 2) (or-shr a b i) ∙ or-mod (a / 2 ^ i) (b / 2 ^ i) 1)
+    ∙ digit (a / 2 ^ i % 2) (b / 2 ^ i % 2) (mod-lt (a / 2 ^ i) (omega arith)) (mod-lt (b / 2 ^ i) (omega arith))
+  where
+    digit : (x y : ℕ) → x < 2 → y < 2 → eqb (bitOr x y) 1 ≡ eqb x 1 || eqb y 1
+    digit zero zero h k = refl
+    digit zero (suc zero) h k = refl
+    digit (suc zero) zero h k = refl
+    digit (suc zero) (suc zero) h k = refl
+    digit (suc (suc x)) y h k = absurd (omega arith)
+    digit zero (suc (suc y)) h k = absurd (omega arith)
+    digit (suc zero) (suc (suc y)) h k = absurd (omega arith)
+
+pub member-xor : (a b i : ℕ) → member (bitXor a b) i ≡ cond (member b i) (not (member a i)) (member a i)
+member-xor a b i =
+    ap (λ (x : ℕ). eqb x 1)
+    (ap (λ (x : ℕ). x % 2) (xor-shr a b i) ∙ xor-mod (a / 2 ^ i) (b / 2 ^ i) 1)
+    ∙ digit (a / 2 ^ i % 2) (b / 2 ^ i % 2) (mod-lt (a / 2 ^ i) (omega arith)) (mod-lt (b / 2 ^ i) (omega arith))
+  where
+    digit : (x y : ℕ) → x < 2 → y < 2 → eqb (bitXor x y) 1 ≡ cond (eqb y 1) (not (eqb x 1)) (eqb x 1)
+    digit zero zero h k = refl
+    digit zero (suc zero) h k = refl
+    digit (suc zero) zero h k = refl
+    digit (suc zero) (suc zero) h k = refl
+    digit (suc (suc x)) y h k = absurd (omega arith)
+    digit zero (suc (suc y)) h k = absurd (omega arith)
+    digit (suc zero) (suc (suc y)) h k = absurd (omega arith)
+
+-- ---- one place more, and one less
+
+pub member-with : (s i j : ℕ) → j < transistorsMost → member (withPlace s i) j ≡ member s j || eqb j i
+unfolding withPlace
+member-with s i j h = member-set (λ (k : ℕ). member s k || eqb k i) transistorsMost j h
+
+pub member-without : (s i j : ℕ) → j < transistorsMost → member (withoutPlace s i) j ≡ member s j && not (eqb j i)
+unfolding withoutPlace
+member-without s i j h = member-set (λ (k : ℕ). member s k && not (eqb k i)) transistorsMost j h
+
+-- whoever has joined or left does so once
+pub with-again : (s i : ℕ) → withPlace (withPlace s i) i ≡ withPlace s i
+unfolding withPlace
+with-again s i =
+    set-same _ _ transistorsMost
+    (λ j h. ap (λ (b : Bool). b || eqb j i) (member-with s i j h) ∙ twice (member s j) (eqb j i))
+  where
+    twice : (a b : Bool) → (a || b) || b ≡ a || b
+    twice true b = refl
+    twice false true = refl
+    twice false false = refl
+
+pub without-again : (s i : ℕ) → withoutPlace (withoutPlace s i) i ≡ withoutPlace s i
+unfolding withoutPlace
+without-again s i =
+    set-same _ _ transistorsMost
+    (λ j h. ap (λ (b : Bool). b && not (eqb j i)) (member-without s i j h) ∙ twice (member s j) (not (eqb j i)))
+  where
+    twice : (a b : Bool) → (a && b) && b ≡ a && b
+    twice true true = refl
+    twice true false = refl
+    twice false b = refl
 
 -- ---- the next place of a set is one
 

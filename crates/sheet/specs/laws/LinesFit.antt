@@ -17,7 +17,7 @@ use Rattle.spelling.specs.Bytes.{newline}
 use Rattle.sheet.specs.Text.{room, textOf, shown}
 use Rattle.current.specs.Current.{decimals, belowZero, picoOf}
 use Rattle.listed.specs.Listed.{listedMask}
-use Rattle.sheet.specs.Digits.{glyphOf, digitsOf, hexDigits, plainDigits, signOf, signedDigits, ampereDigits}
+use Rattle.sheet.specs.Digits.{decimalOf, glyphOf, digitsOf, hexDigits, plainDigits, signOf, signedDigits, ampereDigits}
 use Rattle.sheet.specs.Digits.{maskDigits, mostDigits, wordDigits}
 use Rattle.sheet.specs.Lines.{numbersLine, labelLine, toldLine, listingLine, readingOf, nodeLine, sheetLine}
 
@@ -84,6 +84,9 @@ signed-long z =
 
 pub signed-whole : (z : ℤ) → shown (textOf (signedDigits z)) ≡ signedDigits z
 signed-whole z = let h = signed-long z in text-whole (signedDigits z) (omega arith)
+
+pub decimal-whole : (n : ℕ) → shown (textOf (decimalOf n)) ≡ decimalOf n
+decimal-whole n = let h = plain-long mostDigits n in text-whole (decimalOf n) (omega arith)
 
 pub label-whole : (label : List ℕ) (n : ℕ) → length label ≤ 80 → shown (textOf (labelLine label n)) ≡ labelLine label n
 unfolding labelLine

@@ -1,43 +1,43 @@
--- `take` does the same with each branch turned about.
-use mathlib.Core.Path.{sym, subst}
-use mathlib.Core.Bool.{false}
+-- `take` puts the negated ticks.
+use mathlib.Core.Path.{ap, _∙_}
+use mathlib.Core.Bool.{true}
+use lib.ListN.{getD}
+use lib.IntN.{ℤ, pos, _+ℤ_}
 use borrow.Author.Needs.{needs}
-use Rattle.terms.specs.Rows.{rowsFor, roles}
-use Rattle.totals.specs.inner.Sums.{Wired}
-use Rattle.totals.proofs.Roles.{wired-froms, wired-tos, room-nothing, amounts-within, amounts-out}
+use Rattle.scaling.specs.Scaled.{tickLimit}
+use Rattle.terms.specs.Ends.{fromRoles, toRoles}
+use Rattle.polarity.proofs.Laws.{turned-small}
+use Rattle.totals.proofs.Roles.{gives-turned}
 use Rattle.totals.proofs.take.Statement.{statement}
 use Rattle.totals.proofs.take.Tie as tie
 
--- earlier places, from later ones
-abbrev after-from-roles : tie.After-from → tie.After-from-roles
-after-from-roles c = c .before .before .before .before
+-- where the ticks have been turned over
+abbrev turning : tie.After-back → tie.After-turn-ticks
+turning c = c .before .before
 
-abbrev after-from : tie.After-hand-out → tie.After-from
-after-from c = c .before .before .before .before
-
-branches-requires : tie.Need-branches-requires
-branches-requires c κs = (
-  subst (Wired roles) (sym (c .before .before .before .to-roles .ensures)) (wired-tos (rowsFor false)),
-  subst (Wired roles) (sym (after-from-roles c .from-roles .ensures)) (wired-froms (rowsFor false)),
-  room-nothing,
-  (after-from-roles c .before .pre .within),
-)
-
-hand-out-requires : tie.Need-hand-out-requires
-hand-out-requires c κs =
-    let s = after-from-roles (c .before .before .before) .before in
-    (s .pre .wired, s .pre .room, amounts-within _ _ _ _ (c .before .before .branches .ensures) (s .pre .within))
+put-requires : tie.Need-put-requires
+put-requires c κs =
+    let t = turning c in
+    let s = t .before .before in
+    let p = s .pre in
+    rw (t .turn-ticks .ensures)
+    (record {
+      wired = p .wired;
+      room = p .room;
+      within = record { within = turned-small tickLimit true (s .args .ticks .now) (p .within .within) };
+    })
 
 returns : tie.Need-returns
 returns c =
-    amounts-out _ _ _ _
-    (rw (
-      (after-from-roles (after-from c) .from-roles .ensures),
-      (after-from c .before .before .before .to-roles .ensures),
-    ) at (c .before .before .before .branches .ensures))
-    _ (c .hand-out .ensures)
+    let t = turning (c .before) in
+    let s = t .before .before .args in
+    let m = rw (t .turn-ticks .ensures) at (c .put .ensures) in
+    record {
+      long = m .long;
+      at = λ n h. m .at n h
+          ∙ ap (λ (z : ℤ). getD (s .l .now) n (pos 0) +ℤ z)
+          (gives-turned (s .nodes .now) fromRoles toRoles (s .ticks .now) n);
+    }
 
 pub take-spec : {M : Type 1} → statement M
-take-spec =
-    tie.close
-    (tie.spec (λ c κs. search needs) (λ c κs. search needs) branches-requires hand-out-requires returns)
+take-spec = tie.close (tie.spec (λ c κs. search needs) put-requires returns)

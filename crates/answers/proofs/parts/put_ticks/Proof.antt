@@ -6,12 +6,14 @@ use lib.IntN.{pos}
 use borrow.Author.Needs.{needs}
 use mir.Syntax.{w64}
 use mir.Val.{toZ, ofZ}
-use Rattle.answers.proofs.Written.{TicksLeft, ticks-all, ticks-on, ticks-end, text-short}
+use Rattle.sheet.specs.Digits.{signedDigits}
+use Rattle.sheet.specs.laws.LinesFit.{signed-whole}
+use Rattle.answers.proofs.Written.{SpacedLeft, spaced-all, spaced-on, spaced-end, text-short, text-written}
 use Rattle.answers.proofs.parts.put_ticks.Tie as tie
 use Rattle.answers.proofs.parts.put_ticks.Statement.{statement}
 
 abbrev Inv-loop : tie.InvT-loop
-Inv-loop ticks out₀ at used₀ i₀ t7 t8 out used i = TicksLeft ticks out₀ used₀ out used i
+Inv-loop ticks out₀ at used₀ i₀ t7 t8 out used i = SpacedLeft signedDigits ticks out₀ used₀ out used i
 
 abbrev μ-loop : tie.MeasureT-loop
 μ-loop ticks out₀ at used₀ i₀ t7 t8 out used i = length ticks - i
@@ -30,17 +32,17 @@ loop-again c =
     let l = t .before in
     let z = getD (l .before .args .ticks .now) (l .loop .i) (pos 0) in
     let e : toZ w64 (ofZ w64 z) ≡ z = search needs in
-    ticks-on (l .loop .inv) (t .loop-test .taken) e (d .signed-digits .ensures) (s .put .ensures)
-    (c .put-text .ensures)
+    spaced-on (l .loop .inv) (pos 0) (t .loop-test .taken) (s .put .ensures)
+    (text-written (rw e at (d .signed-digits .ensures)) (signed-whole z) (c .put-text .ensures))
 
 returns : tie.Need-returns Inv-loop μ-loop
 returns c =
     let t = c .before .before .before in
-    ticks-end (t .before .loop .inv) (t .loop-test .left) (c .put2 .ensures)
+    spaced-end (t .before .loop .inv) (t .loop-test .left) (c .put2 .ensures)
 
 pub put-ticks-spec : {M : Type 1} → statement M
 put-ticks-spec =
     tie.close
-    (tie.spec Inv-loop μ-loop (λ c. ticks-all) (λ c. search needs) (λ c κs. search needs) (λ c. search needs)
+    (tie.spec Inv-loop μ-loop (λ c. spaced-all) (λ c. search needs) (λ c κs. search needs) (λ c. search needs)
     (λ c. search needs) (λ c κs. search needs) (λ c κs. text-short _ (c .before .signed-digits .ensures))
     (λ c. search needs) (λ c. search needs) loop-again (λ c. search needs) (λ c κs. search needs) returns)

@@ -1,13 +1,20 @@
 -- What is left to write grows less by a number at each turn.
-use Prim.Native.Nat.{_-_}
+use mathlib.Core.Path.{ap, _∙_}
+use Prim.Native.Nat.{ℕ, _-_}
 use lib.ListN.{length}
 use borrow.Author.Needs.{needs}
-use Rattle.answers.proofs.Written.{WordsLeft, words-all, words-on, words-end, text-short}
+use native.Mathlib.Nat.{le-refl}
+use lib.Ieee.{nan}
+use Rattle.sheet.specs.Text.{textOf}
+use Rattle.sheet.specs.Digits.{wordDigits, hexDigits}
+use Rattle.sheet.specs.laws.LinesFit.{hex-whole}
+use Rattle.answers.specs.Answers.{wordOf}
+use Rattle.answers.proofs.Written.{SpacedLeft, spaced-all, spaced-on, spaced-end, text-short, text-written}
 use Rattle.answers.proofs.parts.put_words.Tie as tie
 use Rattle.answers.proofs.parts.put_words.Statement.{statement}
 
 abbrev Inv-loop : tie.InvT-loop
-Inv-loop numbers out₀ at used₀ i₀ t7 t8 out used i = WordsLeft numbers out₀ used₀ out used i
+Inv-loop numbers out₀ at used₀ i₀ t7 t8 out used i = SpacedLeft wordOf numbers out₀ used₀ out used i
 
 abbrev μ-loop : tie.MeasureT-loop
 μ-loop numbers out₀ at used₀ i₀ t7 t8 out used i = length numbers - i
@@ -23,18 +30,19 @@ loop-again c =
     let d = digits c in
     let s = spaced d in
     let t = s .before .before .before in
-    words-on (t .before .loop .inv) (t .loop-test .taken) (d .before .bits .ensures) (d .word-digits .ensures)
-    (s .put .ensures) (c .put-text .ensures)
+    spaced-on (t .before .loop .inv) nan (t .loop-test .taken) (s .put .ensures)
+    (text-written (d .word-digits .ensures ∙ ap (λ (b : ℕ). textOf (hexDigits wordDigits b)) (d .before .bits .ensures)) (hex-whole wordDigits _ (le-refl _))
+    (c .put-text .ensures))
 
 returns : tie.Need-returns Inv-loop μ-loop
 returns c =
     let t = c .before .before .before in
-    words-end (t .before .loop .inv) (t .loop-test .left) (c .put2 .ensures)
+    spaced-end (t .before .loop .inv) (t .loop-test .left) (c .put2 .ensures)
 
 pub put-words-spec : {M : Type 1} → statement M
 put-words-spec =
     tie.close
-    (tie.spec Inv-loop μ-loop (λ c. words-all) (λ c. search needs) (λ c κs. search needs) (λ c. search needs)
+    (tie.spec Inv-loop μ-loop (λ c. spaced-all) (λ c. search needs) (λ c κs. search needs) (λ c. search needs)
     (λ c. search needs) (λ c κs. search needs) (λ c κs. search needs)
     (λ c κs. text-short _ (c .before .word-digits .ensures)) (λ c. search needs) (λ c. search needs) loop-again
     (λ c. search needs) (λ c κs. search needs) returns)

@@ -11,7 +11,7 @@ use Rattle.board.proofs.Board.lift.Tie as tie
 -- the start, from where the arrays are lent
 abbrev start : tie.After-left2 → tie.Start
 start c =
-    c .before .before .before .before .before .before .before .before .before .before .before .before
+    c .before .before .before .before .before .before .before .before .before .before .before .before .before .before
 
 lift-requires : tie.Need-lift-requires
 lift-requires c κs = (modelOf (start c .args .self), start c .pre, own-standing (modelOf (start c .args .self)))

@@ -1,4 +1,5 @@
--- `lift` takes the currents that the transistor holds out of the totals, and empties its place.
+-- `lift` takes the currents that the transistor holds out of the totals, empties its place and leaves the sets of its
+-- nodes.
 use mathlib.Core.Path.{_≡_, sym, ap, subst, _∙_}
 use Prim.Native.Nat.{ℕ, _≤_, _<_}
 use borrow.Author.Needs.{needs}
@@ -9,7 +10,7 @@ use Rattle.places.specs.inner.Parts.{placeOr}
 use Rattle.places.specs.inner.Flat.{numberPlace}
 use Rattle.places.specs.laws.Founds.{is-there}
 use Rattle.model.specs.Counts.{transistorsMost}
-use Rattle.model.proofs.Placing.{lent-unknown, lent-takes, lent-lifts}
+use Rattle.model.proofs.Placing.{lent-unknown, lent-takes, lent-leaves, lent-lifts}
 use Rattle.model.proofs.calls.lift.Statement.{statement}
 use Rattle.model.proofs.calls.lift.Tie as tie
 
@@ -58,12 +59,28 @@ take-out-requires c κs =
     lent-takes (p .2) (p .1) (s .args .transistor) _ (there (found c)) (noted c .nodes-at .ensures)
     (read c .currents-at .ensures)
 
+-- where the totals are done with, from the places after it
+abbrev emptied : tie.After-on2 → tie.After-put-nodes
+emptied c = c .before .before
+
+abbrev taken : tie.After-on2 → tie.After-take-out
+taken c = emptied c .before .before .before
+
+leave-requires : tie.Need-leave-requires
+leave-requires c κs =
+    let o = taken c .before in
+    let s = start (found o .before) in
+    let p = s .pre in
+    lent-leaves (p .2) (p .1) (s .args .transistor) _ (there (found o)) (noted o .nodes-at .ensures)
+    (read o .currents-at .ensures)
+
 returns-2 : tie.Need-returns-2
 returns-2 c =
-    let n = c .before .before .before in
-    let t = n .before .before .before in
+    let v = c .before .before .before in
+    let n = emptied (v .before) in
+    let t = taken (v .before) in
     let o = t .before in
-    λ b r l. rw (n .put-nodes .ensures, c .put-currents .ensures)
+    λ b r l. rw (n .put-nodes .ensures, v .leave .ensures, c .put-currents .ensures)
     (lent-lifts l r (start (found o .before) .args .transistor) _ (there (found o)) (noted o .nodes-at .ensures)
     (read o .currents-at .ensures) (t .take-out .ensures))
 
@@ -72,4 +89,4 @@ lift-spec =
     tie.close
     (tie.spec (λ c κs. search needs) (λ c κs. search needs) returns (λ c κs. search needs) (λ c κs. search needs)
     take-out-requires (λ c. search needs) (λ c. search needs) (λ c. search needs) (λ c. search needs)
-    (λ c. search needs) (λ c κs. search needs) (λ c κs. search needs) returns-2)
+    (λ c. search needs) (λ c κs. search needs) leave-requires (λ c κs. search needs) returns-2)

@@ -1,4 +1,5 @@
--- `place` asks for the way, works the currents, and unless they overload puts them in and writes the transistor.
+-- `place` asks for the way, works the currents, and unless they overload puts them in, writes the transistor and joins
+-- the sets of its nodes.
 use mathlib.Core.Path.{_≡_, refl, sym, ap, subst, _∙_}
 use mathlib.Core.List.{List, map}
 use Prim.Native.Nat.{ℕ, _≤_, _<_}
@@ -18,7 +19,7 @@ use Rattle.placing.specs.inner.Placing.{placing, wayOf}
 use Rattle.model.specs.Counts.{cardsMost, transistorsMost}
 use Rattle.model.proofs.Placing.{lent-stops, lent-free, lent-number, lent-card, lent-works, lent-over}
 use Rattle.model.specs.Model.{placedOf}
-use Rattle.model.proofs.Placing.{lent-gives, lent-places, lent-seen}
+use Rattle.model.proofs.Placing.{lent-enters, lent-gives, lent-places, lent-seen}
 use Rattle.model.proofs.calls.place.Statement.{statement}
 use Rattle.model.proofs.calls.place.Tie as tie
 
@@ -144,19 +145,36 @@ returns-2 c =
 abbrev passed : tie.After-put-in → tie.Else1
 passed c = c .before .before .before .before .before
 
+-- the currents put in, and the nodes written, from where the sets are joined
+abbrev written : tie.After-on5 → tie.After-put-nodes
+written c = c .before .before
+
+abbrev summed : tie.After-on5 → tie.After-put-in
+summed c = written c .before .before .before .before
+
+join-requires : tie.Need-join-requires
+join-requires c κs =
+    let k = going (passed (summed c)) in
+    let m = went k in
+    let s = start m in
+    let p = s .pre in
+    lent-enters (p .2) (p .1) (s .args .card) (seen m) (long m) (asked m .nodes-of .ensures) (way-is m)
+    (k .before .way2 .given .1)
+
 returns-3 : tie.Need-returns-3
 unfolding placedOf
 returns-3 c =
-    let n = c .before .before .before in
-    let u = n .before .before .before .before in
+    let v = c .before .before .before in
+    let n = written (v .before) in
+    let u = summed (v .before) in
     let f = passed u in
     let t = f .before .before in
     let k = known t in
     let m = went k in
-    λ b r l. rw (lent-seen l r (start m .args .card) (start m .args .roles) ∙ sym (seen-is m), n .put-nodes .ensures, c .put-currents .ensures)
-    (lent-places l r (start m .args .card) (seen m) (long m) (asked m .nodes-of .ensures) (way-is m) (k .before .way2 .given
-    .1)
-    (t .work .ensures) (sym (f .before .is-over .ensures) ∙ f .if1 .left) (u .put-in .ensures))
+    λ b r l. rw (lent-seen l r (start m .args .card) (start m .args .roles) ∙ sym (seen-is m))
+    (lent-places l r (start m .args .card) (seen m) (long m) (asked m .nodes-of .ensures) (way-is m)
+    (k .before .way2 .given .1) (t .work .ensures) (sym (f .before .is-over .ensures) ∙ f .if1 .left)
+    (u .put-in .ensures) (n .put-nodes .ensures) (v .join .ensures) (c .put-currents .ensures))
 
 pub place-spec : {M : Type 1} → statement M
 place-spec =
@@ -171,7 +189,7 @@ place-spec =
     (λ c. let h = free-there (passed (c .before)) in omega arith)
     (λ c. let h = card-there (passed (c .before)) in omega arith)
     (λ c. let h = free-there (passed (c .before)) in omega arith)
-    (λ c κs. free-there (passed (c .before .before .before)))
-    (λ c κs. free-there (passed (c .before .before .before .before .before .before)))
-    (λ c. let h = number-there (passed (c .before .before .before .before .before .before .before)) in omega arith)
+    (λ c κs. free-there (passed (c .before .before .before))) join-requires
+    (λ c κs. free-there (passed (summed (c .before .before .before))))
+    (λ c. let h = number-there (passed (summed (c .before .before .before .before))) in omega arith)
     returns-2 returns-3)

@@ -14,7 +14,8 @@ use Rattle.given.specs.Lists.{larger}
 use Rattle.deck.specs.Stretch.{stretch}
 use Rattle.deck.specs.laws.Ups.{length-up, getD-up}
 use Rattle.places.specs.Counts.{cardsMost}
-use Rattle.places.specs.inner.Flat.{largest, issueIfAt}
+use Rattle.given.specs.Lists.{largest}
+use Rattle.places.specs.inner.Flat.{issueIfAt}
 use Rattle.places.proofs.Scans.{largest-more, largest-none, part-stretch}
 use Rattle.places.proofs.finds.highest.Statement.{statement}
 use Rattle.places.proofs.finds.highest.Tie as tie
