@@ -202,6 +202,9 @@ pub fn judge(record: &[u8]) -> Result<Card, u32> {
     if width == WORDS && (x[21].abs() != 1.0 || record[176..].iter().any(|b| *b != 0)) {
         return Err(8);
     }
+    if x[9] < 0.0 {
+        return Err(19);
+    }
     if x[14].fract() != 0.0 || x[14] < 10_000_000.0 || x[14] > 50_000_000.0 {
         return Err(9);
     }
@@ -213,7 +216,7 @@ pub fn judge(record: &[u8]) -> Result<Card, u32> {
     let nonideal = ibf * mult;
     let ex = sn / bri;
     let sub = iss * mult;
-    let sf = if icss < 0.0 { sub } else { icss * mult };
+    let sf = icss * mult;
     let rex = (4.0 * is) / ik;
     let rsub = (4.0 * is) / iks;
     let product = mlf * octave;

@@ -34,7 +34,7 @@ const PLAIN: [f64; 16] = [
     2.0,
     4.0,
     9e-18,
-    -1.0,
+    9e-18,
     60e-6,
     0.0,
     0.0,
@@ -216,6 +216,7 @@ fn script(d: &mut Dice) -> Vec<u8> {
                     "nothing",
                     "record a 0g",
                     "find a",
+                    "mend",
                 ])
                 .to_string(),
         };

@@ -124,6 +124,26 @@ pub fn write(version: u16, names: &[u8], words: &[u64], library: &mut [u8]) -> R
     Ok(whole)
 }
 
+/// The word of I_CSs in a record.
+const ICSS: usize = 9;
+
+/// Copies a library, with +0 for each finite I_CSs below zero: how many there were. Refusals are those of reading.
+pub fn mend(library: &[u8], output: &mut [u8]) -> Result<usize, u32> {
+    let (width, n) = count(library)?;
+    let output = output.get_mut(..library.len()).ok_or(5u32)?;
+    output.copy_from_slice(library);
+    let mut set = 0;
+    for record in output[16 + 16 * n..].chunks_exact_mut(8 * width) {
+        let word = &mut record[8 * ICSS..8 * ICSS + 8];
+        let icss = f64::from_bits(u64::from_le_bytes((&*word).try_into().unwrap()));
+        if icss.is_finite() && icss < 0.0 {
+            word.fill(0);
+            set += 1;
+        }
+    }
+    Ok(set)
+}
+
 /// Where a card's record starts, and its bytes.
 pub fn locate(library: &[u8], name: &[u8]) -> Result<(usize, usize), u32> {
     let (words, n) = count(library)?;

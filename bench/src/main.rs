@@ -2,8 +2,10 @@
 //!
 //!   bench vectors FOLDER    this implementation against a folder of outside vectors
 //!   bench desk SCRIPT       what the desk must answer to a script
+//!   bench listing LIBRARY   what the listing must print of a library
 //!   bench time NAME TIMES   one of the timed runs: root, exponential, currents, saturated, wide, reverse, sister, empty, still,
-//!                           move, refused, all, named_0, named_1, named_8, named_32, named_64, singly, together, pair, write, read, find, and the last three with _wide, the last
+//!                           move, refused, all, named_0, named_1, named_8, named_32, named_64, singly, together, pair, mend,
+//!                           write, read, find, and the last four with _wide, the last
 //!                           two with _alike and _crowded
 //!   bench differ ROUNDS     random inputs through the built programs (`./desk`, `./listing` of the project) and this implementation
 
@@ -129,7 +131,7 @@ fn timed_record() -> Vec<u8> {
         2.0,
         4.0,
         9e-18,
-        -1.0,
+        9e-18,
         60e-6,
         0.0,
         0.0,
@@ -384,6 +386,21 @@ fn time_write(times: usize, set: &Names, version: u16) {
     println!("{sum}");
 }
 
+fn time_mend(times: usize, set: &Names, version: u16) {
+    let mut l = timed_library(set, version);
+    let size = l.len() / 256 - 16;
+    for record in l[16 + 16 * 256..].chunks_exact_mut(size) {
+        record[79] |= 0x80;
+    }
+    let (mut out, mut sum) = (vec![0; l.len()], 0);
+    for n in 0..times {
+        (set.change)(&mut l, (n % 10) as u8);
+        let set = library::mend(std::hint::black_box(&l), &mut out).unwrap();
+        sum = (sum + set as u64 + out[n % out.len()] as u64) % (1 << 30);
+    }
+    println!("{sum}");
+}
+
 fn time_find(times: usize, set: &Names, version: u16) {
     let (mut l, mut sum) = (timed_library(set, version), 0);
     for n in 0..times {
@@ -420,6 +437,8 @@ fn time(name: &str, times: u64) {
         "find" => time_find(times as usize, &PLAIN, 1),
         "write" => time_write(times as usize, &PLAIN, 1),
         "write_wide" => time_write(times as usize, &PLAIN, 2),
+        "mend" => time_mend(times as usize, &PLAIN, 1),
+        "mend_wide" => time_mend(times as usize, &PLAIN, 2),
         "read_wide" => time_read(times as usize, &PLAIN, 2),
         "find_wide" => time_find(times as usize, &PLAIN, 2),
         "read_alike" => time_read(times as usize, &ALIKE, 1),
@@ -436,6 +455,9 @@ fn main() {
         ["desk", script] => std::io::stdout()
             .write_all(&protocol::Desk::new(read_file).run(&std::fs::read(script).unwrap()))
             .unwrap(),
+        ["listing", library] => std::io::stdout()
+            .write_all(&protocol::listing(&std::fs::read(library).unwrap()))
+            .unwrap(),
         ["time", name, times] => time(name, times.parse().unwrap()),
         ["vectors", folder] => vectors(&std::fs::canonicalize(folder).unwrap()),
         ["differ", rounds] => {
@@ -448,7 +470,7 @@ fn main() {
             );
         }
         _ => {
-            println!("usage: bench vectors FOLDER | desk SCRIPT | time NAME TIMES | differ ROUNDS")
+            println!("usage: bench vectors FOLDER | desk SCRIPT | listing LIBRARY | time NAME TIMES | differ ROUNDS")
         }
     }
 }

@@ -201,6 +201,13 @@ impl Desk {
             (b"sum", 1) => told(self.board.sum(number(rest[0])?), |(t, c, largest)| {
                 format!("sum {t} {c} {largest}")
             }),
+            (b"mend", 0) => {
+                let mut mended = vec![0; self.library.len()];
+                told(library::mend(&self.library, &mut mended), |n| {
+                    self.library = mended;
+                    format!("mended {n}")
+                })
+            }
             (b"sheet", 0) => {
                 let (volts, totals) = self.board.reading();
                 let mut s = String::from("sheet 32");

@@ -24,6 +24,8 @@ pub enum Answer {
     Sheet,
     Refused(Refusal),
     TooLong,
+    // how many cards of the library held were mended
+    Mended(u32),
 }
 
 // Each line is written at the start of a lent buffer; what comes back is how many bytes it has.
@@ -42,6 +44,7 @@ pub fn answer_line(a: Answer, out: &mut [u8; ANSWER_ROOM]) -> usize
         Answer::Sheet => parts::label(b"sheet", parts::SHEET_NODES, out),
         Answer::Refused(f) => parts::refused(f, out),
         Answer::TooLong => page::put(b"error line too long\n", out, 0),
+        Answer::Mended(n) => parts::label(b"mended", n as u64, out),
     }
 }
 

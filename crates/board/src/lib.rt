@@ -71,7 +71,7 @@ impl Board {
         }
     }
 
-    // A card under a name: 1, 2, 6 to 10, 11, 17. It gets the next issue number.
+    // A card under a name: 1, 2, 6, 7, 8, 19, 9, 10, 11, 17. It gets the next issue number.
     pub fn load(mut self, name: &[u8], bytes: &[u8]) -> Answered
         requires { ⌜ Reached self ⌝ }
         ensures { λ r. ⌜ r ≡ givenAs (loadedOf (modelOf self) (now (name .entry)) (now (bytes .entry))) ⌝ }

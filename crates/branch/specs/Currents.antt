@@ -1,4 +1,4 @@
--- The currents of a record at the voltages of its roles, or the first refusal: 1, 6 to 10, 13, 15 or 18.
+-- The currents of a record at the voltages of its roles, or the first refusal: 1, 6, 7, 8, 19, 9, 10, 13, 15 or 18.
 use mathlib.Core.Path.{_≡_}
 use mathlib.Core.List.{List}
 use Prim.Native.Nat.{ℕ}

@@ -24,7 +24,7 @@ pub struct Reply {
     pub ticks: [i64; BRANCHES],
 }
 
-// The currents of a record of a card at the voltages of its roles, in microvolts: 1, 6 to 10, 13, 15 or 18.
+// The currents of a record of a card at the voltages of its roles, in microvolts: 1, 6, 7, 8, 19, 9, 10, 13, 15 or 18.
 pub fn currents(bytes: &[u8], volts: &[i64; ROLES]) -> Reply
     ensures { λ r. ⌜ Replies (now (bytes .entry)) (now (volts .entry)) r ⌝ }
 {

@@ -8,7 +8,7 @@ use lib.IntN.{pos, negsuc}
 use lib.Ieee.{Float, fin, binary64, ofBits, eq, le, mul}
 use lib.Ieee.Positive.{above, positive, above-of-le, mul-mono}
 use Rattle.refusal.specs.declared.Refusal.{Refusal}
-use Rattle.refusal.specs.declared.Refusal.the-variants.{WrongLevel, BadExsub, BadOctave, OutOfReach}
+use Rattle.refusal.specs.declared.Refusal.the-variants.{WrongLevel, BadExsub, NegativeIcss, BadOctave, OutOfReach}
 use Rattle.refusal.specs.Told.{told}
 use Rattle.refusal.specs.Clash.{clash}
 use Rattle.refusal.specs.Order.{Verdict, no, refuseIf, refused, given, tells}
@@ -22,8 +22,8 @@ use Rattle.working.specs.Work.{workedOf, allFinite}
 use Rattle.card.specs.Octave.{ten-million, fifty-million, wholePart, octaveGood, secondGood}
 use Rattle.card.specs.Knee.{kneeGood, kneeOf}
 use Rattle.card.specs.Judge.{hasLeads, parametersOf, exsub, rcblx, rcbli, octave, level, vlr, mlf, product}
-use Rattle.card.specs.Judge.{cardFrom, cardOf, polarity, minusOne, level504, settingsGood, withinReach, reachOf}
-use Rattle.card.specs.Judge.{judgeNumbers}
+use Rattle.card.specs.Judge.{cardFrom, cardOf, polarity, minusOne, level504, settingsGood}
+use Rattle.card.specs.Judge.{icssBelow, withinReach, reachOf, judgeNumbers}
 use Rattle.card.specs.inner.Octaves.{secondIf, secondOf}
 use Rattle.card.specs.inner.Tests.{unlessPassed, firstWrong}
 use Rattle.card.specs.inner.Worked.{GoodMlf}
@@ -66,43 +66,41 @@ mlf-positive x g =
     let l = subst (λ (k : Float). T (le k (mlf x))) tenth-is (g .least) in
     positive-of (mlf x) (above-of-le (fin false 3602879701896397 (negsuc 54)) (mlf x) tt l) (g .number)
 
--- ---- 7, 8, 9
-module _ (a b c : Bool) (e f g : Refusal) where
-  abbrev first : Answer
-  first = unlessPassed a e (unlessPassed b f (unlessPassed c g answer.Taken))
+-- ---- 7, 8, 19, 9
+module _ (e f g h : Refusal) where
+  -- the tests a, b and c are to be passed, and n is not to hold: what the code makes of them, and the order of refusals
+  abbrev first : Bool → Bool → Bool → Bool → Answer
+  first a b n c = unlessPassed a e (unlessPassed b f (unlessPassed (not n) g (unlessPassed c h answer.Taken)))
 
-  none-wrong : (v : Verdict WorkedCard) → first ≡ answer.Taken
-      → (refuseIf (not a) e (refuseIf (not b) f (refuseIf (not c) g v)) ≡ v) × (c ≡ true)
-  none-wrong v t = of a b c t
-    where
-      of : (a b c : Bool) → unlessPassed a e (unlessPassed b f (unlessPassed c g answer.Taken)) ≡ answer.Taken
-          → (refuseIf (not a) e (refuseIf (not b) f (refuseIf (not c) g v)) ≡ v) × (c ≡ true)
-      of true true true t = (refl, refl)
-      of true true false t = clash cc
-      of true false c t = clash cc
-      of false b c t = clash cc
+  abbrev order : Bool → Bool → Bool → Bool → Verdict WorkedCard → Verdict WorkedCard
+  order a b n c v = refuseIf (not a) e (refuseIf (not b) f (refuseIf n g (refuseIf (not c) h v)))
 
-  some-wrong : (v : Verdict WorkedCard) (h : Refusal) → first ≡ answer.Refused h
-      → refuseIf (not a) e (refuseIf (not b) f (refuseIf (not c) g v)) ≡ no h
-  some-wrong v h t = of a b c t
-    where
-      of : (a b c : Bool) → unlessPassed a e (unlessPassed b f (unlessPassed c g answer.Taken)) ≡ answer.Refused h
-          → refuseIf (not a) e (refuseIf (not b) f (refuseIf (not c) g v)) ≡ no h
-      of true true true t = clash cc
-      of true true false t = cc
-      of true false c t = cc
-      of false b c t = cc
+  none-wrong : (a b n c : Bool) (v : Verdict WorkedCard) → first a b n c ≡ answer.Taken
+      → (order a b n c v ≡ v) × (c ≡ true)
+  none-wrong true true false true v t = (refl, refl)
+  none-wrong true true false false v t = clash cc
+  none-wrong true true true c v t = clash cc
+  none-wrong true false n c v t = clash cc
+  none-wrong false b n c v t = clash cc
+
+  some-wrong : (a b n c : Bool) (v : Verdict WorkedCard) (k : Refusal) → first a b n c ≡ answer.Refused k
+      → order a b n c v ≡ no k
+  some-wrong true true false true v k t = clash cc
+  some-wrong true true false false v k t = cc
+  some-wrong true true true c v k t = cc
+  some-wrong true false n c v k t = cc
+  some-wrong false b n c v k t = cc
 
 module _ (spares : Bool) (x : List Float) {r : Answer} (e : r ≡ firstWrong spares x) where
   pub goes-on : r ≡ answer.Taken → (judgeNumbers spares x ≡ reachOf x) × (octaveGood (octave x) ≡ true)
   goes-on t =
-      none-wrong (eq (level x) level504) (settingsGood spares x) (octaveGood (octave x)) WrongLevel BadExsub BadOctave
-      (reachOf x) (sym e ∙ t)
+      none-wrong WrongLevel BadExsub NegativeIcss BadOctave (eq (level x) level504) (settingsGood spares x)
+      (icssBelow x) (octaveGood (octave x)) (reachOf x) (sym e ∙ t)
 
   pub stops : (f : Refusal) → r ≡ answer.Refused f → judgeNumbers spares x ≡ no f
   stops f t =
-      some-wrong (eq (level x) level504) (settingsGood spares x) (octaveGood (octave x)) WrongLevel BadExsub BadOctave
-      (reachOf x) f (sym e ∙ t)
+      some-wrong WrongLevel BadExsub NegativeIcss BadOctave (eq (level x) level504) (settingsGood spares x)
+      (icssBelow x) (octaveGood (octave x)) (reachOf x) f (sym e ∙ t)
 
 -- ---- 10
 module _ (x : List Float) where

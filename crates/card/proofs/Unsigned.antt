@@ -1,4 +1,4 @@
--- The fifteen worked values of a record's clipped numbers have no minus sign.
+-- The fifteen worked values of a card that loading takes have no minus sign.
 use mathlib.Core.Path.{_≡_, refl, sym, ap, subst, _∙_}
 use mathlib.Core.Bool.{Bool, true, false, cond}
 use mathlib.Core.List.{List}
@@ -7,19 +7,23 @@ use native.Mathlib.Omega.{arith}
 use lib.Dec.{T}
 use lib.Ieee.{Float, binary64, ofBits, lt, eq, mul, sub}
 use lib.Ieee.Scale.{finite}
+use Rattle.refusal.specs.Order.{yes}
 use Rattle.working.specs.declared.Worked.{Worked}
+use Rattle.card.specs.declared.WorkedCard.{WorkedCard}
 use Rattle.clip.specs.declared.limits.Rule.{Rule}
 use Rattle.clip.specs.declared.limits.Rule.the-variants.{Free, AtLeast, Between}
 use Rattle.clip.specs.Numbers as number
 use Rattle.clip.specs.Limits.{wide, narrow, zero, one, pico, tenth-milli, tenth-nano, milli, ruleOf, plainOf, clipTo}
-use Rattle.clip.specs.Record.{isWide, numberAt, widthOf, finiteUp}
+use Rattle.clip.specs.Record.{isWide, numberAt, finiteUp}
 use Rattle.clip.specs.Clip.{clippedAt}
-use Rattle.working.specs.Work.{four, million, sfOf, conductanceOf, workedOf, valuesOf}
+use Rattle.working.specs.Work.{four, million, conductanceOf, workedOf, valuesOf}
 use Rattle.card.specs.Judge.{numbersFor, judgedNumbers, at, hasLeads, resistanceOf, parametersOf}
+use Rattle.card.specs.Judge.{icss, icssBelow, judgeOf}
 use Rattle.card.specs.inner.Worked.{Each}
 use Rattle.card.specs.laws.Sign.{unsigned, Unsigned}
 use Rattle.card.proofs.Range.{holds}
 use Rattle.card.proofs.Clipped.{each-finite, in-both, each-judged, each-missing}
+use Rattle.card.proofs.WorkedCards.{passes}
 use Rattle.card.proofs.Signs.{plus, plus-unsigned, zero-plus, kept-plus, least-plus, between-plus, mul-unsigned}
 use Rattle.card.proofs.Signs.{cond-unsigned, div-unsigned, sub-unsigned}
 
@@ -56,21 +60,13 @@ under-one x = of (lt x zero) (lt one x) refl
     of false true e = plainly one one-under
     of false false e = plainly x e
 
--- ---- I_CSs, where it is not negative
+-- ---- I_CSs, which is not below zero
 free-plus : (x : Float) → T (finite x) → lt (plainOf x) zero ≡ false → T (plus (plainOf x))
 free-plus x f h = of (eq x zero) refl h
   where
     of : (b : Bool) → eq x zero ≡ b → lt (cond b zero x) zero ≡ false → T (plus (plainOf x))
     of true e k = subst (λ (b : Bool). T (plus (cond b zero x))) (sym e) zero-plus
     of false e k = kept-plus zero x zero-plus f k
-
-sf-unsigned : (icss mult sub : Float) → (lt icss zero ≡ false → T (plus icss)) → T (unsigned mult) → T (unsigned sub)
-    → T (unsigned (sfOf icss mult sub))
-sf-unsigned icss mult sub p q r = of (lt icss zero) refl
-  where
-    of : (b : Bool) → lt icss zero ≡ b → T (unsigned (cond b sub (mul binary64 icss mult)))
-    of true e = r
-    of false e = mul-unsigned binary64 icss mult (plus-unsigned icss (p e)) q
 
 -- ---- a conductance, of a resistance without a minus sign
 conductance-unsigned : (mult r : Float) → T (unsigned mult) → T (unsigned r) → T (unsigned (conductanceOf mult r))
@@ -124,7 +120,7 @@ module _ (s : List ℕ) (b : Bool) (f : finiteUp s (cond b wide narrow) ≡ true
   left-of-one =
       sub-unsigned binary64 one xibi (limits-plus .0) xibi-plus (rw xibi-at (under-one (numberAt s number.xibi)))
 
-  icss-plus : lt (at x number.icss) zero ≡ false → T (plus (at x number.icss))
+  icss-plus : icssBelow x ≡ false → T (plus (icss x))
   icss-plus h =
       let l = in-both b number.icss (omega arith) in
       let e = by-rule number.icss Free l refl in
@@ -143,8 +139,8 @@ module _ (s : List ℕ) (b : Bool) (f : finiteUp s (cond b wide narrow) ≡ true
     pub rbc : T (plus (at x number.rbc))
     pub rcc : T (plus (at x number.rcc))
 
-  values-unsigned : Further → Each Unsigned (valuesOf w)
-  values-unsigned more =
+  values-unsigned : icssBelow x ≡ false → Further → Each Unsigned (valuesOf w)
+  values-unsigned not-below more =
       let times = mul-unsigned binary64 in
       let over = div-unsigned binary64 in
       let mult = from-zero number.mult (omega arith) refl in
@@ -158,7 +154,7 @@ module _ (s : List ℕ) (b : Bool) (f : finiteUp s (cond b wide narrow) ≡ true
       let side = times xibi (w .sn) (plus-unsigned xibi xibi-plus) sn in
       let nonideal = times (at x number.ibf) (at x number.mult) (from-zero number.ibf (omega arith) refl) mult in
       let bri = above number.bri tenth-nano (omega arith) refl (limits-plus .4) in
-      let sf = sf-unsigned (at x number.icss) (at x number.mult) (w .sub) icss-plus mult ss in
+      let sf = times (icss x) (at x number.mult) (plus-unsigned (icss x) (icss-plus not-below)) mult in
       let ik = above number.ik pico (omega arith) refl (limits-plus .2) in
       let iks = above number.iks pico (omega arith) refl (limits-plus .2) in
       let bulk-share = over (mul binary64 (sub binary64 one xibi) (w .sn)) (at x number.bf) bulk bf in
@@ -191,6 +187,8 @@ further s false f =
       rcc = rw (each-missing s 4) zero-plus;
     }
 
-pub worked-unsigned : (s : List ℕ) → finiteUp s (widthOf s) ≡ true
+pub worked-unsigned : (s : List ℕ) (c : WorkedCard) → judgeOf s ≡ yes c
     → Each Unsigned (valuesOf (workedOf (parametersOf (judgedNumbers s))))
-worked-unsigned s f = values-unsigned s (isWide s) f (further s (isWide s) f)
+worked-unsigned s c e =
+    let p = passes s c e in
+    values-unsigned s (isWide s) (p .finite) (p .icss) (further s (isWide s) (p .finite))

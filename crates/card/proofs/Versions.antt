@@ -14,7 +14,8 @@ use lib.Ieee.Fits.{up-pos}
 use lib.Ieee.Positive.{positive}
 use lib.Ieee.Scale.{finite}
 use borrow.Author.Tests.{eqb-true, ne-eqb, lt-ltb}
-use Rattle.refusal.specs.declared.Refusal.the-variants.{NotFinite, WrongLevel, BadExsub, BadOctave, OutOfReach}
+use Rattle.refusal.specs.declared.Refusal.the-variants.{NotFinite, WrongLevel, BadExsub, NegativeIcss}
+use Rattle.refusal.specs.declared.Refusal.the-variants.{BadOctave, OutOfReach}
 use Rattle.refusal.specs.Order as order
 use Rattle.refusal.specs.Order.{Verdict, refuseIf}
 use Rattle.working.specs.declared.Worked.{Worked}
@@ -28,7 +29,7 @@ use Rattle.working.specs.Work.{conductanceOf, workedOf, leadsOf, all, allFinite
 use Rattle.card.specs.Octave.{octaveGood, secondGood}
 use Rattle.card.specs.Knee.{kneeGood}
 use Rattle.card.specs.Judge.{numbersFor, judgedNumbers, at, hasLeads, resistanceOf, parametersOf, level, level504, octave, vlr, polarity, sparesGood}
-use Rattle.card.specs.Judge.{settingsGood, withinReach, cardOf, judgeNumbers, judgeOf}
+use Rattle.card.specs.Judge.{settingsGood, icssBelow, withinReach, cardOf, judgeNumbers, judgeOf}
 use Rattle.card.specs.laws.Tells.{judge-order}
 use Rattle.card.specs.laws.Version.{SaysNoMore, withLeads, judgedWithLeads}
 use Rattle.card.proofs.Range.{holds}
@@ -40,25 +41,28 @@ and-yes true = refl
 and-yes false = refl
 
 -- ---- the tests of clipped numbers and the card behind them, as one function of their outcomes
-shape : Bool → Bool → Bool → Bool → WorkedCard → Verdict WorkedCard
-shape a b c d w =
+shape : Bool → Bool → Bool → Bool → Bool → WorkedCard → Verdict WorkedCard
+shape a b n c d w =
     refuseIf (not a) WrongLevel
-    (refuseIf (not b) BadExsub (refuseIf (not c) BadOctave (refuseIf (not d) OutOfReach (order.yes w))))
+    (refuseIf (not b) BadExsub
+    (refuseIf n NegativeIcss (refuseIf (not c) BadOctave (refuseIf (not d) OutOfReach (order.yes w)))))
 
 shaped : (spares : Bool) (x : List Float)
     → judgeNumbers spares x
-    ≡ shape (eq (level x) level504) (settingsGood spares x) (octaveGood (octave x)) (withinReach x) (cardOf x)
+    ≡ shape (eq (level x) level504) (settingsGood spares x) (icssBelow x) (octaveGood (octave x)) (withinReach x)
+    (cardOf x)
 unfolding shape
 shaped spares x = refl
 
-shape-at : (v : WorkedCard) (a b c d : Bool) (w : WorkedCard)
-    → shape a b c d (withLeads v w) ≡ judgedWithLeads v (shape a b c d w)
+shape-at : (v : WorkedCard) (a b n c d : Bool) (w : WorkedCard)
+    → shape a b n c d (withLeads v w) ≡ judgedWithLeads v (shape a b n c d w)
 unfolding shape
-shape-at v false b c d w = refl
-shape-at v true false c d w = refl
-shape-at v true true false d w = refl
-shape-at v true true true false w = refl
-shape-at v true true true true w = refl
+shape-at v false b n c d w = refl
+shape-at v true false n c d w = refl
+shape-at v true true true c d w = refl
+shape-at v true true false false d w = refl
+shape-at v true true false true false w = refl
+shape-at v true true false true true w = refl
 
 refuse-at : (v : WorkedCard) (b : Bool) (j : Verdict WorkedCard)
     → refuseIf b NotFinite (judgedWithLeads v j) ≡ judgedWithLeads v (refuseIf b NotFinite j)
@@ -275,11 +279,12 @@ module _ {s t : List ℕ} (p : SaysNoMore s t) where
   numbers-alike =
       let a = ap (λ (f : Float). eq f level504) (at-same number.level (omega arith)) in
       let b = settings-same in
+      let n = ap (λ (f : Float). lt f limits.zero) (shared .icss) in
       let c = ap octaveGood (at-same number.octave (omega arith)) in
       let d = reach-same in
       let e = card-same in
       shaped true y ∙ cc (
-        shape-at (cardOf y) (eq (level x) level504) (settingsGood true x)
+        shape-at (cardOf y) (eq (level x) level504) (settingsGood true x) (icssBelow x)
             (octaveGood (octave x)) (withinReach x) (cardOf x),
         shaped true x,
       )

@@ -6,13 +6,13 @@ use Prim.Native.Nat.{ℕ, _≤_}
 use native.Mathlib.Omega.{arith}
 use lib.Dec.{T}
 use lib.IntN.{pos, subℕ}
-use lib.Ieee.{Float, fin, binary64, ofBits, eq, le, lt, mul, fits}
+use lib.Ieee.{Float, fin, binary64, ofBits, eq, le, mul, fits}
 use lib.Ieee.Fits.{mul-fits, div-fits, cond-fits}
 use lib.Ieee.Positive.{positive, le→cross}
 use lib.Ieee.Scale.{finite}
 use borrow.Author.Tests.{leb-true, not-false}
 use Rattle.refusal.specs.declared.Refusal.the-variants.{Malformed, NotFinite, WrongLevel, BadExsub, BadOctave}
-use Rattle.refusal.specs.declared.Refusal.the-variants.{OutOfReach}
+use Rattle.refusal.specs.declared.Refusal.the-variants.{NegativeIcss, OutOfReach}
 use Rattle.refusal.specs.Order.{Verdict, yes, refuseIf, passes-if}
 use Rattle.float.specs.Split.{splitB, splitOf, splitBias, IsSplit}
 use Rattle.float.proofs.Kept.{is-split, power-kept}
@@ -24,7 +24,7 @@ use Rattle.working.specs.Work.{million, conductanceOf, workedOf, leadsOf, value
 use Rattle.card.specs.Octave.{ten-million, fifty-million, secondMost, wholePart, octaveGood, secondGood}
 use Rattle.card.specs.Knee.{kneeGood, kneeRaise, microvoltsOf}
 use Rattle.card.specs.Judge.{judgedNumbers, parametersOf, mlf, octave, level, level504, vlr, product, cardOf}
-use Rattle.card.specs.Judge.{sparesGood, settingsGood, withinReach, judgeNumbers, judgeOf}
+use Rattle.card.specs.Judge.{sparesGood, settingsGood, icssBelow, withinReach, judgeNumbers, judgeOf}
 use Rattle.card.specs.inner.Worked.{Each, GoodMlf, secondLeast, IsWorked}
 use Rattle.card.specs.laws.Tells.{judge-order}
 use Rattle.card.proofs.Whole.{positive-of, whole-least}
@@ -56,10 +56,9 @@ module _ (P : Float → Type 0) (h : (x : Float) → T (fits binary64 x) → T (
   each-worked p =
       let mul = mul-fits binary64 in
       let div = div-fits binary64 in
-      let either = cond-fits binary64 (lt (p .icss) zero) _ _ (mul (p .iss) (p .mult)) (mul (p .icss) (p .mult)) in
       each-finite (valuesOf (workedOf p)) (
         mul _ _,
-        (div _ _, (div _ _, (mul _ _, (div _ _, (mul _ _, (either, (div _ _, (div _ _, (mul _ _, leads-fit p))))))))),
+        (div _ _, (div _ _, (mul _ _, (div _ _, (mul _ _, (mul _ _, (div _ _, (div _ _, (mul _ _, leads-fit p))))))))),
       )
 
 -- ---- the second octave
@@ -87,29 +86,33 @@ card-is-worked x g o r =
     }
 
 -- ---- the tests that a card has passed
-record Passes (s : List ℕ) (c : WorkedCard) : Type 0 where
+pub record Passes (s : List ℕ) (c : WorkedCard) : Type 0 where
   pub finite : finiteUp s (widthOf s) ≡ true
+  pub icss : icssBelow (judgedNumbers s) ≡ false
   pub octave : octaveGood (octave (judgedNumbers s)) ≡ true
   pub reach : withinReach (judgedNumbers s) ≡ true
   pub card : c ≡ cardOf (judgedNumbers s)
 
-passes : (s : List ℕ) (c : WorkedCard) → judgeOf s ≡ yes c → Passes s c
+pub passes : (s : List ℕ) (c : WorkedCard) → judgeOf s ≡ yes c → Passes s c
 passes s c e =
     let x = judgedNumbers s in
     let numbers = judgeNumbers (sparesGood s) x in
     let settings = settingsGood (sparesGood s) x in
     let at10 : Verdict WorkedCard = refuseIf (not (withinReach x)) OutOfReach (yes (cardOf x)) in
     let at9 : Verdict WorkedCard = refuseIf (not (octaveGood (octave x))) BadOctave at10 in
-    let at8 : Verdict WorkedCard = refuseIf (not settings) BadExsub at9 in
+    let at19 : Verdict WorkedCard = refuseIf (icssBelow x) NegativeIcss at9 in
+    let at8 : Verdict WorkedCard = refuseIf (not settings) BadExsub at19 in
     let at6 : Verdict WorkedCard = refuseIf (not (finiteUp s (widthOf s))) NotFinite numbers in
     let one = passes-if (not (rightLength s)) Malformed at6 c (sym (judge-order s) ∙ e) in
     let six = passes-if (not (finiteUp s (widthOf s))) NotFinite numbers c (one .1) in
     let seven = passes-if (not (eq (level x) level504)) WrongLevel at8 c (six .1) in
-    let eight = passes-if (not settings) BadExsub at9 c (seven .1) in
-    let nine = passes-if (not (octaveGood (octave x))) BadOctave at10 c (eight .1) in
+    let eight = passes-if (not settings) BadExsub at19 c (seven .1) in
+    let nineteen = passes-if (icssBelow x) NegativeIcss at9 c (eight .1) in
+    let nine = passes-if (not (octaveGood (octave x))) BadOctave at10 c (nineteen .1) in
     let ten = passes-if (not (withinReach x)) OutOfReach (yes (cardOf x)) c (nine .1) in
     let same : yes (cardOf x) ≡ yes c = ten .1 in record {
       finite = not-false (finiteUp s (widthOf s)) (six .0);
+      icss = nineteen .0;
       octave = not-false (octaveGood (octave x)) (nine .0);
       reach = not-false (withinReach x) (ten .0);
       card = cc;

@@ -1,11 +1,11 @@
--- What loading says of a record: 1, 6, 7, 8, 9, 10, or the worked card.
+-- What loading says of a record: 1, 6, 7, 8, 19, 9, 10, or the worked card.
 use mathlib.Core.Bool.{Bool, true, false, not, cond, _&&_, _||_}
 use mathlib.Core.List.{List, [], _∷_, _++_}
 use Prim.Native.Nat.{ℕ, suc}
 use lib.Dec.{eqb}
 use lib.ListN.{getD}
 use lib.Ieee.{Float, nan, binary64, ofBits, lt, eq, mul}
-use Rattle.refusal.specs.declared.Refusal.the-variants.{WrongLevel, BadExsub, BadOctave, OutOfReach}
+use Rattle.refusal.specs.declared.Refusal.the-variants.{WrongLevel, BadExsub, NegativeIcss, BadOctave, OutOfReach}
 use Rattle.refusal.specs.Told.{told}
 use Rattle.refusal.specs.Order.{Verdict, yes, refuseIf, andThen, Answer, refused, given}
 use Rattle.float.specs.Split.{splitOf, noSplit}
@@ -80,6 +80,9 @@ rcbli x = at x number.rcbli
 
 abbrev pub exsub : List Float → Float
 exsub x = at x number.exsub
+
+abbrev pub icss : List Float → Float
+icss x = at x number.icss
 
 abbrev pub octave : List Float → Float
 octave x = at x number.octave
@@ -183,6 +186,10 @@ isPolarity x = eq x one || eq x minusOne
 abbrev pub settingsGood : Bool → List Float → Bool
 settingsGood spares x = isSwitch (exsub x) && (isPolarity (polarity x) && spares)
 
+-- I_CSs is below zero; -0 is not
+abbrev pub icssBelow : List Float → Bool
+icssBelow x = lt (icss x) zero
+
 -- the product and each worked value is finite, the second octave is not above its limit, and V_Lr is not beyond its own
 abbrev pub withinReach : List Float → Bool
 withinReach x = secondGood (product x) && (kneeGood (vlr x) && allFinite (workedOf (parametersOf x)))
@@ -191,11 +198,12 @@ withinReach x = secondGood (product x) && (kneeGood (vlr x) && allFinite (worked
 abbrev pub reachOf : List Float → Verdict WorkedCard
 reachOf x = refuseIf (not (withinReach x)) OutOfReach (yes (cardOf x))
 
--- 7, 8, 9, and then that
+-- 7, 8, 19, 9, and then that
 abbrev pub judgeNumbers : Bool → List Float → Verdict WorkedCard
 judgeNumbers spares x =
     refuseIf (not (eq (level x) level504)) WrongLevel
-    (refuseIf (not (settingsGood spares x)) BadExsub (refuseIf (not (octaveGood (octave x))) BadOctave (reachOf x)))
+    (refuseIf (not (settingsGood spares x)) BadExsub
+    (refuseIf (icssBelow x) NegativeIcss (refuseIf (not (octaveGood (octave x))) BadOctave (reachOf x))))
 
 -- of a record: clipping's 1 and 6 first
 unfoldable pub judgeOf : List ℕ → Verdict WorkedCard

@@ -132,16 +132,19 @@ fn settings_good(x: &[f64; WIDTH], spares: bool) -> bool
     both(is_switch(x[numbers::EXSUB]), both(polarity, spares))
 }
 
-// 7, 8, then 9.
+// 7, 8, 19, then 9.
 fn first_wrong(x: &[f64; WIDTH], spares: bool) -> Answer
     ensures { λ r. ⌜ r ≡ firstWrong spares (now (x .entry)) ⌝ }
 {
     let level = x[numbers::LEVEL] == 504.0;
     let good = settings_good(x, spares);
+    let icss = !(x[numbers::ICSS] < 0.0);
     let octave = octaves::is_octave(x[numbers::OCTAVE]);
     let bad_exsub = Refusal::BadExsub;
+    let negative_icss = Refusal::NegativeIcss;
     let bad_octave = Refusal::BadOctave;
-    let after = unless(good, bad_exsub, unless(octave, bad_octave, Answer::Taken));
+    let last = unless(octave, bad_octave, Answer::Taken);
+    let after = unless(good, bad_exsub, unless(icss, negative_icss, last));
     unless(level, Refusal::WrongLevel, after)
 }
 
@@ -179,7 +182,7 @@ fn reach(x: &[f64; WIDTH]) -> Judged
     }
 }
 
-// 7 to 10, or the worked card.
+// 7, 8, 19, 9, 10, or the worked card.
 pub(crate) fn judge_numbers(x: &[f64; WIDTH], spares: bool) -> Judged
     requires { ⌜ GoodMlf (now x) ⌝ }
     ensures { λ r. ⌜ toldJudged r ≡ tells (judgeNumbers spares (now (x .entry))) ⌝ }

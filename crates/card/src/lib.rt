@@ -87,7 +87,7 @@ pub fn no_card() -> WorkedCard
     }
 }
 
-// What loading says of a record, its name and its place apart: 1, then 6 to 10.
+// What loading says of a record, its name and its place apart: 1, 6, 7, 8, 19, 9, 10.
 pub fn judge(bytes: &[u8]) -> Judged
     ensures { λ r. ⌜ toldJudged r ≡ tells (judgeOf (now (bytes .entry))) ⌝ }
 {

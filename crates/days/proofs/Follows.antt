@@ -28,7 +28,8 @@ use Rattle.terms.specs.Looked.{lookedAt}
 use Rattle.model.specs.Verdict.{placeVerdict, moveVerdict, liftVerdict, withdrawVerdict, nodeVerdict, openVerdict}
 use Rattle.model.specs.Verdict.{listVerdict}
 use Rattle.model.specs.Desk as desk
-use Rattle.model.specs.Desk.{Held, Standing, Desk, Call, load, place, move, lift, withdraw, lookUp, node, currents, who, sumUp}
+use Rattle.model.specs.Desk.{Held, Standing, Desk, Call, load, place, move, lift, withdraw, lookUp, node, currents}
+use Rattle.model.specs.Desk.{who, sumUp}
 use Rattle.totals.specs.Flow.{overloads, sumOver}
 use Rattle.given.specs.Lists.{anyOf, larger}
 use Rattle.model.specs.Desk.{firstWith, heldAs, standsAs, without, highest}
@@ -41,8 +42,8 @@ use Rattle.places.specs.Gathered.{noCard, emptyTransistor, noTransistor, worked
 use Rattle.model.specs.inner.Sums.{placeGives}
 use Rattle.model.specs.Model.{freshBoard, voltsOf, loadedOf}
 use Rattle.places.specs.Finding.{freeCard, freeTransistor, standsOn, highestAt}
-use Rattle.model.specs.Model.{placedOf, movedOf, liftedOf, withdrawnOf, lookedOf, showedOf, openedOf, listedOf, summedOf}
-use Rattle.model.specs.Model.{answered, boardAfter}
+use Rattle.model.specs.Model.{placedOf, movedOf, liftedOf, withdrawnOf, lookedOf, showedOf, openedOf, listedOf}
+use Rattle.model.specs.Model.{summedOf, answered, boardAfter}
 use Rattle.days.specs.Perm.{empty}
 use Rattle.days.specs.Stands.{occupied, heldOf, standingOf, heldIn, standingIn, heldAt, standingAt, mapFound}
 use Rattle.days.specs.Stands.{standsUnder, Stands, Follow}
@@ -690,7 +691,8 @@ module _ (b : Board) (d : Desk) (g : Invariant b) (o : Orderly d) (s : Stands b 
       go (no f) e = record { reply = refl; board = s }
       go (yes k) e =
           let h = shown n e in
-          let count = perm-length (issues-told b d g s k h) ∙ length-map (desk.standingOn d k) (λ (t : Standing). t .issue) in
+          let count =
+          perm-length (issues-told b d g s k h) ∙ length-map (desk.standingOn d k) (λ (t : Standing). t .issue) in
           let cards = perm-different (cards-told b d g s k h) in
           let most = perm-largest (sizes-told b d g s k h) in
           record { reply = λ j. desk.sums (count j) (cards j) (most j); board = s }

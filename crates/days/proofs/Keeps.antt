@@ -17,7 +17,8 @@ use Rattle.card.specs.declared.WorkedCard.{WorkedCard}
 use Rattle.given.specs.Arguments.{Found, none, some, issueOf, known}
 use Rattle.given.specs.Pairs.{Shift}
 use Rattle.model.specs.Desk as desk
-use Rattle.model.specs.Desk.{Held, Standing, Desk, Call, load, place, move, lift, withdraw, lookUp, node, currents, who, sumUp}
+use Rattle.model.specs.Desk.{Held, Standing, Desk, Call, load, place, move, lift, withdraw, lookUp, node, currents}
+use Rattle.model.specs.Desk.{who, sumUp}
 use Rattle.given.specs.Lists.{anyOf, keepIf}
 use Rattle.model.specs.Desk.{firstWith, ifTrue, standsAs, without, step, after}
 use Rattle.model.specs.Model.{boardAfter}

@@ -1,9 +1,9 @@
--- The sets of nodes over any calls: each is a fresh scan, a move leaves whoever is in none of its nodes' sets as it was,
--- and what is listed of a node are its transistors, each once, in rising order.
+-- The sets of nodes over any calls: each is a fresh scan, a move leaves whoever is in none of its nodes' sets as it
+-- was, and what is listed of a node are its transistors, each once, in rising order.
 use mathlib.Core.Path.{_≡_, refl, sym, ap, _∙_, subst}
 use mathlib.Core.Bool.{Bool, true, false}
 use mathlib.Core.List.{List, [], _∷_, map}
-use mathlib.Core.Logic.{_⊎_, inl, inr}
+use mathlib.Core.Logic.{inl, inr}
 use Prim.Native.Nat.{ℕ, zero, suc, _≤_, _<_}
 use native.Mathlib.Omega.{arith}
 use lib.Dec.{eqb}
@@ -21,7 +21,8 @@ use Rattle.places.specs.laws.Members.{member-set}
 use Rattle.model.specs.Board.{Board}
 use Rattle.model.specs.Counts.{nodesMost, transistorsMost}
 use Rattle.model.specs.Desk.{Standing, Call, after, standingOn}
-use Rattle.model.specs.Model.{cardsOf, transistorsOf, transistorAt, touched, mayMove, moved, movedOf, issuesOn, boardAfter}
+use Rattle.model.specs.Model.{cardsOf, transistorsOf, transistorAt, touched, mayMove, moved, movedOf, issuesOn}
+use Rattle.model.specs.Model.{boardAfter}
 use Rattle.model.proofs.Verdicts.{moves}
 use Rattle.model.proofs.Invariant.{Invariant, invariant-after, transistor-then}
 use Rattle.moving.proofs.Pairs.{any-same}

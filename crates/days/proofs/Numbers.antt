@@ -23,7 +23,8 @@ use Rattle.given.specs.Pairs.{Shift}
 use Rattle.given.specs.Arguments.{issueOf}
 use Rattle.model.specs.Verdict.{nodeVerdict}
 use Rattle.model.specs.Desk as desk
-use Rattle.model.specs.Desk.{Held, Standing, Desk, Call, load, place, move, lift, withdraw, lookUp, node, currents, who, sumUp}
+use Rattle.model.specs.Desk.{Held, Standing, Desk, Call, load, place, move, lift, withdraw, lookUp, node, currents}
+use Rattle.model.specs.Desk.{who, sumUp}
 use Rattle.given.specs.Lists.{keepIf}
 use Rattle.model.specs.Desk.{firstWith, without, total, step, after}
 use Rattle.places.specs.Finding.{cardPlace}

@@ -1,12 +1,11 @@
 -- Numbers put in rising order, how many of them differ, and the largest: none of it depends on the order they came in.
-use mathlib.Core.Path.{_≡_, refl, sym, ap, _∙_, subst}
+use mathlib.Core.Path.{_≡_, refl, sym, ap, _∙_}
 use mathlib.Core.Bool.{Bool, true, false, cond, _||_}
 use mathlib.Core.List.{List, [], _∷_, map}
-use mathlib.Core.Logic.{_⊎_, inl, inr}
+use mathlib.Core.Logic.{inl, inr}
 use Prim.Native.Nat.{ℕ, suc, _≤_, _<_}
 use native.Mathlib.Omega.{arith}
 use lib.Dec.{eqb, ltb}
-use lib.ListN.{length}
 use borrow.Author.Tests.{eqb-true, eqb-false, eq-eqb, ne-eqb, ltb-true, ltb-false}
 use Rattle.given.specs.Lists.{anyOf, keepIf, only, smaller, larger, largest, insert, inOrder, different}
 use Rattle.days.specs.Perm.{Perm, empty, keep, swap, then}
@@ -79,7 +78,8 @@ insert-turn x y [] = go (split x y) (split y x)
     go (as-they-are p) (turned q) = refl
     go (turned p) (as-they-are q) = refl
     go (turned p) (turned q) = let e : y ≡ x = omega arith in let f : x ≡ y = omega arith in λ i. e i ∷ f i ∷ []
-insert-turn x y (n ∷ ns) = go (split y n) (split x n) (split x (smaller y n)) (split y (smaller x n)) (λ a b. insert-turn a b ns)
+insert-turn x y (n ∷ ns) =
+    go (split y n) (split x n) (split x (smaller y n)) (split y (smaller x n)) (λ a b. insert-turn a b ns)
   where
     same : (a b c d e f : ℕ) → a ≡ b → c ≡ d → e ≡ f → a ∷ insert c (insert e ns) ≡ b ∷ insert d (insert f ns)
     same a b c d e f p q r = λ i. p i ∷ insert (q i) (insert (r i) ns)
@@ -124,7 +124,8 @@ from-lower {low} {n} h (next {n = m} k r) = let q : low < m = omega arith in nex
 insert-rises : (x : ℕ) (l : List ℕ) {low : ℕ} → low < x → Rising low l → (Among x l → ⊥) → Rising low (insert x l)
 unfolding insert
 insert-rises x [] h r none = next h end
-insert-rises x (n ∷ ns) {low} h (next k r) none = go (split x n) (λ m q s t. insert-rises (larger x n) ns {low = m} q s t)
+insert-rises x (n ∷ ns) {low} h (next k r) none =
+    go (split x n) (λ m q s t. insert-rises (larger x n) ns {low = m} q s t)
   where
     go : {a b : ℕ} → Split x n a b →
         ((m : ℕ) → m < b → Rising m ns → (Among b ns → ⊥) → Rising m (insert b ns)) → Rising low (a ∷ insert b ns)
@@ -182,7 +183,8 @@ perm-different (swap {a = a} {b = b} {xs = xs}) =
         (suc (cond (anyOf (eqb a) xs) (different xs) (suc (different xs))))
     go true e u p v q =
         let w = eqb-true a b e in
-        let same : anyOf (eqb a) xs ≡ anyOf (eqb b) xs = ap (λ (n : ℕ). anyOf (eqb n) xs) w in rw (e, other true e, same)
+        let same : anyOf (eqb a) xs ≡ anyOf (eqb b) xs = ap (λ (n : ℕ). anyOf (eqb n) xs) w in
+        rw (e, other true e, same)
     go false e true p true q = rw (e, other false e, p, q)
     go false e true p false q = rw (e, other false e, p, q)
     go false e false p true q = rw (e, other false e, p, q)

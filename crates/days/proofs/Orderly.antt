@@ -10,7 +10,8 @@ use borrow.Author.Tests.{eqb-true, ne-eqb}
 use Rattle.refusal.specs.Order.{Verdict, no, yes}
 use Rattle.card.specs.declared.WorkedCard.{WorkedCard}
 use Rattle.given.specs.Pairs.{Shift}
-use Rattle.model.specs.Desk.{Held, Standing, Desk, Call, load, place, move, lift, withdraw, lookUp, node, currents, who, sumUp}
+use Rattle.model.specs.Desk.{Held, Standing, Desk, Call, load, place, move, lift, withdraw, lookUp, node, currents}
+use Rattle.model.specs.Desk.{who, sumUp}
 use Rattle.given.specs.Lists.{keepIf}
 use Rattle.model.specs.Desk.{without, loaded, placed, moved, lifted, withdrawn, looked, showed, opened, mayLoad}
 use Rattle.model.specs.Desk.{mayPlace, mayMove, mayLift, mayWithdraw, mayLookUp, mayRead, mayOpen, step, freshDesk}

@@ -39,7 +39,7 @@ perm-sum f (keep {a = a} p) = ap (λ (z : ℤ). f a +ℤ z) (perm-sum f p)
 perm-sum f (swap {a = a} {b = b} {xs = xs}) = turn (f a) (f b) (sumOver f xs)
 perm-sum f (then p q) = perm-sum f p ∙ perm-sum f q
 
-pub or-turn : (a b c : Bool) → a || (b || c) ≡ b || (a || c)
+or-turn : (a b c : Bool) → a || (b || c) ≡ b || (a || c)
 or-turn true true c = refl
 or-turn true false c = refl
 or-turn false true c = refl

@@ -1,11 +1,11 @@
--- Who names a node, on the board and on the desk: what is told of the places of its set is what is told of those standing.
+-- Who names a node, on the board and on the desk: what is told of the places of its set is what is told of those
+-- standing.
 use mathlib.Core.Path.{_≡_, refl, sym, ap, _∙_, subst}
 use mathlib.Core.Bool.{Bool, true, false, cond, not}
 use mathlib.Core.List.{List, [], _∷_, map}
 use Prim.Native.Nat.{ℕ, zero, suc, _<_}
 use lib.Dec.{eqb}
 use lib.ListN.{length, getD}
-use lib.IntN.{ℤ}
 use borrow.Author.Tests.{eqb-false}
 use Rattle.refusal.specs.Clash.{clash}
 use Rattle.totals.specs.Flow.{ticksAt}
@@ -62,7 +62,8 @@ only-occupied {A} {B} {C} key f p h (a ∷ rest) = go (eqb (key a) 0) (p (f a)) 
     go : (t u : Bool) → p (f a) ≡ u →
         map (λ (x : A). h (f x)) (only (λ (x : A). cond (eqb (key x) 0) false (p (f x))) rest)
         ≡ map h (only p (occupied key f rest)) →
-        map (λ (x : A). h (f x)) (keepIf (cond t false u) a (only (λ (x : A). cond (eqb (key x) 0) false (p (f x))) rest))
+        map (λ (x : A). h (f x))
+        (keepIf (cond t false u) a (only (λ (x : A). cond (eqb (key x) 0) false (p (f x))) rest))
         ≡ map h (only p (keepIf (not t) (f a) (occupied key f rest)))
     go true u q e = e
     go false true q e = rw q (ap (λ (l : List C). h (f a) ∷ l) e)

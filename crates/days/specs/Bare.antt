@@ -9,7 +9,7 @@ use Rattle.refusal.specs.declared.Refusal.{Refusal}
 use Rattle.refusal.specs.declared.Refusal.the-variants.{Malformed, BadName, NameTwice, NameNotHeld, ShortOutput}
 use Rattle.refusal.specs.declared.Refusal.the-variants.{NotFinite, WrongLevel, BadExsub, BadOctave, OutOfReach}
 use Rattle.refusal.specs.declared.Refusal.the-variants.{NoRoom, Unknown, OutOfRange, SplitCollector, Overload}
-use Rattle.refusal.specs.declared.Refusal.the-variants.{CardInUse, NumbersUsedUp, Injection}
+use Rattle.refusal.specs.declared.Refusal.the-variants.{CardInUse, NumbersUsedUp, Injection, NegativeIcss}
 use Rattle.refusal.specs.Order.{Verdict, no, yes, refuseIf, andThen}
 use Rattle.totals.specs.Flow.{overloads}
 use Rattle.given.specs.Lists.{anyOf}
@@ -42,6 +42,7 @@ bareOf OutOfRange = OutOfRange
 bareOf SplitCollector = SplitCollector
 bareOf CardInUse = CardInUse
 bareOf NumbersUsedUp = NumbersUsedUp
+bareOf NegativeIcss = NegativeIcss
 
 abbrev pub bare : {A : Type 0} → Verdict A → Verdict A
 bare (no f) = no (bareOf f)

@@ -18,6 +18,7 @@ use answers::Answer;
 use board::Board;
 use library::Located;
 use library::Reading;
+use mending::Mending;
 use places::TRANSISTORS;
 use script::Command;
 use script::MOST_BYTES;
@@ -54,6 +55,18 @@ fn take_library(path: &[u8], held: &mut [u8; MOST], out: &mut [u8; ROOM], at: &m
     match shelf::read_file(path, &mut read) {
         File::Bytes(n) => keep_library(n, &read, held, out, at),
         File::Failed => put_unreadable(path, out, at),
+    }
+}
+
+// The library held is replaced by what mending makes of it.
+fn mend(held: &mut [u8; MOST], out: &mut [u8; ROOM], at: &mut usize) {
+    let mut mended = [0u8; MOST];
+    match mending::mend(shelf::held(held), &mut mended) {
+        Mending::Set(n) => {
+            shelf::keep(shelf::held(&mended), held);
+            put_answer(Answer::Mended(n), out, at);
+        }
+        Mending::Refused(f) => put_refused(f, out, at),
     }
 }
 
@@ -333,13 +346,13 @@ fn put_sheet(board: Board, out: &mut [u8; ROOM], at: &mut usize)
 // Whether the board is asked.
 pub fn asks_board(v: Verb) -> bool {
     match v {
-        Verb::Nothing | Verb::TooLong | Verb::Error | Verb::Library | Verb::Find | Verb::Clip =>
-            false,
+        Verb::Nothing | Verb::TooLong | Verb::Error => false,
+        Verb::Library | Verb::Find | Verb::Clip | Verb::Mend => false,
         _ => true,
     }
 }
 
-// A line about the library held, by its first word's argument: a path or a name.
+// A line about the library held, by its first word's argument: a path or a name, or none.
 fn obey_shelf(
     verb: Verb,
     word: &[u8],
@@ -350,6 +363,7 @@ fn obey_shelf(
     match verb {
         Verb::Library => take_library(word, held, out, at),
         Verb::Find => find(word, shelf::held(held), out, at),
+        Verb::Mend => mend(held, out, at),
         _ => clip(word, shelf::held(held), out, at),
     }
 }

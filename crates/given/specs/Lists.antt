@@ -1,5 +1,5 @@
--- Looking through a list, the larger of two numbers, and numbers of a list: those kept, the largest, put in rising order,
--- and how many of them differ.
+-- Looking through a list, the larger of two numbers, and numbers of a list: those kept, the largest, put in rising
+-- order, and how many of them differ.
 use mathlib.Core.Bool.{Bool, true, false, cond, _||_}
 use mathlib.Core.List.{List, [], _∷_}
 use Prim.Native.Nat.{ℕ, suc}

@@ -27,7 +27,7 @@ enum Loading {
     Stop(Refusal),
 }
 
-// Loading's tests: 1, 2, 6 to 10, 11, 17.
+// Loading's tests: 1, 2, 6, 7, 8, 19, 9, 10, 11, 17.
 fn may_load(held: &[u32; CARDS], next: u32, name: &[u8], bytes: &[u8]) -> Loading
     ensures { λ r. ⌜ r ≡ loading (now (held .entry)) next (now (name .entry)) (now (bytes .entry)) ⌝ }
 {

@@ -31,7 +31,7 @@ pub enum Writing {
 }
 
 // Copies bytes to the start of a buffer.
-fn copy(src: &[u8], dst: &mut [u8])
+pub fn copy(src: &[u8], dst: &mut [u8])
     requires { ⌜ length (now src) ≤ length (now dst) ⌝ }
     ensures { λ r. ⌜ now (dst .exit) ≡ over (now (src .entry)) (now (dst .entry)) ⌝ }
 {

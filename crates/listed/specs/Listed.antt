@@ -1,5 +1,5 @@
 -- What a listing shows of a card: its name without padding, and its mask or none.
-use mathlib.Core.Bool.{cond, _&&_}
+use mathlib.Core.Bool.{cond, _&&_, _||_}
 use mathlib.Core.List.{List, [], _∷_}
 use Prim.Native.Nat.{ℕ}
 use lib.Dec.{eqb, leb}
@@ -9,6 +9,6 @@ unfoldable pub unpadded : List ℕ → List ℕ
 unpadded [] = []
 unpadded (b ∷ l) = cond (eqb b 0) [] (b ∷ unpadded l)
 
--- the mask beside the number of a card: none where that is one of 6 to 10
+-- the mask beside the number of a card: none where that is one of 6 to 10, or 19
 abbrev pub listedMask : ℕ → ℕ → ℕ
-listedMask number mask = cond (leb 6 number && leb number 10) 0 mask
+listedMask number mask = cond (leb 6 number && leb number 10 || eqb number 19) 0 mask

@@ -21,7 +21,7 @@ pub fn listed_mask(number: u32, mask: u32) -> u32
     ensures { λ r. ⌜ r ≡ listedMask number mask ⌝ }
 {
     match number {
-        6..=10 => 0,
+        6..=10 | 19 => 0,
         _ => mask,
     }
 }

@@ -1,9 +1,9 @@
--- The sets of nodes beside what stands: whoever comes joins those that a fresh scan would find it in, and whoever leaves
--- leaves them.
+-- The sets of nodes beside what stands: whoever comes joins those that a fresh scan would find it in, and whoever
+-- leaves leaves them.
 use mathlib.Core.Path.{_≡_, refl, sym, ap, _∙_}
 use mathlib.Core.Bool.{Bool, true, false, cond, not, _&&_, _||_}
 use mathlib.Core.List.{List}
-use Prim.Native.Nat.{ℕ, zero, _+_, _<_}
+use Prim.Native.Nat.{ℕ, _<_}
 use native.Mathlib.Nat.{zero-add}
 use lib.Dec.{eqb}
 use lib.ListN.{length, getD, set}
@@ -25,7 +25,7 @@ scanOf ts n = setOf (λ (i : ℕ). standsAt n (getD ts i noTransistor)) transist
 pub record Scans (sets : List ℕ) (ts : List Transistor) : Type 0 where
   pub at : (n : ℕ) → n < nodesMost → getD sets n 0 ≡ scanOf ts n
 
-pub at-node : (f : ℕ → ℕ) (sets nodes : List ℕ) (n : ℕ) → n < nodesMost →
+at-node : (f : ℕ → ℕ) (sets nodes : List ℕ) (n : ℕ) → n < nodesMost →
     getD (atNodes f sets nodes) n 0 ≡ cond (names n nodes) (f (getD sets n 0)) (getD sets n 0)
 unfolding atNodes
 at-node f sets nodes n h =

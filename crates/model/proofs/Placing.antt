@@ -58,7 +58,8 @@ use Rattle.model.proofs.Lent.{deckIn, ready-there, issue-there, nodes-t
 use Rattle.model.proofs.Lent.{card-able, volts-kept, room-now}
 
 places-stay : {b : Board} {f : Refusal} (a : Answered) → refuse b f ≡ a →
-    LeavesPlaces a (Refused f) (b .issues) (b .cards) (b .seats) (b .nodes) (b .naming) (b .totals) (b .currents) (b .next)
+    LeavesPlaces a (Refused f) (b .issues) (b .cards) (b .seats) (b .nodes) (b .naming) (b .totals) (b .currents)
+    (b .next)
 places-stay a e =
     rw (← e)
     (record {
@@ -121,8 +122,8 @@ module _ (b : Board) (k : Reached b) (card : ℤ) (nodes : List ℤ) (long : len
   may-is = then-lastly place joins _ (b .next) nodes _ _
 
   pub place-stops : (f : Refusal) → w ≡ Stop f →
-      LeavesPlaces (placedOn b card nodes) (Refused f) (b .issues) (b .cards) (b .seats) (b .nodes) (b .naming) (b .totals)
-      (b .currents) (b .next)
+      LeavesPlaces (placedOn b card nodes) (Refused f) (b .issues) (b .cards) (b .seats) (b .nodes) (b .naming)
+      (b .totals) (b .currents) (b .next)
   place-stops f e =
       places-stay {b = b} (placedOn b card nodes)
       (rw (may-is, stopped (freeTransistor (transistorsOf b)) verdict (sym verdict-is ∙ e)))
@@ -321,7 +322,8 @@ seen-flat b k card given =
 
 pub lent-seen : {b : Board} {numbers powers ticks : List ℕ} {switches : List Bool}
     {held issues cards seats nodes naming volts : List ℕ} {totals currents : List ℤ} {next : ℕ} →
-    LendsPlaces b numbers powers ticks switches held issues cards seats nodes naming volts totals currents next → Reached b →
+    LendsPlaces b numbers powers ticks switches held issues cards seats nodes naming volts totals currents next →
+    Reached b →
     (card : ℤ) (given : List ℤ) → seenOn b card given
     ≡ lookedAt (wideBy (wideAt switches) (numberPlace cardsMost (issueOf card) held)) given
 lent-seen {b} l r card given = rw (l .lends .switches-are, l .held-are) (seen-flat b r card given)

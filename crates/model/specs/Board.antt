@@ -24,8 +24,8 @@ pub record Board : Type 0 where
   pub naming : List ℕ
   pub currents : List ℤ
 
--- the numbers of an answer stand beside it: ticks, which are 0 where it has none, and a list for a lent buffer, which is
--- empty where it has none
+-- the numbers of an answer stand beside it: ticks, which are 0 where it has none, and a list for a lent buffer, which
+-- is empty where it has none
 pub record Answered : Type 0 where
   pub board : Board
   pub answer : Answer

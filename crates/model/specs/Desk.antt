@@ -230,7 +230,7 @@ standsAs n ts = firstWith (λ (t : Standing). eqb (t .issue) n) ts
 
 -- ---- which refusal a call gets: its tests in the paper's order, each with the number that it draws
 
--- Loading: 1, 2, 6 to 10, 11, 17
+-- Loading: 1, 2, 6, 7, 8, 19, 9, 10, 11, 17
 abbrev pub mayLoad : Desk → List ℕ → List ℕ → Verdict WorkedCard
 mayLoad d name bytes =
     refuseIf (not (rightLength bytes)) Malformed

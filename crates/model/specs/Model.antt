@@ -1,5 +1,5 @@
--- The board of places, kept sets, held currents and stored totals, and what each of its methods gives: the answer and the
--- next board, whole.
+-- The board of places, kept sets, held currents and stored totals, and what each of its methods gives: the answer and
+-- the next board, whole.
 use mathlib.Core.Path.{_≡_}
 use mathlib.Core.Bool.{Bool, false}
 use mathlib.Core.List.{List, [], _∷_, map}
@@ -274,8 +274,8 @@ abbrev pub lifted : Board → Verdict ℕ → Answered
 lifted b (no f) = refuse b f
 lifted b (yes i) =
     plain
-    (standing b i emptyTransistor (parted (b .naming) i (transistorAt b i .nodes)) (takenOut (levelsOf b) (transistorAt b i .nodes) (transistorAt b i .currents))
-    (b .next))
+    (standing b i emptyTransistor (parted (b .naming) i (transistorAt b i .nodes))
+    (takenOut (levelsOf b) (transistorAt b i .nodes) (transistorAt b i .currents)) (b .next))
     Done
 
 abbrev pub mayLift : Board → ℤ → Verdict ℕ

@@ -18,7 +18,7 @@ use Rattle.given.specs.Arguments.{Found, known, offNode, someNodeOff, Ties, tor
 use Rattle.given.specs.Pairs.{arePairs, somePairOff, Shift, shiftsOf}
 use Rattle.settle.specs.declared.First.{First}
 
--- Loading: 1, 2, 6 to 10, 11, 17, from what the record is judged to be
+-- Loading: 1, 2, 6, 7, 8, 19, 9, 10, 11, 17, from what the record is judged to be
 abbrev pub loadOrder : List ℕ → List ℕ → Verdict WorkedCard → Bool → Bool → Verdict WorkedCard
 loadOrder name bytes judged noRoom usedUp =
     refuseIf (not (rightLength bytes)) Malformed

@@ -12,7 +12,6 @@ use Rattle.volts.specs.Volts.{givenBack}
 use Rattle.rows.specs.Outcome.{isOver, drawnBy}
 use Rattle.totals.specs.Flow.{overAt}
 use Rattle.totals.specs.inner.Sizes.{flowMost}
-use Rattle.given.specs.Lists.{anyOf}
 use Rattle.given.specs.Pairs.{arePairs, somePairOff, Shift, shiftsOf}
 use Rattle.places.specs.Gathered.{Transistor}
 use Rattle.places.specs.Finding.{standsAt}
@@ -28,7 +27,7 @@ use Rattle.settle.specs.laws.Renewals.{renewed-same}
 use Rattle.model.specs.Board.{Board}
 use Rattle.model.specs.declared.Answer.the-variants.{Done, Refused}
 use Rattle.model.specs.Board.{Answered}
-use Rattle.model.specs.Counts.{nodesMost, transistorsMost}
+use Rattle.model.specs.Counts.{transistorsMost}
 use Rattle.model.specs.Verdict.{moveVerdict}
 use Rattle.model.specs.Model.{cardsOf, transistorsOf, transistorAt, workedOn, shifted, touched}
 use Rattle.model.specs.Model.{firstOver, gains, currentThen, heldThen, refuse, movedOf, Reached}
@@ -165,7 +164,8 @@ module _ (b : Board) (k : Reached b) (pairs : List ℤ) (good : arePairs pairs �
 -- ---- the same of arrays that are the board's
 
 module _ {b : Board} {numbers powers ticks : List ℕ} {switches : List Bool} {issues seats nodes naming volts : List ℕ}
-    {totals currents : List ℤ} (l : Lends b numbers powers ticks switches issues seats nodes naming volts totals currents)
+    {totals currents : List ℤ}
+    (l : Lends b numbers powers ticks switches issues seats nodes naming volts totals currents)
     (pairs : List ℤ) where
   pub lent-malformed : arePairs pairs ≡ false →
       LeavesLevels (movedOf b pairs) (Refused Malformed) volts totals currents

@@ -84,7 +84,8 @@ module _ (pairs : List ℤ) (naming : List ℕ) where
         within = omega arith;
         on = both .1;
         left =
-            λ k s. ap (λ (b : Bool). b || anyAt (shiftsOf (drop (i + 2) pairs)) k) (member-or places (getD naming n 0) k)
+            λ k s. ap (λ (b : Bool). b || anyAt (shiftsOf (drop (i + 2) pairs)) k)
+            (member-or places (getD naming n 0) k)
             ∙ or-assoc (member places k) (member (getD naming n 0) k) (anyAt (shiftsOf (drop (i + 2) pairs)) k)
             ∙ ap (λ (x : ℕ). member places k || (member (getD naming x 0) k || anyAt (shiftsOf (drop (i + 2) pairs)) k))
             at

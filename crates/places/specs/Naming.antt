@@ -1,5 +1,5 @@
--- The sets of places kept by node, one for each: what changes in them where a transistor comes to a place, or leaves it.
--- Nothing is said of what they hold: that they are the places of those that name the node is a theorem over calls.
+-- The sets of places kept by node, one for each: what changes in them where a transistor comes to a place, or leaves
+-- it. Nothing is said of what they hold: that they are the places of those that name the node is a theorem over calls.
 use mathlib.Core.Bool.{cond}
 use mathlib.Core.List.{List}
 use Prim.Native.Nat.{ℕ}

@@ -7,7 +7,7 @@ use Rattle.refusal.specs.declared.Refusal.{Refusal}
 use Rattle.refusal.specs.declared.Refusal.the-variants.{Malformed, BadName, NameTwice, NameNotHeld, ShortOutput}
 use Rattle.refusal.specs.declared.Refusal.the-variants.{NotFinite, WrongLevel, BadExsub, BadOctave, OutOfReach}
 use Rattle.refusal.specs.declared.Refusal.the-variants.{NoRoom, Unknown, OutOfRange, SplitCollector, Overload}
-use Rattle.refusal.specs.declared.Refusal.the-variants.{CardInUse, NumbersUsedUp, Injection}
+use Rattle.refusal.specs.declared.Refusal.the-variants.{CardInUse, NumbersUsedUp, Injection, NegativeIcss}
 
 -- the number of each refusal
 abbrev pub numberOf : Refusal → ℕ
@@ -29,6 +29,7 @@ numberOf (Overload i b) = 15
 numberOf CardInUse = 16
 numberOf NumbersUsedUp = 17
 numberOf (Injection i b) = 18
+numberOf NegativeIcss = 19
 
 -- the values beside the number: for what overloads, the transistor's number and its branch
 abbrev pub valuesOf : Refusal → List ℕ
@@ -50,6 +51,7 @@ valuesOf OutOfRange = []
 valuesOf SplitCollector = []
 valuesOf CardInUse = []
 valuesOf NumbersUsedUp = []
+valuesOf NegativeIcss = []
 
 abbrev pub told : Refusal → List ℕ
 told f = numberOf f ∷ valuesOf f
@@ -77,6 +79,7 @@ inOrder i b =
     ∷ CardInUse
     ∷ NumbersUsedUp
     ∷ Injection i b
+    ∷ NegativeIcss
     ∷ []
 
 -- the refusal whose number stands first among what is told, and its values after it
@@ -103,6 +106,7 @@ told-back (Overload i b) = refl
 told-back CardInUse = refl
 told-back NumbersUsedUp = refl
 told-back (Injection i b) = refl
+told-back NegativeIcss = refl
 
 pub told-injective : (f g : Refusal) → told f ≡ told g → f ≡ g
 told-injective f g e = sym (told-back f) ∙ ap refusalTold e ∙ told-back g

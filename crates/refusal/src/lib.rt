@@ -39,6 +39,8 @@ pub enum Refusal {
     NumbersUsedUp,
     // more injection than the desk counts: the transistor's number, and the branch that has a ratio too large
     Injection(u32, u32),
+    // I_CSs is below zero
+    NegativeIcss,
 }
 
 pub fn number(f: Refusal) -> u32
@@ -63,5 +65,6 @@ pub fn number(f: Refusal) -> u32
         Refusal::CardInUse => 16,
         Refusal::NumbersUsedUp => 17,
         Refusal::Injection(_, _) => 18,
+        Refusal::NegativeIcss => 19,
     }
 }

@@ -20,7 +20,7 @@ use Rattle.model.specs.declared.Answer.{Answer}
 use Rattle.model.specs.declared.Answer.the-variants.{Listed, Refused}
 use Rattle.model.specs.Counts.{nodesMost, transistorsMost}
 use Rattle.model.specs.Verdict.{listVerdict}
-use Rattle.model.specs.Model.{transistorAt, noTicks, issuesOn, listed, mayList, listedOf}
+use Rattle.model.specs.Model.{noTicks, issuesOn, listed, mayList, listedOf}
 use Rattle.model.proofs.Verdicts.{off-board, on-board}
 use Rattle.model.proofs.Lent.{stands-there}
 use Rattle.roster.specs.inner.Lent.{issuesIn, Lists}

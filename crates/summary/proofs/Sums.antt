@@ -54,11 +54,14 @@ module _ (b : Board) (z : ℤ) where
         let m = natAbs z in
         let a = p ∙ (λ j. sizeOf (getD (l .naming-are j) (node-is j) 0))
         ∙ list-long (member (getD (b .naming) m 0)) _ (λ (i : ℕ). transistorAt b i .issue) transistorsMost in
-        let c = q ∙ (λ j. different (cardsBelow (l .cards-are j) (getD (l .naming-are j) (node-is j) 0) transistorsMost))
+        let c = q
+        ∙ (λ j. different (cardsBelow (l .cards-are j) (getD (l .naming-are j) (node-is j) 0) transistorsMost))
         ∙ ap different
-        (told-is (λ (t : Transistor). t .card) m _ (λ i k. sym (ap (λ (t : Transistor). t .card) (stands-there b i k)))) in
+        (told-is (λ (t : Transistor). t .card) m _
+        (λ i k. sym (ap (λ (t : Transistor). t .card) (stands-there b i k)))) in
         let d = r ∙ (λ j. largest
-        (sizesBelow (l .nodes-are j) (l .currents-are j) (getD (l .naming-are j) (node-is j) 0) (node-is j) transistorsMost))
+        (sizesBelow (l .nodes-are j) (l .currents-are j) (getD (l .naming-are j) (node-is j) 0) (node-is j)
+        transistorsMost))
         ∙ ap largest
         (told-is (λ (t : Transistor). sizeAt m (t .nodes) (t .currents)) m _
         (λ i k. sym (ap (λ (t : Transistor). sizeAt m (t .nodes) (t .currents)) (stands-there b i k)))) in

@@ -100,7 +100,7 @@ row6 exsub =
       divisor = sumOf unit (root rSub B1 C4);
     }
 
--- the substrate's own junction, (4.63) and (4.64)
+-- the substrate's own junction, (4.64)
 abbrev pub row7 : Row
 row7 = record { from = S; to = C1; plus = across sf plain S C1; minus = alone sf; divisor = undivided }
 

@@ -7,7 +7,8 @@ use lib.ListN.{length, getD}
 use Rattle.name.specs.Name.{same}
 use Rattle.verbs.specs.declared.Verb.{Verb}
 use Rattle.verbs.specs.declared.Verb.the-variants.{Library, Find, Clip, Load, Record, Place}
-use Rattle.verbs.specs.declared.Verb.the-variants.{Move, Moves, Lift, Withdraw, Lookup, Node, Sheet, Currents, Who, Sum, Error}
+use Rattle.verbs.specs.declared.Verb.the-variants.{Move, Moves, Lift, Withdraw, Lookup, Node, Sheet}
+use Rattle.verbs.specs.declared.Verb.the-variants.{Currents, Who, Sum, Mend, Error}
 use Rattle.verbs.specs.declared.Wants.{Wants}
 use Rattle.verbs.specs.declared.Wants.the-variants.{Texts, Numbers, Either, Pairs, NameAndHex}
 use Rattle.verbs.specs.declared.Row.{Row}
@@ -43,6 +44,7 @@ table =
     ∷ entry "currents" Currents (Numbers 2)
     ∷ entry "who" Who (Numbers 2)
     ∷ entry "sum" Sum (Numbers 2)
+    ∷ entry "mend" Mend (Texts 1)
     ∷ []
 
 abbrev pub rows : ℕ

@@ -20,6 +20,7 @@ pub enum Verb {
     Currents,
     Who,
     Sum,
+    Mend,
     // a line that is passed over
     Nothing,
     TooLong,
@@ -43,7 +44,7 @@ pub struct Row {
 }
 
 // How many commands there are.
-const ROWS: usize = 16;
+const ROWS: usize = 17;
 
 // The words of the commands as numbers, in the table's order: the first byte is the lowest.
 const PACKED: [u64; ROWS] = [
@@ -63,6 +64,7 @@ const PACKED: [u64; ROWS] = [
     0x73746e6572727563,
     0x6f6877,
     0x6d7573,
+    0x646e656d,
 ];
 
 // A word of one to eight bytes that a name may have, as a number; 0 for any other.
@@ -163,6 +165,10 @@ fn row_at(i: usize) -> Row
         15 => Row {
             verb: Verb::Sum,
             wants: Wants::Numbers(2),
+        },
+        16 => Row {
+            verb: Verb::Mend,
+            wants: Wants::Texts(1),
         },
         _ => Row {
             verb: Verb::Error,

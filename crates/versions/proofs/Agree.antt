@@ -1,41 +1,32 @@
 -- A record of version 2 that says no more than one of version 1 has the same currents in branches 1 to 8, and of those
 -- the same overloads first.
-use mathlib.Core.Path.{_≡_, refl, sym, ap, ap₂, _∙_}
-use mathlib.Core.Bool.{Bool, true, false, not}
+use mathlib.Core.Path.{_≡_, refl, sym, ap, _∙_}
+use mathlib.Core.Bool.{Bool, true, false}
 use mathlib.Core.List.{List, [], _∷_, map}
 use Prim.Native.Nat.{ℕ, suc, _*_}
 use native.Mathlib.Nat.{zero-mul, mul-pos}
 use lib.Dec.{lit<}
-use lib.IntN.{ℤ, pos}
+use lib.IntN.{ℤ}
 use lib.Ieee.{Float, nan, inf, fin, binary64, ofBits, mul, round, units, odd, size, unlike, up, down}
-use lib.Ieee.{eq}
 use lib.Ieee.Scale.{round-same}
 use lib.Ieee.Fits.{down-pos}
 use lib.ListN.{length}
 use borrow.Author.Tests.{eqb-true}
-use Rattle.refusal.specs.declared.Refusal.the-variants.{Malformed, NotFinite, WrongLevel, BadExsub, BadOctave}
-use Rattle.refusal.specs.declared.Refusal.the-variants.{OutOfReach, OutOfRange}
-use Rattle.refusal.specs.Order.{Verdict, no, yes, refuseIf, andThen, passes-if}
-use Rattle.volts.specs.Volts.{someOff}
+use Rattle.refusal.specs.Order.{Verdict, no, yes}
 use Rattle.clip.specs.Numbers as number
 use Rattle.clip.specs.Limits.{zero}
-use Rattle.clip.specs.Record.{isWide, isNarrow, rightLength, widthOf, finiteUp}
-use Rattle.clip.specs.Clip.{clippedAt, clippedUp}
+use Rattle.clip.specs.Record.{isWide, isNarrow}
+use Rattle.clip.specs.Clip.{clippedUp}
 use Rattle.float.specs.Split.{splitA}
 use Rattle.card.specs.declared.WorkedCard.{WorkedCard}
-use Rattle.card.specs.Knee.{kneeOf}
-use Rattle.card.specs.Octave.{octaveGood}
-use Rattle.card.specs.Judge.{at, judgedNumbers, level, level504, octave, sparesGood, settingsGood, withinReach, cardOf}
+use Rattle.card.specs.Judge.{at, judgedNumbers, cardOf}
 use Rattle.card.specs.Judge.{judgeOf}
-use Rattle.card.specs.laws.Tells.{judge-order}
 use Rattle.card.specs.laws.Version.{SaysNoMore, withLeads, judgedWithLeads}
 use Rattle.card.proofs.Versions.{versions-agree}
-use Rattle.rows.specs.declared.Outcome.{Outcome}
+use Rattle.card.proofs.WorkedCards.{passes}
 use Rattle.terms.specs.Rows.{Role, Row, row1, row2, row3, row4, row5, row6, row7, row8, junctionRows}
 use Rattle.rows.specs.Ticks.{rowTicks}
-use Rattle.rows.specs.Outcome.{ratioLimit, someAbove, ratiosIn, overTicks, firstOver, outcomeAt, outcomeAcross}
-use Rattle.polarity.specs.Polarity.{seenBy, turnedOutcome, outcomeOf}
-use Rattle.branch.specs.Currents.{atOutcome, atVolts, currentsOf}
+use Rattle.rows.specs.Outcome.{ratioLimit, someAbove, ratiosIn, overTicks, firstOver}
 
 -- ---- without a reverse current V_Lr says nothing, and the resistors have rows of their own
 
@@ -131,15 +122,7 @@ unfolding clippedUp
 missing-ibr s e = rw (not-wide s e)
 
 card-is : (s : List ℕ) (c : WorkedCard) → judgeOf s ≡ yes c → c ≡ cardOf (judgedNumbers s)
-card-is s c e =
-    let x = judgedNumbers s in
-    let one = passes-if (not (rightLength s)) Malformed _ c (sym (judge-order s) ∙ e) in
-    let six = passes-if (not (finiteUp s (widthOf s))) NotFinite _ c (one .1) in
-    let seven = passes-if (not (eq (level x) level504)) WrongLevel _ c (six .1) in
-    let eight = passes-if (not (settingsGood (sparesGood s) x)) BadExsub _ c (seven .1) in
-    let nine = passes-if (not (octaveGood (octave x))) BadOctave _ c (eight .1) in
-    let ten = passes-if (not (withinReach x)) OutOfReach _ c (nine .1) in
-    let same : yes (cardOf x) ≡ yes c = ten .1 in cc
+card-is s c e = passes s c e .card
 
 reverse-none : (s : List ℕ) (c : WorkedCard) → isNarrow s ≡ true → judgeOf s ≡ yes c → c .reverse .a ≡ 0
 reverse-none s c n e =

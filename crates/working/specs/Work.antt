@@ -2,7 +2,7 @@
 use mathlib.Core.Bool.{Bool, true, cond, _&&_}
 use mathlib.Core.List.{List, [], _∷_}
 use Prim.Native.Nat.{ℕ}
-use lib.Ieee.{Float, binary64, ofBits, lt, eq, mul, div, sub}
+use lib.Ieee.{Float, binary64, ofBits, eq, mul, div, sub}
 use lib.Ieee.Scale.{finite}
 use Rattle.working.specs.declared.Parameters.{Parameters}
 use Rattle.working.specs.declared.Worked.{Worked}
@@ -10,10 +10,6 @@ use Rattle.clip.specs.Limits.{zero, one}
 
 abbrev pub four : Float
 four = ofBits binary64 0x4010_0000_0000_0000
-
--- sub where I_CSs is negative, and I_CSs times MULT elsewhere
-abbrev pub sfOf : Float → Float → Float → Float
-sfOf icss mult sub = cond (lt icss zero) sub (mul binary64 icss mult)
 
 -- microvolts of a volt
 abbrev pub million : Float
@@ -25,15 +21,14 @@ conductanceOf mult r = cond (eq r zero) zero (div binary64 mult (mul binary64 r 
 
 abbrev pub workedOf : Parameters → Worked
 workedOf p =
-    let sn = mul binary64 (p .is) (p .mult) in
-    let ss = mul binary64 (p .iss) (p .mult) in record {
+    let sn = mul binary64 (p .is) (p .mult) in record {
       sn = sn;
       bulk = div binary64 (mul binary64 (sub binary64 one (p .xibi)) sn) (p .bf);
       side = div binary64 (mul binary64 (p .xibi) sn) (p .bf);
       nonideal = mul binary64 (p .ibf) (p .mult);
       ex = div binary64 sn (p .bri);
-      sub = ss;
-      sf = sfOf (p .icss) (p .mult) ss;
+      sub = mul binary64 (p .iss) (p .mult);
+      sf = mul binary64 (p .icss) (p .mult);
       rex = div binary64 (mul binary64 four (p .is)) (p .ik);
       rsub = div binary64 (mul binary64 four (p .is)) (p .iks);
       reverse = mul binary64 (p .ibr) (p .mult);

@@ -1,7 +1,7 @@
 // The fifteen worked values of a card, in f64 with one rounding per operation.
 ghost use mathlib.Core.Path.{_≡_};
 ghost use lib.Ieee.Scale.{finite};
-ghost use Rattle.working.specs.Work.{conductanceOf, workedOf, sfOf, valuesOf, all, allFinite};
+ghost use Rattle.working.specs.Work.{conductanceOf, workedOf, valuesOf, all, allFinite};
 
 // How many values are worked.
 const VALUES: usize = 15;
@@ -48,13 +48,6 @@ pub struct Worked {
     pub gbli: f64,
 }
 
-// A negative I_CSs stands for the substrate current itself.
-fn substrate(icss: f64, mult: f64, sub: f64) -> f64
-    ensures { λ r. ⌜ r ≡ sfOf icss mult sub ⌝ }
-{
-    if icss < 0.0 { sub } else { icss * mult }
-}
-
 // What a resistor lets through at a microvolt; a resistance of 0 has no such value.
 fn conductance(mult: f64, r: f64) -> f64
     ensures { λ g. ⌜ g ≡ conductanceOf mult r ⌝ }
@@ -70,16 +63,14 @@ pub fn work(p: Parameters) -> Worked
     ensures { λ r. ⌜ r ≡ workedOf p ⌝ }
 {
     let sn = p.is * p.mult;
-    let sub = p.iss * p.mult;
-    let sf = substrate(p.icss, p.mult, sub);
     Worked {
         sn,
         bulk: ((1.0 - p.xibi) * sn) / p.bf,
         side: (p.xibi * sn) / p.bf,
         nonideal: p.ibf * p.mult,
         ex: sn / p.bri,
-        sub,
-        sf,
+        sub: p.iss * p.mult,
+        sf: p.icss * p.mult,
         rex: (4.0 * p.is) / p.ik,
         rsub: (4.0 * p.is) / p.iks,
         reverse: p.ibr * p.mult,

@@ -13,7 +13,7 @@ use Rattle.refusal.specs.declared.Refusal.{Refusal}
 use Rattle.refusal.specs.declared.Refusal.the-variants.{Malformed, BadName, NameTwice, NameNotHeld, ShortOutput}
 use Rattle.refusal.specs.declared.Refusal.the-variants.{NotFinite, WrongLevel, BadExsub, BadOctave, OutOfReach}
 use Rattle.refusal.specs.declared.Refusal.the-variants.{NoRoom, Unknown, OutOfRange, SplitCollector, Overload}
-use Rattle.refusal.specs.declared.Refusal.the-variants.{CardInUse, NumbersUsedUp, Injection}
+use Rattle.refusal.specs.declared.Refusal.the-variants.{CardInUse, NumbersUsedUp, Injection, NegativeIcss}
 use Rattle.refusal.specs.Told.{told}
 use Rattle.bytes_le.specs.Buffer.{over}
 use Rattle.sheet.specs.laws.LinesFit.{told-long}
@@ -62,6 +62,7 @@ told-few (Overload i b) = lit≤ tt
 told-few CardInUse = lit≤ tt
 told-few NumbersUsedUp = lit≤ tt
 told-few (Injection i b) = lit≤ tt
+told-few NegativeIcss = lit≤ tt
 
 -- the answer to what is refused
 pub refused-room : (f : Refusal) → length (answerLine (Refused f)) ≤ 71

@@ -13,7 +13,8 @@ use Rattle.volts.specs.Volts.{someOff}
 use Rattle.card.specs.declared.WorkedCard.{WorkedCard}
 use Rattle.clip.specs.Record.{rightLength, widthOf, finiteUp}
 use Rattle.card.specs.Octave.{octaveGood}
-use Rattle.card.specs.Judge.{judgedNumbers, level, level504, octave, sparesGood, settingsGood, withinReach, cardOf}
+use Rattle.card.specs.Judge.{judgedNumbers, level, level504, octave, sparesGood, settingsGood, icssBelow}
+use Rattle.card.specs.Judge.{withinReach, cardOf}
 use Rattle.card.specs.laws.Tells.{judge-order}
 use Rattle.branch.specs.declared.Admission.{Admission}
 use Rattle.branch.specs.declared.Admission.the-variants.{Given, Refused}
@@ -43,7 +44,8 @@ abbrev pub numbersNumber : Bool → List Float → List ℤ → ℕ
 numbersNumber spares x volts =
     numberIf (not (eq (level x) level504)) 7
     (numberIf (not (settingsGood spares x)) 8
-    (numberIf (not (octaveGood (octave x))) 9 (numberIf (not (withinReach x)) 10 (voltsNumber (cardOf x) volts))))
+    (numberIf (icssBelow x) 19
+    (numberIf (not (octaveGood (octave x))) 9 (numberIf (not (withinReach x)) 10 (voltsNumber (cardOf x) volts)))))
 
 abbrev pub currentsNumber : List ℕ → List ℤ → ℕ
 currentsNumber s volts =

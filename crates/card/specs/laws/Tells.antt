@@ -9,15 +9,16 @@ use Rattle.refusal.specs.Order.{refuseIf, numberTold, numberIf, number-first, t
 use Rattle.clip.specs.Record.{rightLength, widthOf, finiteUp}
 use Rattle.clip.specs.Clip.{clipOf}
 use Rattle.card.specs.Octave.{octaveGood}
-use Rattle.card.specs.Judge.{judgedNumbers, level, level504, octave, sparesGood, settingsGood, withinReach}
-use Rattle.card.specs.Judge.{judgeNumbers, judgeOf}
+use Rattle.card.specs.Judge.{judgedNumbers, level, level504, octave, sparesGood, settingsGood, icssBelow}
+use Rattle.card.specs.Judge.{withinReach, judgeNumbers, judgeOf}
 
 -- the name and the board apart: on clipped numbers, then from the bytes
 abbrev pub numbersNumber : Bool → List Float → ℕ
 numbersNumber spares x =
     numberIf (not (eq (level x) level504)) 7
     (numberIf (not (settingsGood spares x)) 8
-    (numberIf (not (octaveGood (octave x))) 9 (numberIf (not (withinReach x)) 10 0)))
+    (numberIf (icssBelow x) 19
+    (numberIf (not (octaveGood (octave x))) 9 (numberIf (not (withinReach x)) 10 0))))
 
 abbrev pub judgeNumber : List ℕ → ℕ
 judgeNumber s =

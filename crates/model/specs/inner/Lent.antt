@@ -33,7 +33,8 @@ pub record LendsPlaces (b : Board) (numbers powers ticks : List ℕ) (switches :
   pub next-is : next ≡ b .next
 
 -- what lifting reads, and changes: the places of transistors, the sets, and totals. No card and no voltage is asked
-pub record LendsStanding (b : Board) (issues cards seats nodes naming : List ℕ) (totals currents : List ℤ) : Type 0 where
+pub record LendsStanding (b : Board) (issues cards seats nodes naming : List ℕ) (totals currents : List ℤ)
+    : Type 0 where
   pub issues-are : issues ≡ b .issues
   pub cards-are : cards ≡ b .cards
   pub seats-are : seats ≡ b .seats

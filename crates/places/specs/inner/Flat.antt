@@ -1,7 +1,7 @@
 -- The same questions put to the flat arrays: where a number stands, who stands on a card, which issue of a name is the
 -- highest, and who names a node.
 use mathlib.Core.Bool.{Bool, false, cond}
-use mathlib.Core.List.{List, [], _∷_}
+use mathlib.Core.List.{List}
 use Prim.Native.Nat.{ℕ, _+_, _*_}
 use lib.Dec.{eqb}
 use lib.ListN.{getD}

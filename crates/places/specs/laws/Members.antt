@@ -9,7 +9,7 @@ use lib.Bits.{bitOr, bitXor, or-shr, or-mod, xor-shr, xor-mod}
 use lib.Dec.{eqb, ltb}
 use lib.Pow.{pow-pos, pow-lt, pow-add, split, field, mod-mod-pow, shr-lt}
 use lib.Arith.{digits-div}
-use borrow.Author.Tests.{eqb-true, eqb-false, eq-eqb, ne-eqb, ltb-true, ltb-false}
+use borrow.Author.Tests.{eqb-true, eqb-false, ltb-true, ltb-false}
 use Rattle.places.specs.Counts.{transistorsMost}
 use Rattle.places.specs.Sets.{member, setOf, withPlace, withoutPlace}
 use Rattle.places.specs.inner.Parts.{NextIn}

@@ -1,15 +1,13 @@
 -- `cards_in`: how many different cards stand at the places passed.
-use mathlib.Core.Path.{_≡_, refl, ap, _∙_}
-use mathlib.Core.Bool.{Bool, cond}
+use mathlib.Core.Path.{refl, _∙_}
+use mathlib.Core.Bool.{cond}
 use Prim.Native.Nat.{ℕ, suc, _-_}
 use native.Mathlib.Omega.{arith}
-use lib.Dec.{eqb}
 use lib.ListN.{getD}
 use borrow.Author.Needs.{needs}
-use Rattle.given.specs.Lists.{anyOf, different}
+use Rattle.given.specs.Lists.{different}
 use Rattle.places.specs.Counts.{transistorsMost}
 use Rattle.places.specs.laws.Walks.{next-after}
-use Rattle.summary.specs.inner.Told.{cardsBelow}
 use Rattle.summary.proofs.Walked.{Walked, walked-none, walked-more, walked-all, count-few}
 use Rattle.summary.proofs.cards_in.Statement.{statement}
 use Rattle.summary.proofs.cards_in.Tie as tie

@@ -51,7 +51,8 @@ loop-again c =
       next-upto (c .next-in2 .ensures) (omega arith) (s .1),
       walked-more _ _ _ (t .before .loop .inv .1) (omega arith) (c .next-in2 .ensures)
           (λ e. c .before .either .ensures
-          ∙ ap (λ (b : Bool). eqb (getD (a .cards .now) (a .i) 0) (getD (a .cards .now) (t .before .loop .j) 0) || b) e),
+          ∙ ap (λ (b : Bool). eqb (getD (a .cards .now) (a .i) 0) (getD (a .cards .now) (t .before .loop .j) 0) || b)
+          e),
     )
 
 returns : tie.Need-returns Inv-loop μ-loop
@@ -59,7 +60,8 @@ returns c =
     let l = c .before in
     let a = l .before .before .before .args in
     let e : l .loop .j ≡ a .i = omega arith in
-    l .loop .inv .1 .is ∙ ap (λ (k : ℕ). anyOf (eqb (getD (a .cards .now) (a .i) 0)) (cardsBelow (a .cards .now) (a .set) k)) e
+    l .loop .inv .1 .is
+    ∙ ap (λ (k : ℕ). anyOf (eqb (getD (a .cards .now) (a .i) 0)) (cardsBelow (a .cards .now) (a .set) k)) e
 
 pub is-again-spec : {M : Type 1} → statement M
 is-again-spec =

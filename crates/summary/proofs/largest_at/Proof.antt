@@ -1,7 +1,7 @@
 -- `largest_at` has passed the branches from k on.
-use mathlib.Core.Path.{_≡_, refl, sym, ap, subst, _∙_}
+use mathlib.Core.Path.{_≡_, sym, subst, _∙_}
 use mathlib.Core.Bool.{false, cond, _||_}
-use Prim.Native.Nat.{ℕ, _-_, _≤_, _<_}
+use Prim.Native.Nat.{_-_, _≤_, _<_}
 use native.Mathlib.Omega.{arith}
 use lib.ListN.{getD}
 use lib.Dec.{eqb}
@@ -32,7 +32,8 @@ from-role c =
     subst (Wired roles) (sym (c .before .before .before .from-roles .ensures)) (wired-froms (rowsFor false)) .wired
     (c .before .loop .k - 1)
 
-to-role : (c : tie.In-loop Inv-loop μ-loop) → getD (c .before .before .to-roles .result) (c .before .loop .k - 1) 0 < roles
+to-role : (c : tie.In-loop Inv-loop μ-loop) → let t = c .before .before .to-roles in
+    getD (t .result) (c .before .loop .k - 1) 0 < roles
 to-role c =
     subst (Wired roles) (sym (c .before .before .to-roles .ensures)) (wired-tos (rowsFor false)) .wired
     (c .before .loop .k - 1)
@@ -64,8 +65,11 @@ size-is c =
 loop-again : tie.Need-loop-again Inv-loop μ-loop
 loop-again c =
     let t = c .before in
-    let l = turn t .before in
-    (omega arith, from-more _ _ _ (l .loop .inv .1) (turn t .loop-test .taken) (l .loop .inv .0) (size-is t) (c .larger-of .ensures))
+    let l = turn t .before in (
+      omega arith,
+      from-more _ _ _ (l .loop .inv .1) (turn t .loop-test .taken) (l .loop .inv .0) (size-is t)
+          (c .larger-of .ensures),
+    )
 
 returns : tie.Need-returns Inv-loop μ-loop
 returns c = from-all _ _ _ (c .before .loop .inv .1) (omega arith)

@@ -1,6 +1,6 @@
 -- `largest_in`: the largest size of the branches of those at the places passed.
-use mathlib.Core.Path.{_≡_, refl, ap, _∙_}
-use Prim.Native.Nat.{ℕ, _-_}
+use mathlib.Core.Path.{refl, _∙_}
+use Prim.Native.Nat.{_-_}
 use native.Mathlib.Omega.{arith}
 use borrow.Author.Needs.{needs}
 use Rattle.given.specs.Lists.{larger, largest}
@@ -51,4 +51,5 @@ pub largest-in-spec : {M : Type 1} → statement M
 largest-in-spec =
     tie.close
     (tie.spec Inv-loop μ-loop (λ c κs. search needs) loop-holds (λ c κs. search needs) (λ c κs. search needs)
-    (λ c κs. search needs) (λ c κs. search needs) (λ c. omega arith) (λ c κs. search needs) loop-less loop-again returns)
+    (λ c κs. search needs) (λ c κs. search needs) (λ c. omega arith) (λ c κs. search needs) loop-less loop-again
+    returns)

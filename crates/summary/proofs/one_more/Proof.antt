@@ -1,7 +1,5 @@
 -- `one_more` adds one where it is to.
-use mathlib.Core.Path.{_≡_}
 use native.Mathlib.Numerals.{add-one}
-use native.Mathlib.Omega.{arith}
 use borrow.Author.Needs.{needs}
 use Rattle.summary.proofs.one_more.Statement.{statement}
 use Rattle.summary.proofs.one_more.Tie as tie

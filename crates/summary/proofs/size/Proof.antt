@@ -1,5 +1,5 @@
 -- `size` meets its contract in each half of a signed number.
-use mathlib.Core.Path.{_≡_, sym, ap, subst}
+use mathlib.Core.Path.{_≡_, sym, ap, subst, _∙_}
 use native.Mathlib.Numerals.{add-one}
 use native.Mathlib.Omega.{arith}
 use lib.IntN.{pos, negsuc, natAbs}
@@ -29,5 +29,6 @@ pub size-spec : {M : Type 1} → statement M
 size-spec =
     tie.close
     (tie.spec (λ c κs. search needs) (λ c. search needs) (λ c. search needs)
-    (λ c. let h = subst (SFits w64) (sym (is-down c)) (c .before .before .before .before .fits .x) .sfits in omega arith)
-    (λ c. ap natAbs (is-up c)) (λ c. rw add-one (ap natAbs (is-down c))))
+    (λ c. let s = c .before .before .before .before in
+    let h = subst (SFits w64) (sym (is-down c)) (s .fits .x) .sfits in omega arith)
+    (λ c. ap natAbs (is-up c)) (λ c. add-one _ ∙ ap natAbs (is-down c)))

@@ -1,7 +1,6 @@
 -- `size_there` asks for the start and for the end.
-use mathlib.Core.Path.{_≡_, refl, sym, ap, _∙_}
-use mathlib.Core.Bool.{cond, _||_}
-use lib.IntN.{ℤ, natAbs}
+use mathlib.Core.Path.{ap, _∙_}
+use lib.IntN.{natAbs}
 use borrow.Author.Needs.{needs}
 use borrow.Author.Tests.{eq-eqb, ne-eqb}
 use mir.Syntax.{w64}

@@ -31,7 +31,9 @@ loop-again c =
     let s = spaced d in
     let t = s .before .before .before in
     spaced-on (t .before .loop .inv) nan (t .loop-test .taken) (s .put .ensures)
-    (text-written (d .word-digits .ensures ∙ ap (λ (b : ℕ). textOf (hexDigits wordDigits b)) (d .before .bits .ensures)) (hex-whole wordDigits _ (le-refl _))
+    (text-written
+    (d .word-digits .ensures ∙ ap (λ (b : ℕ). textOf (hexDigits wordDigits b)) (d .before .bits .ensures))
+    (hex-whole wordDigits _ (le-refl _))
     (c .put-text .ensures))
 
 returns : tie.Need-returns Inv-loop μ-loop

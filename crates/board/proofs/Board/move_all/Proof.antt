@@ -9,8 +9,8 @@ use Rattle.board.proofs.Board.move_all.Tie as tie
 -- the start, from where the arrays are lent
 abbrev start : tie.After-naming2 → tie.Start
 start c =
-    c .before .before .before .before .before .before .before .before .before .before .before .before .before .before .before
-    .before .before .before .before .before .before .before
+    c .before .before .before .before .before .before .before .before .before .before .before .before .before
+    .before .before .before .before .before .before .before .before .before
 
 move-all-requires : tie.Need-move-all-requires
 move-all-requires c κs =

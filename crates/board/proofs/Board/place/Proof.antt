@@ -14,8 +14,9 @@ use Rattle.board.proofs.Board.place.Tie as tie
 -- the start, from where the arrays are lent
 abbrev start : tie.After-volts2 → tie.Start
 start c =
-    c .before .before .before .before .before .before .before .before .before .before .before .before .before .before .before
-    .before .before .before .before .before .before .before .before .before .before .before .before
+    c .before .before .before .before .before .before .before .before .before .before .before .before .before
+    .before .before .before .before .before .before .before .before .before .before .before .before .before
+    .before
 
 long : (c : tie.Start) → length (c .args .nodes) ≡ roles
 long c = search needs
