@@ -1,5 +1,5 @@
 //! The board, changed in place: each transistor's currents are held and each node knows who names it, so that a call
-//! works only what it changes.
+//! works only what it changes. Voltages and totals stand in two slices that the caller lends, whatever they hold.
 
 use crate::card::{judge, Card};
 use crate::currents::{by_role, currents, overload, Currents, ENDS, NARROW, ROLES};
@@ -58,14 +58,59 @@ pub struct Board {
     issues: [i64; PLACES],
     standing: [Standing; PLACES],
     currents: [Currents; PLACES],
-    /// The currents that a move took out, until it is known to be good.
-    taken_out: [Currents; PLACES],
+    /// The currents that a move works, until it is known to be good.
+    worked_out: [Currents; PLACES],
     /// The places that are taken, and for each node those of the transistors that name it.
     taken: u64,
     naming: [u64; NODES],
-    volts: [i64; NODES],
-    totals: [i64; NODES],
     next: i64,
+}
+
+/// The two lent slices: microvolts and ticks of the 32 nodes.
+pub struct Lent<'a> {
+    pub volts: &'a mut [i64],
+    pub totals: &'a mut [i64],
+}
+
+/// What a call brings to the nodes and what it takes away, kept apart: their difference may leave 64 bits.
+struct Change {
+    coming: [i64; NODES],
+    going: [i64; NODES],
+}
+
+const NO_CHANGE: Change = Change {
+    coming: [0; NODES],
+    going: [0; NODES],
+};
+
+impl Change {
+    /// The totals as they would stand; 10 where one would leave 64 bits.
+    #[inline]
+    fn stand(&self, totals: &[i64; NODES]) -> Result<[i64; NODES], u32> {
+        let mut next = *totals;
+        for (n, t) in next.iter_mut().enumerate() {
+            let exact = *t as i128 + self.coming[n] as i128 - self.going[n] as i128;
+            *t = exact.try_into().map_err(|_| 10u32)?;
+        }
+        Ok(next)
+    }
+}
+
+#[inline]
+fn in_range(microvolts: i64) -> bool {
+    (-2_500_000..=2_500_000).contains(&microvolts)
+}
+
+/// 13 for slices of another length or a voltage outside its range.
+#[inline]
+fn tested(volts: &[i64], totals: &[i64]) -> Result<([i64; NODES], [i64; NODES]), u32> {
+    let volts: [i64; NODES] = volts.try_into().map_err(|_| 13u32)?;
+    let totals = totals.try_into().map_err(|_| 13u32)?;
+    if volts.iter().all(|v| in_range(*v)) {
+        Ok((volts, totals))
+    } else {
+        Err(13)
+    }
 }
 
 /// The places of a set, lowest first.
@@ -102,27 +147,25 @@ fn add(totals: &mut [i64; NODES], nodes: &[u8; ROLES], i: Currents) {
     }
 }
 
-impl Default for Board {
-    fn default() -> Self {
-        Self::fresh()
-    }
-}
-
 impl Board {
-    pub fn fresh() -> Self {
-        Board {
+    /// Fills the slices; 13 where one has another length.
+    pub fn fresh(lent: Lent) -> Result<Self, u32> {
+        if lent.volts.len() != NODES || lent.totals.len() != NODES {
+            return Err(13);
+        }
+        lent.volts.fill(0);
+        lent.totals.fill(0);
+        Ok(Board {
             curve: *CURVE,
             cards: [const { None }; CARDS],
             issues: [0; PLACES],
             standing: [NOWHERE; PLACES],
             currents: [[0; 13]; PLACES],
-            taken_out: [[0; 13]; PLACES],
+            worked_out: [[0; 13]; PLACES],
             taken: 0,
             naming: [0; NODES],
-            volts: [0; NODES],
-            totals: [0; NODES],
             next: 1,
-        }
+        })
     }
 
     fn held(&self, issue: i64) -> Option<usize> {
@@ -155,17 +198,17 @@ impl Board {
 
     /// The currents that the transistor at a place would have, or nothing where it would overload.
     #[inline(always)]
-    fn worked(&self, t: &Standing) -> Option<Currents> {
+    fn worked(&self, t: &Standing, volts: &[i64; NODES]) -> Option<Currents> {
         let card = &self.cards[t.card as usize % CARDS].as_ref()?.card;
-        let volts = t.nodes.map(|n| self.volts[n as usize % NODES]);
+        let volts = t.nodes.map(|n| volts[n as usize % NODES]);
         currents(&self.curve, card, &volts)
     }
 
-    /// By what a transistor overloads at the present voltages, if it does.
+    /// By what a transistor overloads at these voltages, if it does.
     #[cold]
-    fn fault(&self, t: &Standing, issue: i64) -> Option<Fault> {
+    fn fault(&self, t: &Standing, issue: i64, volts: &[i64; NODES]) -> Option<Fault> {
         let card = &self.cards[t.card as usize % CARDS].as_ref()?.card;
-        let volts = t.nodes.map(|n| self.volts[n as usize % NODES]);
+        let volts = t.nodes.map(|n| volts[n as usize % NODES]);
         let (branch, number) = overload(&self.curve, card, &volts)?;
         Some(Fault {
             issue,
@@ -176,14 +219,15 @@ impl Board {
 
     /// The least fault among the transistors at these places.
     #[cold]
-    fn least_fault(&self, places: u64) -> Refused {
+    fn least_fault(&self, places: u64, volts: &[i64; NODES]) -> Refused {
         Members(places)
-            .filter_map(|p| self.fault(&self.standing[p], self.issues[p]))
+            .filter_map(|p| self.fault(&self.standing[p], self.issues[p], volts))
             .min()
             .map_or(Refused::Number(0), Refused::Fault)
     }
 
-    pub fn place(&mut self, card: i64, nodes: &[i64; ROLES]) -> Result<i64, Refused> {
+    pub fn place(&mut self, lent: Lent, card: i64, nodes: &[i64; ROLES]) -> Result<i64, Refused> {
+        let (volts, totals) = tested(lent.volts, lent.totals)?;
         let at = self.held(card).ok_or(12u32)?;
         let mut t = NOWHERE;
         t.card = at as u8;
@@ -211,17 +255,19 @@ impl Board {
         if self.next > LAST_ISSUE {
             return Err(17.into());
         }
-        let Some(i) = self.worked(&t) else {
+        let Some(i) = self.worked(&t, &volts) else {
             return Err(self
-                .fault(&t, self.next)
+                .fault(&t, self.next, &volts)
                 .map_or(Refused::Number(0), Refused::Fault));
         };
+        let mut change = NO_CHANGE;
+        add(&mut change.coming, &t.nodes, i);
+        lent.totals.copy_from_slice(&change.stand(&totals)?);
         let place = (!self.taken).trailing_zeros() as usize;
         self.taken |= 1 << place;
         for n in t.nodes {
             self.naming[n as usize % NODES] |= 1 << place;
         }
-        add(&mut self.totals, &t.nodes, i);
         self.issues[place] = self.next;
         self.standing[place] = t;
         self.currents[place] = i;
@@ -232,71 +278,62 @@ impl Board {
         Ok(self.issues[place])
     }
 
-    pub fn shift(&mut self, n: i64, microvolts: i64) -> Result<(), Refused> {
+    pub fn shift(&mut self, lent: Lent, n: i64, microvolts: i64) -> Result<(), Refused> {
+        let (mut volts, totals) = tested(lent.volts, lent.totals)?;
         let n = node(n)?;
-        if !(-2_500_000..=2_500_000).contains(&microvolts) {
+        if !in_range(microvolts) {
             return Err(13.into());
         }
-        let before = self.volts[n];
-        self.volts[n] = microvolts;
-        for place in Members(self.naming[n]) {
-            let Some(i) = self.worked(&self.standing[place]) else {
-                let told = self.least_fault(self.naming[n]);
-                self.volts[n] = before;
-                self.put_back(self.naming[n] & ((1 << place) - 1));
-                return Err(told);
-            };
-            self.taken_out[place] = self.exchange(place, i);
-        }
-        Ok(())
+        volts[n] = microvolts;
+        self.settle(self.naming[n], &volts, &totals, lent)
     }
 
     /// Nodes moved together, by a list of a node, its microvolts, a node and so on; each transistor is worked once.
-    pub fn shift_all(&mut self, pairs: &[i64]) -> Result<(), Refused> {
+    pub fn shift_all(&mut self, lent: Lent, pairs: &[i64]) -> Result<(), Refused> {
+        let (mut volts, totals) = tested(lent.volts, lent.totals)?;
         if pairs.len() % 2 != 0 || pairs.is_empty() || pairs.len() > 2 * NODES {
             return Err(1.into());
         }
         for p in pairs.chunks_exact(2) {
             node(p[0])?;
-            if !(-2_500_000..=2_500_000).contains(&p[1]) {
+            if !in_range(p[1]) {
                 return Err(13.into());
             }
         }
-        let before = self.volts;
         let mut places = 0;
         for p in pairs.chunks_exact(2) {
             let n = p[0] as usize % NODES;
-            self.volts[n] = p[1];
+            volts[n] = p[1];
             places |= self.naming[n];
         }
+        self.settle(places, &volts, &totals, lent)
+    }
+
+    /// Works the transistors at these places at new voltages, judges them and the totals, and writes last.
+    #[inline(always)]
+    fn settle(
+        &mut self,
+        places: u64,
+        volts: &[i64; NODES],
+        totals: &[i64; NODES],
+        lent: Lent,
+    ) -> Result<(), Refused> {
+        let mut change = NO_CHANGE;
         for place in Members(places) {
-            let Some(i) = self.worked(&self.standing[place]) else {
-                let told = self.least_fault(places);
-                self.volts = before;
-                self.put_back(places & ((1 << place) - 1));
-                return Err(told);
+            let Some(i) = self.worked(&self.standing[place], volts) else {
+                return Err(self.least_fault(places, volts));
             };
-            self.taken_out[place] = self.exchange(place, i);
+            let nodes = &self.standing[place].nodes;
+            add(&mut change.going, nodes, self.currents[place]);
+            add(&mut change.coming, nodes, i);
+            self.worked_out[place] = i;
+        }
+        lent.totals.copy_from_slice(&change.stand(totals)?);
+        lent.volts.copy_from_slice(volts);
+        for place in Members(places) {
+            self.currents[place] = self.worked_out[place];
         }
         Ok(())
-    }
-
-    /// Takes the held currents of a transistor out of the totals and puts others in; gives those that were held.
-    #[inline(always)]
-    fn exchange(&mut self, place: usize, new: Currents) -> Currents {
-        let old = self.currents[place];
-        let change = std::array::from_fn(|k| new[k] - old[k]);
-        add(&mut self.totals, &self.standing[place].nodes, change);
-        self.currents[place] = new;
-        old
-    }
-
-    /// Undoes a move at the places that it has come to.
-    #[cold]
-    fn put_back(&mut self, places: u64) {
-        for place in Members(places) {
-            self.exchange(place, self.taken_out[place]);
-        }
     }
 
     /// The place of a transistor.
@@ -308,14 +345,17 @@ impl Board {
         self.issues.iter().position(is_it).ok_or(12)
     }
 
-    pub fn lift(&mut self, issue: i64) -> Result<(), u32> {
+    pub fn lift(&mut self, lent: Lent, issue: i64) -> Result<(), u32> {
+        let (_, totals) = tested(lent.volts, lent.totals)?;
         let place = self.place_of(issue)?;
         let t = self.standing[place];
+        let mut change = NO_CHANGE;
+        add(&mut change.going, &t.nodes, self.currents[place]);
+        lent.totals.copy_from_slice(&change.stand(&totals)?);
         self.taken &= !(1 << place);
         for n in t.nodes {
             self.naming[n as usize % NODES] &= !(1 << place);
         }
-        add(&mut self.totals, &t.nodes, self.currents[place].map(|i| -i));
         self.issues[place] = 0;
         if let Some(c) = &mut self.cards[t.card as usize % CARDS] {
             c.standing -= 1;
@@ -338,11 +378,6 @@ impl Board {
         }
         let of_name = self.cards.iter().flatten().filter(|c| c.name == name);
         of_name.map(|c| c.issue).max().ok_or(4)
-    }
-
-    /// All voltages and totals.
-    pub fn reading(&self) -> ([i64; NODES], [i64; NODES]) {
-        (self.volts, self.totals)
     }
 
     /// The held currents of a transistor, branch by branch.
@@ -381,8 +416,10 @@ impl Board {
         Ok((transistors, cards.len(), largest.unwrap_or(0)))
     }
 
-    pub fn node(&self, n: i64) -> Result<(i64, i64), u32> {
+    /// A node's voltage and total. It reads nothing of the board.
+    pub fn node(volts: &[i64], totals: &[i64], n: i64) -> Result<(i64, i64), u32> {
+        let (volts, totals) = tested(volts, totals)?;
         let n = node(n)?;
-        Ok((self.volts[n], self.totals[n]))
+        Ok((volts[n], totals[n]))
     }
 }

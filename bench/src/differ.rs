@@ -1,4 +1,4 @@
-//! A differential test: random libraries and scripts, good and damaged, through the built programs and through this implementation.
+//! A differential test: random libraries and scripts, good and damaged, through the built programs and through this implementation; every other script may poke.
 
 use crate::protocol;
 use std::io::Write;
@@ -42,6 +42,30 @@ const PLAIN: [f64; 16] = [
     17_808_740.0,
     504.0,
 ];
+
+/// What a record of version 2 has more: a reverse current, its knee, three leads, a polarity, and two spare words.
+fn wider(d: &mut Dice) -> Vec<u8> {
+    let mut x = [6e-16, 0.2, 2.0, 25.0, 10.0, 1.0, 0.0, 0.0];
+    for _ in 0..d.roll(4) {
+        x[d.roll(5) as usize] *= 2f64.powi(d.roll(40) as i32 - 20);
+    }
+    if d.roll(2) == 0 {
+        x[5] = -1.0;
+    }
+    if d.roll(8) == 0 {
+        x[d.roll(8) as usize] = *d.one_of(&[f64::NAN, -0.0, 0.0, 0.5, 6.0, 1e300, -1.0]);
+    }
+    x.map(f64::to_le_bytes).concat()
+}
+
+/// A record of either version, for a script.
+fn either(d: &mut Dice) -> Vec<u8> {
+    let mut b = record(d);
+    if d.roll(2) == 0 {
+        b.extend(wider(d));
+    }
+    b
+}
 
 /// A record: a plain card with some of its numbers moved, now and then to where they hurt.
 fn record(d: &mut Dice) -> Vec<u8> {
@@ -161,6 +185,17 @@ fn volts(d: &mut Dice) -> String {
     format!("{minus}{v}")
 }
 
+/// A total that a host might write: small, any, or near an end of 64 bits and now and then beyond it.
+fn ticks(d: &mut Dice) -> String {
+    let near = i128::from(d.roll(1 << 13)) - 64;
+    match d.roll(4) {
+        0 => d.roll(1 << 40).to_string(),
+        1 => format!("-{}", d.roll(1 << 62)),
+        2 => (i128::from(i64::MAX) - near).to_string(),
+        _ => (i128::from(i64::MIN) + near).to_string(),
+    }
+}
+
 fn script(d: &mut Dice) -> Vec<u8> {
     let mut s = Vec::new();
     let hex = |b: &[u8]| b.iter().map(|x| format!("{x:02x}")).collect::<String>();
@@ -169,23 +204,26 @@ fn script(d: &mut Dice) -> Vec<u8> {
             format!(
                 "record {} {}\n",
                 String::from_utf8(name(d)).unwrap(),
-                hex(&record(d))
+                hex(&either(d))
             )
             .bytes(),
         );
     }
     for _ in 0..120 {
-        let line = match d.roll(20) {
+        let line = match d.roll(22) {
             0 => format!(
                 "record {} {}",
                 String::from_utf8(name(d)).unwrap(),
-                hex(&record(d))
+                hex(&either(d))
             ),
             1 | 2 => {
-                let nodes: Vec<String> = (0..7).map(|_| number(d, 33)).collect();
+                let roles = *d.one_of(&[7, 11, 11]);
+                let nodes: Vec<String> = (0..roles).map(|_| number(d, 33)).collect();
                 format!("place {} {}", number(d, 20), nodes.join(" "))
             }
             3 => format!("place {} 0 1 1 2 2 2 3", number(d, 6)),
+            20 => format!("place {} 0 1 1 2 2 2 3 4 5 6 2", number(d, 6)),
+            21 => format!("poke {} {} {}", number(d, 32), volts(d), ticks(d)),
             4..=7 => format!("move {} {}", number(d, 32), volts(d)),
             13 | 14 => {
                 let most = if d.roll(8) == 0 { 70 } else { 5 };
@@ -252,7 +290,10 @@ pub fn differ(rounds: u64, desk: &[String], listing: &[String]) {
             println!("listing differs in round {round}");
         }
         let s = script(d);
-        if piped(desk, &s) != protocol::Desk::new(|_| None).run(&s) {
+        let pokes = round % 2 == 0;
+        let mut words = desk.to_vec();
+        words.extend(pokes.then(|| String::from("--poke")));
+        if piped(&words, &s) != protocol::Desk::new(|_| None, pokes).run(&s) {
             bad += 1;
             println!("desk differs in round {round}");
         }

@@ -1,7 +1,7 @@
 //! An implementation of the desk's rules that shares nothing with the proved one, to compare with it.
 //!
 //!   bench vectors FOLDER    this implementation against a folder of outside vectors
-//!   bench desk SCRIPT       what the desk must answer to a script
+//!   bench desk [--poke] SCRIPT   what the desk must answer to a script
 //!   bench listing LIBRARY   what the listing must print of a library
 //!   bench time NAME TIMES   one of the timed runs: root, exponential, currents, saturated, wide, reverse, sister, empty, still,
 //!                           move, refused, all, named_0, named_1, named_8, named_32, named_64, singly, together, pair, mend,
@@ -111,7 +111,8 @@ fn vectors(folder: &Path) {
     for s in stems(Path::new("."), ".desk") {
         let want = std::fs::read(format!("{s}.out")).unwrap();
         tell(
-            protocol::Desk::new(read_file).run(&std::fs::read(format!("{s}.desk")).unwrap())
+            protocol::Desk::new(read_file, s.starts_with("poke"))
+                .run(&std::fs::read(format!("{s}.desk")).unwrap())
                 == want,
             &s,
         );
@@ -205,12 +206,54 @@ fn narrow(nodes: [i64; currents::NARROW]) -> [i64; currents::ROLES] {
     std::array::from_fn(|k| nodes.get(k).copied().unwrap_or(-1))
 }
 
-/// One number of every total and voltage.
-fn told(b: &board::Board) -> i64 {
-    let (volts, totals) = b.reading();
-    totals.iter().zip(volts).fold(0, |sum, (t, v)| {
-        (sum * 31 + t % 1_000_003 + 1_000_003 + v + 2_500_000) % (1 << 30)
-    })
+/// A board with the slices that it is lent.
+struct Timed {
+    board: board::Board,
+    volts: [i64; board::NODES],
+    totals: [i64; board::NODES],
+}
+
+impl Timed {
+    fn fresh() -> Self {
+        let (mut volts, mut totals) = ([0; board::NODES], [0; board::NODES]);
+        let lent = board::Lent {
+            volts: &mut volts,
+            totals: &mut totals,
+        };
+        let mut board = board::Board::fresh(lent).unwrap();
+        board.load(b"a", &timed_record()).unwrap();
+        Timed {
+            board,
+            volts,
+            totals,
+        }
+    }
+
+    /// The board, and its slices to be lent to it.
+    fn parts(&mut self) -> (&mut board::Board, board::Lent<'_>) {
+        let lent = board::Lent {
+            volts: &mut self.volts,
+            totals: &mut self.totals,
+        };
+        (&mut self.board, lent)
+    }
+
+    fn place(&mut self, nodes: [i64; currents::NARROW]) -> i64 {
+        let (b, lent) = self.parts();
+        b.place(lent, 1, &narrow(nodes)).unwrap()
+    }
+
+    fn shift(&mut self, n: i64, microvolts: i64) -> bool {
+        let (b, lent) = self.parts();
+        b.shift(lent, n, microvolts).is_ok()
+    }
+
+    /// One number of every total and voltage.
+    fn told(&self) -> i64 {
+        self.totals.iter().zip(self.volts).fold(0, |sum, (t, v)| {
+            (sum * 31 + t % 1_000_003 + 1_000_003 + v + 2_500_000) % (1 << 30)
+        })
+    }
 }
 
 /// A voltage moved so often, on a board with so many transistors, carried out or turned away; the first move brings the
@@ -227,11 +270,10 @@ fn time_moves_on(
     node: impl Fn(u64) -> u64,
     microvolts: i64,
 ) {
-    let mut b = board::Board::fresh();
-    b.load(b"a", &timed_record()).unwrap();
+    let mut b = Timed::fresh();
     for i in 0..places {
         let n = base(i);
-        b.place(1, &narrow([0, n, n, 20, 20, 20, 0])).unwrap();
+        b.place([0, n, n, 20, 20, 20, 0]);
     }
     let mut x = 1u32;
     let mut next = (20, 2_000_000);
@@ -240,7 +282,7 @@ fn time_moves_on(
         x = (x * 1103 + 12345) % 65536;
         next = (node(n) as i64, microvolts + x as i64);
     }
-    println!("{}", told(&b));
+    println!("{}", b.told());
 }
 
 /// One node of a full board moved so often, which the first so many of its transistors name.
@@ -251,12 +293,10 @@ fn time_named(times: u64, named: i64) {
 
 /// Every node of a full board moved so often, node by node or all together: eight stages of eight transistors.
 fn time_stages(times: u64, together: bool) {
-    let mut b = board::Board::fresh();
-    b.load(b"a", &timed_record()).unwrap();
+    let mut b = Timed::fresh();
     for i in 0..64 {
         let e = 4 * (i % 8);
-        b.place(1, &narrow([e, e + 1, e + 1, e + 2, e + 2, e + 2, e + 3]))
-            .unwrap();
+        b.place([e, e + 1, e + 1, e + 2, e + 2, e + 2, e + 3]);
     }
     let mut x = 1u32;
     for _ in 0..times {
@@ -271,27 +311,28 @@ fn time_stages(times: u64, together: bool) {
             }
         });
         if together {
-            b.shift_all(std::hint::black_box(&pairs)).unwrap();
+            let (b, lent) = b.parts();
+            b.shift_all(lent, std::hint::black_box(&pairs)).unwrap();
         } else {
             for p in std::hint::black_box(&pairs).chunks_exact(2) {
-                b.shift(p[0], p[1]).unwrap();
+                assert!(b.shift(p[0], p[1]));
             }
         }
     }
-    println!("{}", told(&b));
+    println!("{}", b.told());
 }
 
 fn time_pair(times: u64) {
-    let mut b = board::Board::fresh();
+    let mut b = Timed::fresh();
     for n in 0..times {
         if n % 32_000 == 0 {
-            b = board::Board::fresh();
-            b.load(b"a", &timed_record()).unwrap();
+            b = Timed::fresh();
         }
-        let i = b.place(1, &narrow([0, 1, 1, 2, 2, 2, 3])).unwrap();
-        b.lift(i).unwrap();
+        let i = b.place([0, 1, 1, 2, 2, 2, 3]);
+        let (b, lent) = b.parts();
+        b.lift(lent, i).unwrap();
     }
-    println!("{}", told(&b));
+    println!("{}", b.told());
 }
 
 /// A set of 256 names, how the last one is changed, and the one of place 200, which is found.
@@ -449,12 +490,16 @@ fn time(name: &str, times: u64) {
     }
 }
 
+fn answer(script: &str, pokes: bool) {
+    let out = protocol::Desk::new(read_file, pokes).run(&std::fs::read(script).unwrap());
+    std::io::stdout().write_all(&out).unwrap();
+}
+
 fn main() {
     let args: Vec<String> = std::env::args().skip(1).collect();
     match args.iter().map(String::as_str).collect::<Vec<_>>()[..] {
-        ["desk", script] => std::io::stdout()
-            .write_all(&protocol::Desk::new(read_file).run(&std::fs::read(script).unwrap()))
-            .unwrap(),
+        ["desk", script] => answer(script, false),
+        ["desk", "--poke", script] => answer(script, true),
         ["listing", library] => std::io::stdout()
             .write_all(&protocol::listing(&std::fs::read(library).unwrap()))
             .unwrap(),
@@ -470,7 +515,7 @@ fn main() {
             );
         }
         _ => {
-            println!("usage: bench vectors FOLDER | desk SCRIPT | listing LIBRARY | time NAME TIMES | differ ROUNDS")
+            println!("usage: bench vectors FOLDER | desk [--poke] SCRIPT | listing LIBRARY | time NAME TIMES | differ ROUNDS")
         }
     }
 }

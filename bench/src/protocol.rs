@@ -1,6 +1,6 @@
 //! The two programs' text, worked from the rules: what `listing` and `desk` write.
 
-use crate::board::{Board, Refused};
+use crate::board::{Board, Lent, Refused, NODES};
 use crate::card::{clip, judge};
 use crate::currents::ROLES;
 use crate::library;
@@ -40,6 +40,17 @@ fn amperes(ticks: i64) -> String {
 
 /// A number of the protocol; one beyond 64 bits becomes an end of the range, which every call refuses.
 fn number(word: &[u8]) -> Option<i64> {
+    let exact = whole(word)?;
+    Some(exact.clamp(i64::MIN as i128, i64::MAX as i128) as i64)
+}
+
+/// A number that 64 bits hold.
+fn within(word: &[u8]) -> Option<i64> {
+    whole(word)?.try_into().ok()
+}
+
+/// A number of the protocol; one far beyond 64 bits becomes another that is beyond them on the same side.
+fn whole(word: &[u8]) -> Option<i128> {
     let (minus, digits) = match word.split_first() {
         Some((b'-', rest)) => (true, rest),
         _ => (false, word),
@@ -47,9 +58,9 @@ fn number(word: &[u8]) -> Option<i64> {
     if digits.is_empty() || !digits.iter().all(u8::is_ascii_digit) {
         return None;
     }
-    let mut n: i64 = 0;
+    let mut n: i128 = 0;
     for d in digits {
-        let d = (d - b'0') as i64;
+        let d = (d - b'0') as i128;
         n = n.saturating_mul(10);
         n = if minus {
             n.saturating_sub(d)
@@ -75,6 +86,10 @@ fn hex(word: &[u8]) -> Option<Vec<u8>> {
 
 pub struct Desk {
     board: Board,
+    volts: [i64; NODES],
+    totals: [i64; NODES],
+    /// Whether `poke` is a command.
+    pokes: bool,
     library: Vec<u8>,
     read: fn(&[u8]) -> Option<Vec<u8>>,
 }
@@ -88,10 +103,18 @@ fn told<T>(r: Result<T, impl Into<Refused>>, f: impl FnOnce(T) -> String) -> Str
 }
 
 impl Desk {
-    pub fn new(read: fn(&[u8]) -> Option<Vec<u8>>) -> Self {
+    pub fn new(read: fn(&[u8]) -> Option<Vec<u8>>, pokes: bool) -> Self {
+        let (mut volts, mut totals) = ([0; NODES], [0; NODES]);
+        let lent = Lent {
+            volts: &mut volts,
+            totals: &mut totals,
+        };
         let library = vec![1, 0, 0, 0, 16, 0, 0, 0, 16, 0, 0, 0, 16, 0, 0, 0];
         Desk {
-            board: Board::fresh(),
+            board: Board::fresh(lent).expect("slices of 32"),
+            volts,
+            totals,
+            pokes,
             library,
             read,
         }
@@ -133,6 +156,10 @@ impl Desk {
 
     fn obey(&mut self, words: &[&[u8]]) -> Option<Vec<u8>> {
         let rest = &words[1..];
+        let lent = Lent {
+            volts: &mut self.volts,
+            totals: &mut self.totals,
+        };
         let text = match (words[0], rest.len()) {
             (b"library", 1) => match (self.read)(rest[0]) {
                 None => return Some([b"error cannot read ", rest[0]].concat()),
@@ -168,26 +195,28 @@ impl Desk {
                 let n: Vec<i64> = rest.iter().map(|w| number(w)).collect::<Option<_>>()?;
                 let mut nodes = [-1; ROLES];
                 nodes[..n.len() - 1].copy_from_slice(&n[1..]);
-                told(self.board.place(n[0], &nodes), |i| {
+                told(self.board.place(lent, n[0], &nodes), |i| {
                     format!("transistor {i}")
                 })
             }
             (b"move", 2) => {
                 let (n, v) = (number(rest[0])?, number(rest[1])?);
-                told(self.board.shift(n, v), |_| "moved".into())
+                told(self.board.shift(lent, n, v), |_| "moved".into())
             }
             (b"moves", n) if n % 2 == 0 => {
                 let pairs: Vec<i64> = rest.iter().map(|w| number(w)).collect::<Option<_>>()?;
-                told(self.board.shift_all(&pairs), |_| "moved".into())
+                told(self.board.shift_all(lent, &pairs), |_| "moved".into())
             }
-            (b"lift", 1) => told(self.board.lift(number(rest[0])?), |_| "lifted".into()),
+            (b"lift", 1) => told(self.board.lift(lent, number(rest[0])?), |_| "lifted".into()),
             (b"withdraw", 1) => told(self.board.withdraw(number(rest[0])?), |_| {
                 "withdrawn".into()
             }),
             (b"lookup", 1) => told(self.board.look_up(rest[0]), |i| format!("card {i}")),
             (b"node", 1) => {
                 let n = number(rest[0])?;
-                told(self.board.node(n), |(v, t)| format!("node {n} {v} {t}"))
+                told(Board::node(&self.volts, &self.totals, n), |(v, t)| {
+                    format!("node {n} {v} {t}")
+                })
             }
             (b"currents", 1) => told(self.board.currents_of(number(rest[0])?), |i| {
                 i.iter()
@@ -208,13 +237,19 @@ impl Desk {
                     format!("mended {n}")
                 })
             }
-            (b"sheet", 0) => {
-                let (volts, totals) = self.board.reading();
+            (b"sheet", 0) => told(Board::node(&self.volts, &self.totals, 0), |_| {
                 let mut s = String::from("sheet 32");
-                for (i, (v, t)) in volts.iter().zip(totals).enumerate() {
+                for (i, (v, t)) in self.volts.iter().zip(self.totals).enumerate() {
                     write!(s, "\n{i} {v} {t} {}", amperes(t)).unwrap();
                 }
                 s
+            }),
+            (b"poke", 3) if self.pokes => {
+                let (n, v, t) = (within(rest[0])?, within(rest[1])?, within(rest[2])?);
+                let n = usize::try_from(n).ok().filter(|n| *n < NODES)?;
+                self.volts[n] = v;
+                self.totals[n] = t;
+                String::from("poked")
             }
             _ => return None,
         };

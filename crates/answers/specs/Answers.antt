@@ -11,7 +11,7 @@ use Rattle.sheet.specs.Lines.{labelLine, toldLine, nodeLine}
 use Rattle.spelling.specs.Bytes.{space, newline}
 use Rattle.answers.specs.declared.Answer.{Answer}
 use Rattle.answers.specs.declared.Answer.the-variants.{Library, Offset, Card, Transistor, Moved, Lifted}
-use Rattle.answers.specs.declared.Answer.the-variants.{Withdrawn, Reading, Sheet, Refused, TooLong, Mended}
+use Rattle.answers.specs.declared.Answer.the-variants.{Withdrawn, Reading, Sheet, Refused, TooLong, Mended, Poked}
 use Rattle.spelling.specs.Bytes.{bytes}
 
 -- how many nodes a sheet has
@@ -35,6 +35,7 @@ answerLine Sheet = labelLine (bytes "sheet") sheetNodes
 answerLine (Refused f) = toldLine (told f)
 answerLine TooLong = bytes "error line too long\n"
 answerLine (Mended n) = labelLine (bytes "mended") n
+answerLine Poked = bytes "poked\n"
 
 -- a line that is no command, by its first word
 unfoldable pub errorLine : List ℕ → List ℕ

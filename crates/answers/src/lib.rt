@@ -26,6 +26,7 @@ pub enum Answer {
     TooLong,
     // how many cards of the library held were mended
     Mended(u32),
+    Poked,
 }
 
 // Each line is written at the start of a lent buffer; what comes back is how many bytes it has.
@@ -45,6 +46,7 @@ pub fn answer_line(a: Answer, out: &mut [u8; ANSWER_ROOM]) -> usize
         Answer::Refused(f) => parts::refused(f, out),
         Answer::TooLong => page::put(b"error line too long\n", out, 0),
         Answer::Mended(n) => parts::label(b"mended", n as u64, out),
+        Answer::Poked => page::put(b"poked\n", out, 0),
     }
 }
 

@@ -1,79 +1,149 @@
--- A call's board is again one that calls from a fresh board leave.
-use mathlib.Core.Path.{_≡_, sym, ap, _∙_, subst}
+-- A call's board is again one that calls from a fresh board leave, whatever the slices hold.
+use mathlib.Core.Path.{_≡_, refl, sym, ap, _∙_, subst}
+use mathlib.Core.Bool.{Bool, true, false, _||_}
 use mathlib.Core.List.{List, [], _∷_}
 use Prim.Native.Nat.{ℕ}
 use lib.ListN.{length}
 use lib.IntN.{ℤ}
 use Rattle.bytes_le.specs.Buffer.{over}
+use Rattle.refusal.specs.declared.Refusal.the-variants.{OutOfRange}
+use Rattle.refusal.specs.Order.{Verdict, no, yes, refuseIf}
+use borrow.Author.Tests.{not-true, not-false}
+use Rattle.slices.specs.Slices.{otherLength, Clears}
 use Rattle.terms.specs.Rows.{roles}
 use Rattle.model.specs.Board as model
+use Rattle.model.specs.declared.Answer.{Answer}
+use Rattle.model.specs.declared.Answer.the-variants.{Done, Refused}
 use Rattle.model.specs.Desk.{Call, load, place, move, lift, withdraw, lookUp, node, currents, who, sumUp}
-use Rattle.model.specs.Model.{freshBoard, loadedOf, placedOf, movedOf, liftedOf, withdrawnOf, lookedOf, showedOf}
-use Rattle.model.specs.Model.{openedOf, listedOf, summedOf, answered, boardAfter, Reached}
+use Rattle.model.specs.Model.{noTicks, loadedOf, withdrawnOf, lookedOf, openedOf, listedOf, summedOf}
+use Rattle.lending.specs.Rest.{Rest, bare}
+use Rattle.lending.specs.Lending.{Lent, freshRest, freshBy, freshLent, placedLent, movedLent, liftedLent, showedLent, lentOf}
+use Rattle.lending.specs.Reached as lending
+use Rattle.lending.specs.inner.Lent.{stateWith}
 use Rattle.board.specs.declared.Board.{Board}
 use Rattle.board.specs.declared.Answered.{Answered}
-use Rattle.board.specs.Promise.{modelOf, boardOf, givenAs}
-use Rattle.board.specs.Unique.{Allows, AllowsList}
+use Rattle.board.specs.Promise.{modelOf, boardOf, stateIn, givenAs, handedAs, Reached}
+use Rattle.board.specs.Unique.{Allows, AllowsLent, AllowsTotals, AllowsBoth, AllowsList}
 
-pub fresh-reached : {b : Board} → b ≡ boardOf freshBoard → (b ≡ boardOf freshBoard) × Reached (modelOf b)
-unfolding boardAfter
-fresh-reached e = (e, record { calls = []; leaves = sym (ap modelOf e) })
+one-more : {r : Rest} (volts totals : List ℤ) (c : Call) → lending.Reached r →
+    lending.Reached (lentOf (stateWith r volts totals) c .state .rest)
+unfolding lending.restAfter
+one-more volts totals c k =
+    record {
+      calls = record { volts = volts; totals = totals; call = c } ∷ k .calls;
+      leaves = ap (λ (r : Rest). lentOf (stateWith r volts totals) c .state .rest) (k .leaves);
+    }
 
-one-more : {b : model.Board} (c : Call) → Reached b → Reached (answered b c .board)
-unfolding boardAfter
-one-more c k =
-    record { calls = c ∷ k .calls; leaves = ap (λ (b : model.Board). answered b c .board) (k .leaves) }
+-- what is handed back is reached, where what it was handed is
+handed-on : (l : Lent) {r : Answered} → r ≡ handedAs l → lending.Reached (l .state .rest) → Reached (r .board)
+handed-on l e k = subst (λ (x : Answered). Reached (x .board)) (sym e) k
 
-gives : {b : model.Board} {r : Answered} {a : model.Answered} (c : Call) → Reached b → r ≡ givenAs a → a ≡ answered b
-    c →
-    Allows (answered b c) r
-gives {b} c k e d =
-    let whole = e ∙ ap givenAs d in
-    (whole, subst (λ (x : Answered). Reached (modelOf (x .board))) (sym whole) (one-more c k))
+-- ---- a fresh board
 
-module _ {b : model.Board} {r : Answered} (k : Reached b) where
-  pub after-load : (name bytes : List ℕ) {a : model.Answered} → r ≡ givenAs a → a ≡ loadedOf b name bytes →
-      Allows (loadedOf b name bytes) r
-  unfolding answered
-  after-load name bytes e d = gives (load name bytes) k e d
+fresh-there : (volts totals : List ℤ) (v : Verdict Answer) → freshBy volts totals v .state .rest ≡ freshRest
+fresh-there volts totals (no f) = refl
+fresh-there volts totals (yes told) = refl
 
-  pub after-place : (card : ℤ) (nodes : List ℤ) → length nodes ≡ roles → {a : model.Answered} → r ≡ givenAs a →
-      a ≡ placedOf b card nodes → Allows (placedOf b card nodes) r
-  unfolding answered
-  after-place card nodes sized e d = gives (place card nodes sized) k e d
+module _ (volts totals : List ℤ) {b : Board} (e : b ≡ boardOf freshRest) {v t : List ℤ} where
+  -- what was cleared, or left, is what a fresh call leaves
+  by-verdict : (w : Verdict Answer) → freshLent volts totals ≡ freshBy volts totals w → {r : Answered} →
+      r ≡ handedAs (freshBy volts totals w) → v ≡ freshBy volts totals w .state .volts →
+      t ≡ freshBy volts totals w .state .totals → AllowsBoth (freshLent volts totals) r v t
+  unfolding lending.restAfter
+  by-verdict w f {r} g p q =
+      subst (λ (l : Lent). AllowsBoth l r v t) (sym f) (
+        g,
+        (
+          handed-on (freshBy volts totals w) g
+              (record { calls = []; leaves = sym (fresh-there volts totals w) }),
+          (p, q),
+        ),
+      )
 
-  pub after-move : (pairs : List ℤ) {a : model.Answered} → r ≡ givenAs a → a ≡ movedOf b pairs →
-      Allows (movedOf b pairs) r
-  unfolding answered
-  after-move pairs e d = gives (move pairs) k e d
+  pub fresh-done : {good : Bool} → Clears volts totals good v t → good ≡ true →
+      AllowsBoth (freshLent volts totals) (record { board = b; answer = Done; ticks = noTicks }) v t
+  unfolding freshLent
+  fresh-done k g =
+      let on = not-true (otherLength volts || otherLength totals) (sym (k .told) ∙ g) in
+      by-verdict (yes Done)
+      (ap (λ (x : Bool). freshBy volts totals (refuseIf x OutOfRange (yes Done))) on)
+      (ap (λ (x : Board). record { board = x; answer = Done; ticks = noTicks }) e) (k .volts-are ∙ rw on)
+      (k .totals-are ∙ rw on)
 
-  pub after-lift : (n : ℤ) {a : model.Answered} → r ≡ givenAs a → a ≡ liftedOf b n → Allows (liftedOf b n) r
-  unfolding answered
-  after-lift n e d = gives (lift n) k e d
+  pub fresh-refused : {good : Bool} → Clears volts totals good v t → good ≡ false →
+      AllowsBoth (freshLent volts totals) (record { board = b; answer = Refused OutOfRange; ticks = noTicks }) v t
+  unfolding freshLent
+  fresh-refused k g =
+      let off = not-false (otherLength volts || otherLength totals) (sym (k .told) ∙ g) in
+      by-verdict (no OutOfRange)
+      (ap (λ (x : Bool). freshBy volts totals (refuseIf x OutOfRange (yes Done))) off)
+      (ap (λ (x : Board). record { board = x; answer = Refused OutOfRange; ticks = noTicks }) e) (k .volts-are ∙ rw off)
+      (k .totals-are ∙ rw off)
 
-  pub after-withdraw : (n : ℤ) {a : model.Answered} → r ≡ givenAs a → a ≡ withdrawnOf b n → Allows (withdrawnOf b n) r
-  unfolding answered
-  after-withdraw n e d = gives (withdraw n) k e d
+-- ---- calls that take no slices
 
-  pub after-look : (name : List ℕ) {a : model.Answered} → r ≡ givenAs a → a ≡ lookedOf b name →
-      Allows (lookedOf b name) r
-  unfolding answered
-  after-look name e d = gives (lookUp name) k e d
+module _ {b : Board} {r : Answered} (k : Reached b) where
+  gives : (c : Call) → r ≡ handedAs (lentOf (stateWith (modelOf b) [] []) c) → Reached (r .board)
+  gives c e = handed-on (lentOf (stateWith (modelOf b) [] []) c) e (one-more [] [] c k)
 
-  pub after-node : (n : ℤ) {a : model.Answered} → r ≡ givenAs a → a ≡ showedOf b n → Allows (showedOf b n) r
-  unfolding answered
-  after-node n e d = gives (node n) k e d
+  pub after-load : (name bytes : List ℕ) {a : model.Answered} → r ≡ givenAs a → a ≡ loadedOf (bare (modelOf b)) name bytes →
+      Allows (loadedOf (bare (modelOf b)) name bytes) r
+  unfolding lentOf
+  after-load name bytes e d = let w = e ∙ ap givenAs d in (w, gives (load name bytes) w)
 
-  pub after-currents : (n : ℤ) {a : model.Answered} → r ≡ givenAs a → a ≡ openedOf b n → Allows (openedOf b n) r
-  unfolding answered
-  after-currents n e d = gives (currents n) k e d
+  pub after-withdraw : (n : ℤ) {a : model.Answered} → r ≡ givenAs a → a ≡ withdrawnOf (bare (modelOf b)) n →
+      Allows (withdrawnOf (bare (modelOf b)) n) r
+  unfolding lentOf
+  after-withdraw n e d = let w = e ∙ ap givenAs d in (w, gives (withdraw n) w)
 
-  pub after-sum : (n : ℤ) {a : model.Answered} → r ≡ givenAs a → a ≡ summedOf b n → Allows (summedOf b n) r
-  unfolding answered
-  after-sum n e d = gives (sumUp n) k e d
+  pub after-look : (name : List ℕ) {a : model.Answered} → r ≡ givenAs a → a ≡ lookedOf (bare (modelOf b)) name →
+      Allows (lookedOf (bare (modelOf b)) name) r
+  unfolding lentOf
+  after-look name e d = let w = e ∙ ap givenAs d in (w, gives (lookUp name) w)
+
+  pub after-currents : (n : ℤ) {a : model.Answered} → r ≡ givenAs a → a ≡ openedOf (bare (modelOf b)) n →
+      Allows (openedOf (bare (modelOf b)) n) r
+  unfolding lentOf
+  after-currents n e d = let w = e ∙ ap givenAs d in (w, gives (currents n) w)
+
+  pub after-sum : (n : ℤ) {a : model.Answered} → r ≡ givenAs a → a ≡ summedOf (bare (modelOf b)) n →
+      Allows (summedOf (bare (modelOf b)) n) r
+  unfolding lentOf
+  after-sum n e d = let w = e ∙ ap givenAs d in (w, gives (sumUp n) w)
 
   pub after-list : (n : ℤ) (old : List ℕ) {new : List ℕ} {a : model.Answered} → r ≡ givenAs a →
-      a ≡ listedOf b n (length old) → new ≡ over (listedOf b n (length old) .list) old →
-      AllowsList (listedOf b n (length old)) old r new
-  unfolding answered
-  after-list n old e d l = let g = gives (who n (length old)) k e d in (g .0, (g .1, l))
+      a ≡ listedOf (bare (modelOf b)) n (length old) → new ≡ over (listedOf (bare (modelOf b)) n (length old) .list) old →
+      AllowsList (listedOf (bare (modelOf b)) n (length old)) old r new
+  unfolding lentOf
+  after-list n old e d l = let w = e ∙ ap givenAs d in (w, (gives (who n (length old)) w, l))
+
+  -- ---- calls that take them
+
+  module _ (volts totals : List ℤ) where
+    pub after-place : (card : ℤ) (nodes : List ℤ) → length nodes ≡ roles →
+        r ≡ handedAs (placedLent (stateIn b volts totals) card nodes) → {t : List ℤ} →
+        t ≡ placedLent (stateIn b volts totals) card nodes .state .totals →
+        AllowsTotals (placedLent (stateIn b volts totals) card nodes) r t
+    unfolding lentOf
+    after-place card nodes sized e t =
+        (e, (handed-on (placedLent (stateIn b volts totals) card nodes) e (one-more volts totals (place card nodes sized) k), t))
+
+    pub after-move : (pairs : List ℤ) → r ≡ handedAs (movedLent (stateIn b volts totals) pairs) → {v t : List ℤ} →
+        v ≡ movedLent (stateIn b volts totals) pairs .state .volts →
+        t ≡ movedLent (stateIn b volts totals) pairs .state .totals →
+        AllowsBoth (movedLent (stateIn b volts totals) pairs) r v t
+    unfolding lentOf
+    after-move pairs e v t =
+        (e, (handed-on (movedLent (stateIn b volts totals) pairs) e (one-more volts totals (move pairs) k), (v, t)))
+
+    pub after-lift : (n : ℤ) → r ≡ handedAs (liftedLent (stateIn b volts totals) n) → {t : List ℤ} →
+        t ≡ liftedLent (stateIn b volts totals) n .state .totals → AllowsTotals (liftedLent (stateIn b volts totals) n) r t
+    unfolding lentOf
+    after-lift n e t =
+        (e, (handed-on (liftedLent (stateIn b volts totals) n) e (one-more volts totals (lift n) k), t))
+
+    pub after-node : (n : ℤ) → r ≡ handedAs (showedLent (stateIn b volts totals) n) →
+        AllowsLent (showedLent (stateIn b volts totals) n) r
+    unfolding lentOf
+    after-node n e =
+        (e, handed-on (showedLent (stateIn b volts totals) n) e (one-more volts totals (node n) k))

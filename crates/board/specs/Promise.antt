@@ -1,13 +1,17 @@
--- The board's struct and the model: the same lists, so that what the model says is what a method promises.
+-- The board's struct and the definitions: the same lists, so that what they say is what a method promises.
 use mathlib.Core.List.{List}
 use Prim.Native.Nat.{ℕ}
-use Rattle.model.specs.Board.{Board, Answered}
-use Rattle.model.specs.Model as model
-use Rattle.board.specs.declared.Board as code
-use Rattle.board.specs.declared.Answered as answered
+use lib.IntN.{ℤ}
+use Rattle.model.specs.Board as model
+use Rattle.lending.specs.Rest.{Rest, State, boardIn, restOf}
+use Rattle.lending.specs.Lending.{Lent}
+use Rattle.lending.specs.Reached as lending
+use Rattle.lending.specs.inner.Lent.{stateWith}
+use Rattle.board.specs.declared.Board.{Board}
+use Rattle.board.specs.declared.Answered.{Answered}
 
 -- the lists that a board's arrays hold
-abbrev pub modelOf : code.Board → Board
+abbrev pub modelOf : Board → Rest
 modelOf b =
     record {
       numbers = b .numbers;
@@ -17,8 +21,6 @@ modelOf b =
       names = b .names;
       held = b .held;
       next = b .next;
-      volts = b .volts;
-      totals = b .totals;
       issues = b .issues;
       cards = b .cards;
       seats = b .seats;
@@ -28,34 +30,40 @@ modelOf b =
     }
 
 -- and the board whose arrays hold them
-abbrev pub boardOf : Board → code.Board
-boardOf b =
+abbrev pub boardOf : Rest → Board
+boardOf r =
     record {
-      numbers = b .numbers;
-      powers = b .powers;
-      ticks = b .ticks;
-      switches = b .switches;
-      names = b .names;
-      held = b .held;
-      next = b .next;
-      volts = b .volts;
-      totals = b .totals;
-      issues = b .issues;
-      cards = b .cards;
-      seats = b .seats;
-      nodes = b .nodes;
-      naming = b .naming;
-      currents = b .currents;
+      numbers = r .numbers;
+      powers = r .powers;
+      ticks = r .ticks;
+      switches = r .switches;
+      names = r .names;
+      held = r .held;
+      next = r .next;
+      issues = r .issues;
+      cards = r .cards;
+      seats = r .seats;
+      nodes = r .nodes;
+      naming = r .naming;
+      currents = r .currents;
     }
 
--- a model's board and answer handed back, and seen again
-abbrev pub givenAs : Answered → answered.Answered
-givenAs a = record { board = boardOf (a .board); answer = a .answer; ticks = a .ticks }
+-- a board beside what the two slices hold
+abbrev pub stateIn : Board → List ℤ → List ℤ → State
+stateIn b volts totals = stateWith (modelOf b) volts totals
 
--- with the list that it left in a lent buffer
-abbrev pub takenAs : answered.Answered → List ℕ → Answered
-takenAs r list = record { board = modelOf (r .board); answer = r .answer; ticks = r .ticks; list = list }
+-- the board and answer of a definition handed back: of a call that takes no slices, and of one that does
+abbrev pub givenAs : model.Answered → Answered
+givenAs a = record { board = boardOf (restOf (a .board)); answer = a .answer; ticks = a .ticks }
 
--- some calls from a fresh board leave this board
-abbrev pub Reached : code.Board → Type 0
-Reached b = model.Reached (modelOf b)
+abbrev pub handedAs : Lent → Answered
+handedAs l = record { board = boardOf (l .state .rest); answer = l .answer; ticks = l .ticks }
+
+-- and seen again, with what stands in the slices and the list that was left in a lent buffer: as the board that was
+abbrev pub takenAs : Answered → List ℤ → List ℤ → List ℕ → model.Answered
+takenAs r volts totals list =
+    record { board = boardIn (stateIn (r .board) volts totals); answer = r .answer; ticks = r .ticks; list = list }
+
+-- some calls from a fresh board leave this board, whatever the slices held at each
+abbrev pub Reached : Board → Type 0
+Reached b = lending.Reached (modelOf b)

@@ -1,12 +1,15 @@
-// The board: cards and transistors in places, voltages and node totals, handed from call to call by value.
-// Each method asks that calls from a fresh board left the board as it is, and gives the answer with the next board, which is such a board again.
+// The board: cards and transistors in places, handed from call to call by value. Voltages and node totals stand in two slices that the caller lends, 32 numbers each.
+// Each method asks that calls from a fresh board left the board as it is, whatever the slices held at each of them, and gives the answer with the next board, which is such a board again. Of the slices nothing is asked.
 ghost use mathlib.Core.Path.{_≡_};
 ghost use mathlib.Core.List.{[], _∷_};
 ghost use lib.ListN.{length};
 ghost use Rattle.bytes_le.specs.Buffer.{over};
-ghost use Rattle.model.specs.Model.{freshBoard, loadedOf, placedOf, movedOf, liftedOf, withdrawnOf, lookedOf, showedOf, openedOf, listedOf, summedOf};
-ghost use Rattle.board.specs.Promise.{modelOf, boardOf, givenAs, Reached};
+ghost use Rattle.model.specs.Model.{loadedOf, withdrawnOf, lookedOf, openedOf, listedOf, summedOf};
+ghost use Rattle.lending.specs.Rest.{bare};
+ghost use Rattle.lending.specs.Lending.{freshRest, freshLent, placedLent, movedLent, liftedLent, showedLent};
+ghost use Rattle.board.specs.Promise.{modelOf, boardOf, stateIn, givenAs, handedAs, Reached};
 pub use model::Answer;
+use refusal::Refusal;
 use terms::BRANCHES;
 use terms::ROLES;
 
@@ -26,9 +29,6 @@ pub struct Board {
     pub nodes: [u8; places::ALL_NODES],
     // for each node the places of the transistors that name it
     pub naming: [u64; Board::NODES],
-    // as `volts` keeps them
-    pub volts: [u32; Board::NODES],
-    pub totals: [i64; Board::NODES],
     // what each transistor's branches carry, in ticks
     pub currents: [i64; places::ALL_CURRENTS],
 }
@@ -47,10 +47,9 @@ impl Board {
 
     pub const TRANSISTORS: usize = places::TRANSISTORS;
 
-    // No cards, no transistors, and every voltage and total 0.
-    pub fn fresh() -> Board
-        ensures { λ r. ⌜ r ≡ boardOf freshBoard ⌝ }
-        ensures { λ r. ⌜ Reached r ⌝ }
+    // No cards and no transistors.
+    fn empty() -> Board
+        ensures { λ r. ⌜ r ≡ boardOf freshRest ⌝ }
     {
         Board {
             numbers: [0u32; deck::ALL_NUMBERS],
@@ -60,8 +59,6 @@ impl Board {
             names: [0u8; places::ALL_NAMES],
             held: [0u32; Board::CARDS],
             next: 1,
-            volts: [volts::ZERO; Board::NODES],
-            totals: [0i64; Board::NODES],
             issues: [0u32; Board::TRANSISTORS],
             cards: [0u32; Board::TRANSISTORS],
             seats: [0u8; Board::TRANSISTORS],
@@ -71,10 +68,30 @@ impl Board {
         }
     }
 
+    // An empty board, and every voltage and total 0: 13 where a slice has not 32 numbers. An empty board stands beside that too.
+    pub fn fresh(volts: &mut [i64], totals: &mut [i64]) -> Answered
+        ensures { λ r. ⌜ r ≡ handedAs (freshLent (now (volts .entry)) (now (totals .entry))) ⌝ }
+        ensures { λ r. ⌜ Reached (r .board) ⌝ }
+        ensures { λ _. ⌜ now (volts .exit) ≡ freshLent (now (volts .entry)) (now (totals .entry)) .state .volts ⌝ }
+        ensures { λ _. ⌜ now (totals .exit) ≡ freshLent (now (volts .entry)) (now (totals .entry)) .state .totals ⌝ }
+    {
+        let board = Board::empty();
+        let answer = if slices::clear(volts, totals) {
+            Answer::Done
+        } else {
+            Answer::Refused(Refusal::OutOfRange)
+        };
+        Answered {
+            board,
+            answer,
+            ticks: [0i64; BRANCHES],
+        }
+    }
+
     // A card under a name: 1, 2, 6, 7, 8, 19, 9, 10, 11, 17. It gets the next issue number.
     pub fn load(mut self, name: &[u8], bytes: &[u8]) -> Answered
         requires { ⌜ Reached self ⌝ }
-        ensures { λ r. ⌜ r ≡ givenAs (loadedOf (modelOf self) (now (name .entry)) (now (bytes .entry))) ⌝ }
+        ensures { λ r. ⌜ r ≡ givenAs (loadedOf (bare (modelOf self)) (now (name .entry)) (now (bytes .entry))) ⌝ }
         ensures { λ r. ⌜ Reached (r .board) ⌝ }
     {
         let mut numbers = self.numbers;
@@ -109,33 +126,37 @@ impl Board {
         }
     }
 
-    // A transistor on a card, by its issue number, and on the nodes of its roles: 12, 13, 14, 11, 17, 15.
-    pub fn place(mut self, card: i64, nodes: [i64; ROLES]) -> Answered
+    // A transistor on a card, by its issue number, and on the nodes of its roles: 13 for the slices, 12, 13, 14, 11, 17, 15 or 18, 10.
+    pub fn place(
+        mut self,
+        volts: &[i64],
+        totals: &mut [i64],
+        card: i64,
+        nodes: [i64; ROLES],
+    ) -> Answered
         requires { ⌜ Reached self ⌝ }
-        ensures { λ r. ⌜ r ≡ givenAs (placedOf (modelOf self) card nodes) ⌝ }
+        ensures { λ r. ⌜ r ≡ handedAs (placedLent (stateIn self (now (volts .entry)) (now (totals .entry))) card nodes) ⌝ }
         ensures { λ r. ⌜ Reached (r .board) ⌝ }
+        ensures { λ _. ⌜ now (totals .exit) ≡ placedLent (stateIn self (now (volts .entry)) (now (totals .entry))) card nodes .state .totals ⌝ }
     {
         let numbers = self.numbers;
         let powers = self.powers;
         let ticks = self.ticks;
         let switches = self.switches;
         let held = self.held;
-        let volts = self.volts;
         let mut next = self.next;
-        let mut totals = self.totals;
         let mut issues = self.issues;
         let mut cards = self.cards;
         let mut seats = self.seats;
         let mut on = self.nodes;
         let mut naming = self.naming;
         let mut currents = self.currents;
-        let answer = model::place(
+        let answer = seating::place(
             &mut issues,
             &mut cards,
             &mut seats,
             &mut on,
             &mut naming,
-            &mut totals,
             &mut currents,
             &mut next,
             &numbers,
@@ -143,12 +164,12 @@ impl Board {
             &ticks,
             &switches,
             &held,
-            &volts,
+            volts,
+            totals,
             card,
             nodes,
         );
         self.next = next;
-        self.totals = totals;
         self.issues = issues;
         self.cards = cards;
         self.seats = seats;
@@ -162,11 +183,13 @@ impl Board {
         }
     }
 
-    // Nodes moved together, by a list of a node, its microvolts, a node, its microvolts and so on, the last pair of a node holding: 1 where it is not 1 to 32 pairs, 13 for any pair, then 15 where some transistor would overload at the end.
-    pub fn move_all(mut self, pairs: &[i64]) -> Answered
+    // Nodes moved together, by a list of a node, its microvolts, a node, its microvolts and so on, the last pair of a node holding: 13 for the slices, 1 where it is not 1 to 32 pairs, 13 for any pair, 15 or 18 where some transistor would overload at the end, 10.
+    pub fn move_all(mut self, volts: &mut [i64], totals: &mut [i64], pairs: &[i64]) -> Answered
         requires { ⌜ Reached self ⌝ }
-        ensures { λ r. ⌜ r ≡ givenAs (movedOf (modelOf self) (now (pairs .entry))) ⌝ }
+        ensures { λ r. ⌜ r ≡ handedAs (movedLent (stateIn self (now (volts .entry)) (now (totals .entry))) (now (pairs .entry))) ⌝ }
         ensures { λ r. ⌜ Reached (r .board) ⌝ }
+        ensures { λ _. ⌜ now (volts .exit) ≡ movedLent (stateIn self (now (volts .entry)) (now (totals .entry))) (now (pairs .entry)) .state .volts ⌝ }
+        ensures { λ _. ⌜ now (totals .exit) ≡ movedLent (stateIn self (now (volts .entry)) (now (totals .entry))) (now (pairs .entry)) .state .totals ⌝ }
     {
         let numbers = self.numbers;
         let powers = self.powers;
@@ -177,12 +200,10 @@ impl Board {
         let nodes = self.nodes;
         let naming = self.naming;
         let number = self.next;
-        let mut volts = self.volts;
-        let mut totals = self.totals;
         let mut held = self.currents;
         let answer = moving::move_all(
-            &mut volts,
-            &mut totals,
+            volts,
+            totals,
             &mut held,
             &numbers,
             &powers,
@@ -195,8 +216,6 @@ impl Board {
             pairs,
         );
         self.next = number;
-        self.volts = volts;
-        self.totals = totals;
         self.currents = held;
         Answered {
             board: self,
@@ -206,40 +225,48 @@ impl Board {
     }
 
     // One node: a list of one pair.
-    pub fn move_to(self, node: i64, microvolts: i64) -> Answered
+    pub fn move_to(
+        self,
+        volts: &mut [i64],
+        totals: &mut [i64],
+        node: i64,
+        microvolts: i64,
+    ) -> Answered
         requires { ⌜ Reached self ⌝ }
-        ensures { λ r. ⌜ r ≡ givenAs (movedOf (modelOf self) (node ∷ microvolts ∷ [])) ⌝ }
+        ensures { λ r. ⌜ r ≡ handedAs (movedLent (stateIn self (now (volts .entry)) (now (totals .entry))) (node ∷ microvolts ∷ [])) ⌝ }
         ensures { λ r. ⌜ Reached (r .board) ⌝ }
+        ensures { λ _. ⌜ now (volts .exit) ≡ movedLent (stateIn self (now (volts .entry)) (now (totals .entry))) (node ∷ microvolts ∷ []) .state .volts ⌝ }
+        ensures { λ _. ⌜ now (totals .exit) ≡ movedLent (stateIn self (now (volts .entry)) (now (totals .entry))) (node ∷ microvolts ∷ []) .state .totals ⌝ }
     {
-        self.move_all(&[node, microvolts])
+        self.move_all(volts, totals, &[node, microvolts])
     }
 
-    // A transistor taken off, by its issue number: 12. What it holds is taken out of the totals.
-    pub fn lift(mut self, transistor: i64) -> Answered
+    // A transistor taken off, by its issue number: 13 for the slices, 12, 10. What it holds is taken out of the totals.
+    pub fn lift(mut self, volts: &[i64], totals: &mut [i64], transistor: i64) -> Answered
         requires { ⌜ Reached self ⌝ }
-        ensures { λ r. ⌜ r ≡ givenAs (liftedOf (modelOf self) transistor) ⌝ }
+        ensures { λ r. ⌜ r ≡ handedAs (liftedLent (stateIn self (now (volts .entry)) (now (totals .entry))) transistor) ⌝ }
         ensures { λ r. ⌜ Reached (r .board) ⌝ }
+        ensures { λ _. ⌜ now (totals .exit) ≡ liftedLent (stateIn self (now (volts .entry)) (now (totals .entry))) transistor .state .totals ⌝ }
     {
         let number = self.next;
-        let mut totals = self.totals;
         let mut issues = self.issues;
         let mut cards = self.cards;
         let mut seats = self.seats;
         let mut nodes = self.nodes;
         let mut sets = self.naming;
         let mut left = self.currents;
-        let answer = model::lift(
+        let answer = seating::lift(
             &mut issues,
             &mut cards,
             &mut seats,
             &mut nodes,
             &mut sets,
-            &mut totals,
             &mut left,
+            volts,
+            totals,
             transistor,
         );
         self.next = number;
-        self.totals = totals;
         self.issues = issues;
         self.cards = cards;
         self.seats = seats;
@@ -256,7 +283,7 @@ impl Board {
     // A card given back, by its issue number: 12, 16.
     pub fn withdraw(mut self, card: i64) -> Answered
         requires { ⌜ Reached self ⌝ }
-        ensures { λ r. ⌜ r ≡ givenAs (withdrawnOf (modelOf self) card) ⌝ }
+        ensures { λ r. ⌜ r ≡ givenAs (withdrawnOf (bare (modelOf self)) card) ⌝ }
         ensures { λ r. ⌜ Reached (r .board) ⌝ }
     {
         let issues = self.issues;
@@ -294,7 +321,7 @@ impl Board {
     // The highest issue number among the cards of a name: 2, 4.
     pub fn look_up(self, name: &[u8]) -> Answered
         requires { ⌜ Reached self ⌝ }
-        ensures { λ r. ⌜ r ≡ givenAs (lookedOf (modelOf self) (now (name .entry))) ⌝ }
+        ensures { λ r. ⌜ r ≡ givenAs (lookedOf (bare (modelOf self)) (now (name .entry))) ⌝ }
         ensures { λ r. ⌜ Reached (r .board) ⌝ }
     {
         let held = self.held;
@@ -307,15 +334,13 @@ impl Board {
         }
     }
 
-    // A node's voltage in microvolts, and its total in ticks: 13.
-    pub fn read_node(self, node: i64) -> Answered
+    // A node's voltage in microvolts and its total in ticks, as the slices have them: 13 for the slices, then for the node.
+    pub fn read_node(self, volts: &[i64], totals: &[i64], node: i64) -> Answered
         requires { ⌜ Reached self ⌝ }
-        ensures { λ r. ⌜ r ≡ givenAs (showedOf (modelOf self) node) ⌝ }
+        ensures { λ r. ⌜ r ≡ handedAs (showedLent (stateIn self (now (volts .entry)) (now (totals .entry))) node) ⌝ }
         ensures { λ r. ⌜ Reached (r .board) ⌝ }
     {
-        let volts = self.volts;
-        let totals = self.totals;
-        let answer = holding::read_node(&volts, &totals, node);
+        let answer = reading::read_node(volts, totals, node);
         Answered {
             board: self,
             answer,
@@ -326,7 +351,7 @@ impl Board {
     // The currents of a transistor's branches, by its issue number: 12.
     pub fn read_currents(self, transistor: i64) -> Answered
         requires { ⌜ Reached self ⌝ }
-        ensures { λ r. ⌜ r ≡ givenAs (openedOf (modelOf self) transistor) ⌝ }
+        ensures { λ r. ⌜ r ≡ givenAs (openedOf (bare (modelOf self)) transistor) ⌝ }
         ensures { λ r. ⌜ Reached (r .board) ⌝ }
     {
         let standing = self.issues;
@@ -344,9 +369,9 @@ impl Board {
     // Who names a node: the issue numbers of its transistors in rising order, at the start of the list, and how many they are: 13, then 5 where the list has not room for all.
     pub fn list_node(self, node: i64, list: &mut [u32]) -> Answered
         requires { ⌜ Reached self ⌝ }
-        ensures { λ r. ⌜ r ≡ givenAs (listedOf (modelOf self) node (length (now (list .entry)))) ⌝ }
+        ensures { λ r. ⌜ r ≡ givenAs (listedOf (bare (modelOf self)) node (length (now (list .entry)))) ⌝ }
         ensures { λ r. ⌜ Reached (r .board) ⌝ }
-        ensures { λ _. ⌜ now (list .exit) ≡ over (listedOf (modelOf self) node (length (now (list .entry))) .list) (now (list .entry)) ⌝ }
+        ensures { λ _. ⌜ now (list .exit) ≡ over (listedOf (bare (modelOf self)) node (length (now (list .entry))) .list) (now (list .entry)) ⌝ }
     {
         let given = self.issues;
         let naming = self.naming;
@@ -361,7 +386,7 @@ impl Board {
     // A node summed up: how many transistors name it, on how many cards, and the largest size of a branch that starts or ends there: 13.
     pub fn sum_up(self, node: i64) -> Answered
         requires { ⌜ Reached self ⌝ }
-        ensures { λ r. ⌜ r ≡ givenAs (summedOf (modelOf self) node) ⌝ }
+        ensures { λ r. ⌜ r ≡ givenAs (summedOf (bare (modelOf self)) node) ⌝ }
         ensures { λ r. ⌜ Reached (r .board) ⌝ }
     {
         let kinds = self.cards;

@@ -55,10 +55,11 @@ use Rattle.totals.proofs.Lists.{getD-map}
 use Rattle.flows.proofs.Currents.{ticks-count}
 use Rattle.model.proofs.NodeSums.{totals-at}
 use Rattle.model.proofs.Verdicts.{loads, places, moves, lifts, withdraws, shown, opens, on-node}
-use Rattle.model.proofs.Invariant.{Invariant, invariant-after, at-card, AtCard, at-transistor, AtTransistor}
-use Rattle.model.proofs.Invariant.{Away, unused-away, worked-same, free-below, free-away, aside, still, cards-holding}
-use Rattle.model.proofs.Invariant.{transistors-holding, cards-standing, transistors-standing, cards-then}
-use Rattle.model.proofs.Invariant.{transistors-count, transistor-then, held-is, fresh-cards, fresh-transistors, looked-long}
+use Rattle.model.proofs.Found.{at-card, AtCard, at-transistor, AtTransistor}
+use Rattle.model.proofs.Boards.{cards-holding, transistors-holding, cards-standing, transistors-standing, cards-then}
+use Rattle.model.proofs.Boards.{transistors-count, transistor-then, fresh-cards, fresh-transistors}
+use Rattle.model.proofs.Footing.{Away, unused-away, free-below, free-away, looked-long}
+use Rattle.model.proofs.Invariant.{Invariant, invariant-after, worked-same, aside, still, held-is}
 use Rattle.model.proofs.Gains.{touched-stands}
 use Rattle.model.proofs.Lists.{padded-long}
 use Rattle.rows.specs.declared.Over.{Over}
@@ -142,12 +143,12 @@ module _ (b : Board) (d : Desk) (g : Invariant b) (o : Orderly d) (s : Stands b 
   cards-full : leb cardsMost (freeCard (cardsOf b)) ≡ leb cardsMost (length (d .cards))
   cards-full =
       let e = full (λ (c : Card). c .issue) heldOf (cardsOf b) in
-      rw (← (perm-length (s .cards))) (rw (g .holds .cards-long) at e)
+      rw (← (perm-length (s .cards))) (rw (g .footing .footed .cards-long) at e)
 
   transistors-full : leb transistorsMost (freeTransistor (transistorsOf b)) ≡ leb transistorsMost (length (d .standing))
   transistors-full =
       let e = full (λ (t : Transistor). t .issue) (standingOf (cardsOf b)) (transistorsOf b) in
-      rw (← (perm-length (s .standing))) (rw (g .holds .transistors-long) at e)
+      rw (← (perm-length (s .standing))) (rw (g .footing .footed .transistors-long) at e)
 
   card-by : (n : ℕ) →
       heldAs n (d .cards) ≡ mapFound (heldAt b) (cardPlace n (cardsOf b))
@@ -165,7 +166,7 @@ module _ (b : Board) (d : Desk) (g : Invariant b) (o : Orderly d) (s : Stands b 
           rw (eqb-true n 0 e)
           (find-none (λ (c : Card). c .issue) heldOf (λ (h : Held). h .issue) (λ c. refl) (cardsOf b))
       go false e =
-          rw (← (g .holds .cards-long))
+          rw (← (g .footing .footed .cards-long))
           (find (λ (c : Card). c .issue) heldOf (λ (h : Held). h .issue) (λ c. refl) n (eqb-false n 0 e) noCard
           (cardsOf b))
 
@@ -185,7 +186,7 @@ module _ (b : Board) (d : Desk) (g : Invariant b) (o : Orderly d) (s : Stands b 
           (find-none (λ (t : Transistor). t .issue) (standingOf (cardsOf b)) (λ (u : Standing). u .issue) (λ t. refl)
           (transistorsOf b))
       go false e =
-          rw (← (g .holds .transistors-long))
+          rw (← (g .footing .footed .transistors-long))
           (find (λ (t : Transistor). t .issue) (standingOf (cardsOf b)) (λ (u : Standing). u .issue) (λ t. refl) n
           (eqb-false n 0 e) noTransistor (transistorsOf b))
 
@@ -194,7 +195,7 @@ module _ (b : Board) (d : Desk) (g : Invariant b) (o : Orderly d) (s : Stands b 
   at-place i h n =
       perm-in (standingAt b i) (s .standing)
       (in-occupied (λ (t : Transistor). t .issue) (standingOf (cardsOf b)) noTransistor (transistorsOf b) i
-      (rw (g .holds .transistors-long) h) n)
+      (rw (g .footing .footed .transistors-long) h) n)
 
   place-of : (t : Standing) → Among t (d .standing) →
       Place (λ (t : Transistor). t .issue) (standingOf (cardsOf b)) noTransistor t (transistorsOf b)
@@ -257,7 +258,7 @@ module _ (b : Board) (d : Desk) (g : Invariant b) (o : Orderly d) (s : Stands b 
               here
 
           no-higher : named (p .at) ≡ true → transistorAt b i .issue ≤ transistorAt b (p .at) .issue
-          no-higher e = least (p .at) (rw (g .holds .transistors-long) at (p .below)) e over-here
+          no-higher e = least (p .at) (rw (g .footing .footed .transistors-long) at (p .below)) e over-here
 
           same : transistorAt b (p .at) .issue ≡ transistorAt b i .issue → t ≡ standingAt b i
           same e =
@@ -362,21 +363,23 @@ module _ (b : Board) (d : Desk) (g : Invariant b) (o : Orderly d) (s : Stands b 
       go (no f) e = record { reply = refl; board = s }
       go (yes c) e =
           let p = freeCard (cardsOf b) in
-          let below = free-below (g .holds) (loads name e .room) in
+          let below = free-below (g .footing .footed) (loads name e .room) in
           let card : Card = record { issue = b .next; name = padded name; ready = readyOf c } in
           record {
             reply = ap desk.issued (s .next);
             board =
                 rw (
-                  cards-holding b (g .sized) p card (b .next + 1) below (padded-long name),
-                  transistors-holding b (g .sized) p card (b .next + 1),
+                  cards-holding b (g .footing .sized) p card (b .next + 1) below (padded-long name),
+                  transistors-holding b (g .footing .sized) p card (b .next + 1),
                 )
                 (record {
                   cards =
                       perm-join
-                      (join (λ (x : Card). x .issue) heldOf (cardsOf b) card given (rw (g .holds .cards-long) below))
+                      (join (λ (x : Card). x .issue) heldOf (cardsOf b) card given
+                      (rw (g .footing .footed .cards-long) below))
                       (new c) (s .cards);
-                  standing = rw (same-standing p card (free-away (g .holds) (loads name e .room))) (s .standing);
+                  standing =
+                      rw (same-standing p card (free-away (g .footing .footed) (loads name e .room))) (s .standing);
                   volts = s .volts;
                   next = add-one (b .next) ∙ ap suc (s .next);
                 });
@@ -448,8 +451,8 @@ module _ (b : Board) (d : Desk) (g : Invariant b) (o : Orderly d) (s : Stands b 
             reply = ap desk.issued (s .next);
             board =
                 rw (
-                  cards-standing b (g .sized) free t _ _ (b .next + 1),
-                  transistors-standing b (g .sized) free t _ _ (b .next + 1) below
+                  cards-standing b (g .footing .sized) free t _ _ (b .next + 1),
+                  transistors-standing b (g .footing .sized) free t _ _ (b .next + 1) below
                       (length-map on natAbs ∙ looked-long _ nodes sized) (ticks-count _ _ _),
                 )
                 (record {
@@ -457,7 +460,7 @@ module _ (b : Board) (d : Desk) (g : Invariant b) (o : Orderly d) (s : Stands b 
                   standing =
                       perm-join
                       (join (λ (u : Transistor). u .issue) (standingOf (cardsOf b)) (transistorsOf b) t given
-                      (rw (g .holds .transistors-long) below))
+                      (rw (g .footing .footed .transistors-long) below))
                       (new i own) (s .standing);
                   volts = s .volts;
                   next = add-one (b .next) ∙ ap suc (s .next);
@@ -482,8 +485,10 @@ module _ (b : Board) (d : Desk) (g : Invariant b) (o : Orderly d) (s : Stands b 
       ≡ standingIn (cardsOf b) (transistorsOf b)
   standing-then shifts =
       alike (λ (t : Transistor). t .issue) (standingOf (cardsOf b)) noTransistor _ (transistorsOf b)
-      (transistors-count g shifts ∙ sym (g .holds .transistors-long))
-      (λ i h. let e = transistor-then g shifts i (subst (λ (k : ℕ). i < k) (transistors-count g shifts) h) in
+      (transistors-count (g .footing .sized) shifts ∙ sym (g .footing .footed .transistors-long))
+      (λ i h. let e =
+      transistor-then (g .footing .sized) shifts i
+      (subst (λ (k : ℕ). i < k) (transistors-count (g .footing .sized) shifts) h) in
       (ap (λ (t : Transistor). t .issue) e, ap (standingOf (cardsOf b)) e))
 
   follow-move : (pairs : List ℤ) → Follow (movedOf b pairs) (step d (move pairs))
@@ -498,7 +503,7 @@ module _ (b : Board) (d : Desk) (g : Invariant b) (o : Orderly d) (s : Stands b 
           record {
             reply = refl;
             board =
-                rw (cards-then g shifts)
+                rw (cards-then (g .footing .sized) shifts)
                 (record {
                   cards = s .cards;
                   standing = rw (standing-then shifts) (s .standing);
@@ -550,15 +555,16 @@ module _ (b : Board) (d : Desk) (g : Invariant b) (o : Orderly d) (s : Stands b 
       go (no f) e = record { reply = refl; board = s }
       go (yes i) e =
           let a =
-          at-transistor (issueOf n) (transistorsOf b) i (g .holds .transistors-long)
+          at-transistor (issueOf n) (transistorsOf b) i (g .footing .footed .transistors-long)
           (lifts (transistorPlace (issueOf n) (transistorsOf b)) e) in
-          let below = subst (λ (k : ℕ). i < k) (g .holds .transistors-long) (a .below) in
+          let below = subst (λ (k : ℕ). i < k) (g .footing .footed .transistors-long) (a .below) in
           record {
             reply = refl;
             board =
                 rw (
-                  cards-standing b (g .sized) i emptyTransistor _ _ (b .next),
-                  transistors-standing b (g .sized) i emptyTransistor _ _ (b .next) below (length-replicate roles zero)
+                  cards-standing b (g .footing .sized) i emptyTransistor _ _ (b .next),
+                  transistors-standing b (g .footing .sized) i emptyTransistor _ _ (b .next) below
+                      (length-replicate roles zero)
                       (length-replicate branches (pos 0)),
                 )
                 (record {
@@ -576,7 +582,7 @@ module _ (b : Board) (d : Desk) (g : Invariant b) (o : Orderly d) (s : Stands b 
   unfolding withdrawVerdict
   agree-withdraw n none e = rw (← (order-withdraw d n), card-by b d g o s (issueOf n), e)
   agree-withdraw n (some i) e =
-      let a = at-card (issueOf n) (cardsOf b) i (g .holds .cards-long) e in
+      let a = at-card (issueOf n) (cardsOf b) i (g .footing .footed .cards-long) e in
       let used : anyOf (standsOn (issueOf n)) (transistorsOf b) ≡ anyOf (λ (t : Standing). eqb (t .card)
       (heldAt b i .issue)) (d .standing) =
       sym (any-on b d g o s (issueOf n))
@@ -596,21 +602,22 @@ module _ (b : Board) (d : Desk) (g : Invariant b) (o : Orderly d) (s : Stands b 
       go (no f) e = record { reply = refl; board = s }
       go (yes i) e =
           let w = withdraws (cardPlace (issueOf n) (cardsOf b)) e in
-          let a = at-card (issueOf n) (cardsOf b) i (g .holds .cards-long) (w .there) in
-          let below = subst (λ (k : ℕ). i < k) (g .holds .cards-long) (a .below) in
+          let a = at-card (issueOf n) (cardsOf b) i (g .footing .footed .cards-long) (w .there) in
+          let below = subst (λ (k : ℕ). i < k) (g .footing .footed .cards-long) (a .below) in
           record {
             reply = refl;
             board =
                 rw (
-                  cards-holding b (g .sized) i emptyCard (b .next) below (length-replicate nameLength zero),
-                  transistors-holding b (g .sized) i emptyCard (b .next),
+                  cards-holding b (g .footing .sized) i emptyCard (b .next) below (length-replicate nameLength zero),
+                  transistors-holding b (g .footing .sized) i emptyCard (b .next),
                 )
                 (record {
                   cards =
                       rw (← (without-card (issueOf n) i a))
                       (perm-without (λ (t : Held). t .issue) (heldAt b i .issue) (s .cards));
                   standing =
-                      rw (same-standing i emptyCard (unused-away (g .holds) (issueOf n) i a (w .unused))) (s .standing);
+                      rw (same-standing i emptyCard (unused-away (g .footing .footed) (issueOf n) i a (w .unused)))
+                      (s .standing);
                   volts = s .volts;
                   next = s .next;
                 });
@@ -639,7 +646,7 @@ module _ (b : Board) (d : Desk) (g : Invariant b) (o : Orderly d) (s : Stands b 
       go (yes k) e =
           let h = shown n e in
           let v : givenBack (getD (b .volts) k 0) ≡ getD (d .volts) k (pos 0) =
-          sym (getD-map givenBack (b .volts) k 0 (pos 0) (rw (g .sized .volts) h)) ∙ ap
+          sym (getD-map givenBack (b .volts) k 0 (pos 0) (rw (g .kept .long) h)) ∙ ap
           (λ (l : List ℤ). getD l k (pos 0)) (s .volts) in
           let t = totals-follow b d g o s k h in record { reply = rw (v, t); board = s }
 
@@ -656,7 +663,7 @@ module _ (b : Board) (d : Desk) (g : Invariant b) (o : Orderly d) (s : Stands b 
       go (no f) e = record { reply = refl; board = s }
       go (yes i) e =
           let a =
-          at-transistor (issueOf n) (transistorsOf b) i (g .holds .transistors-long)
+          at-transistor (issueOf n) (transistorsOf b) i (g .footing .footed .transistors-long)
           (opens (transistorPlace (issueOf n) (transistorsOf b)) e) in
           let held = held-is g i (λ z. a .given (sym (a .issue-is) ∙ z)) in
           record { reply = rw (held, s .volts); board = s }

@@ -24,7 +24,8 @@ use Rattle.model.specs.Desk.{Standing, Call, after, standingOn}
 use Rattle.model.specs.Model.{cardsOf, transistorsOf, transistorAt, touched, mayMove, moved, movedOf, issuesOn}
 use Rattle.model.specs.Model.{boardAfter}
 use Rattle.model.proofs.Verdicts.{moves}
-use Rattle.model.proofs.Invariant.{Invariant, invariant-after, transistor-then}
+use Rattle.model.proofs.Boards.{transistor-then}
+use Rattle.model.proofs.Invariant.{Invariant, invariant-after}
 use Rattle.moving.proofs.Pairs.{any-same}
 use Rattle.days.specs.Perm.{Perm, then}
 use Rattle.days.specs.Rising.{Rising}
@@ -45,7 +46,7 @@ pub sets-are-scans : (calls : List Call) (n : ℕ) → n < nodesMost →
 unfolding transistorsOf
 sets-are-scans calls n h =
     let b = boardAfter calls in
-    invariant-after calls .named .at n h
+    invariant-after calls .footing .named .at n h
     ∙ naming-flat (b .issues) (b .cards) (b .seats) (b .nodes) (b .currents) n
 
 -- ---- a move leaves the others
@@ -72,10 +73,10 @@ others-untouched calls pairs i h out = go (mayMove b pairs) refl
         ∙ sym
         (any-same (λ (s : Shift). member (getD (b .naming) (s .node) 0) i)
         (λ (s : Shift). standsAt (s .node) (transistorAt b i)) pairs (m .on)
-        (λ s q. ap (λ (x : ℕ). member x i) (g .named .at (s .node) q)
+        (λ s q. ap (λ (x : ℕ). member x i) (g .footing .named .at (s .node) q)
         ∙ member-set (λ (j : ℕ). standsAt (s .node) (transistorAt b j)) transistorsMost i h))
         ∙ out in
-        transistor-then g shifts i h ∙ rw still
+        transistor-then (g .footing .sized) shifts i h ∙ rw still
 
 -- ---- what is listed
 

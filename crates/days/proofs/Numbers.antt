@@ -121,7 +121,7 @@ pub issues-never-twice : (calls : List Call) → Falls (boardAfter calls .next) 
 unfolding givenBy boardAfter
 issues-never-twice [] = end
 issues-never-twice (c ∷ cs) =
-    falls-call (boardAfter cs) (givenBy cs) (invariant-after cs .holds .begun) (issues-never-twice cs) c
+    falls-call (boardAfter cs) (givenBy cs) (invariant-after cs .footing .footed .begun) (issues-never-twice cs) c
 
 -- ---- lifting the one just placed
 

@@ -90,7 +90,7 @@ module _ (b : Board) (d : Desk) (g : Invariant b) (s : Stands b d) (n : ℕ) (on
       (subst
       (λ (k : ℕ). Perm (listOf stands (λ (i : ℕ). h (standingOf (cardsOf b) (transistorAt b i))) k)
       (map (λ (t : Transistor). h (standingOf (cardsOf b) t)) (only (standsAt n) (transistorsOf b))))
-      (g .holds .transistors-long)
+      (g .footing .footed .transistors-long)
       (list-perm (standsAt n) (λ (t : Transistor). h (standingOf (cardsOf b) t)) noTransistor (transistorsOf b)))
       (subst
       (λ (l : List A). Perm l (map h (standingOn d n)))
@@ -104,7 +104,7 @@ module _ (b : Board) (d : Desk) (g : Invariant b) (s : Stands b d) (n : ℕ) (on
       scanned : toldOn b f n ≡ listOf stands (λ (i : ℕ). h (standingOf (cardsOf b) (transistorAt b i))) transistorsMost
       scanned =
           list-same (member (getD (b .naming) n 0)) stands (λ (i : ℕ). f (transistorAt b i)) _ transistorsMost
-          (λ i q. ap (λ (x : ℕ). member x i) (g .named .at n on) ∙ member-set stands transistorsMost i q)
+          (λ i q. ap (λ (x : ℕ). member x i) (g .footing .named .at n on) ∙ member-set stands transistorsMost i q)
           (λ i q t. e i t)
 
   pub issues-told : Perm (toldOn b (λ (t : Transistor). t .issue) n) (map (λ (t : Standing). t .issue) (standingOn d n))

@@ -61,7 +61,7 @@ pub none-overloads : {b : Board} → Reached b → (i : ℕ) → (transistorAt b
     outcomeOf (workedAt (cardsOf b) (transistorAt b i .seat))
     (rolesAt (voltsOf b) (transistorAt b i .nodes)) .over ≡ Within
 unfolding overloads
-none-overloads r i h = not-over _ (invariant r .holds .transistor i h .quiet)
+none-overloads r i h = not-over _ (invariant r .holds .quiet i h)
 
 -- ---- all of them add to zero
 
@@ -150,7 +150,7 @@ pub totals-add-to-zero : {b : Board} → Reached b → sumAll (b .totals) ≡ po
 unfolding totalsOf
 totals-add-to-zero {b} r =
     rw (invariant r .holds .balanced)
-    (sum-places (cardsOf b) (voltsOf b) (transistorsOf b) (λ i h. invariant r .holds .transistor i h .wired))
+    (sum-places (cardsOf b) (voltsOf b) (transistorsOf b) (λ i h. invariant r .footing .footed .transistor i h .wired))
 
 -- ---- the same transistors on the same cards and nodes, at the same voltages
 
@@ -202,5 +202,6 @@ pub totals-are-small : {b : Board} → Reached b → (n : ℕ) → n < nodesMost
     (natAbs (getD (b .totals) n (pos 0)) ≤ transistorsMost * (branches * tickLimit))
     × (natAbs (getD (b .totals) n (pos 0)) < 2 ^ 63)
 totals-are-small {b} r n h =
-    let s = totals-room (cardsOf b) (transistorsOf b) (voltsOf b) (invariant r .holds .transistors-long) .within n in
+    let s =
+    totals-room (cardsOf b) (transistorsOf b) (voltsOf b) (invariant r .footing .footed .transistors-long) .within n in
     rw (invariant r .holds .balanced) (omega arith, omega arith)

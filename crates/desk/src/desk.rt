@@ -1,4 +1,4 @@
-// A line obeyed. Each function that changes the board takes it and gives the next one.
+// A line obeyed. Each function that changes the board takes it and gives the next one; voltages and totals stand in two slices that are lent to it.
 ghost use Rattle.board.specs.Promise.{Reached};
 use crate::answer::put_answer;
 use crate::answer::put_clipping;
@@ -26,8 +26,10 @@ use script::MOST_NUMBERS;
 use script::MOST_WORDS;
 use script::Series;
 use script::Verb;
+use script::Words;
 use terms::BRANCHES;
 use terms::ROLES;
+use totals::NODES;
 
 // A node that is on no board.
 const OFF: i64 = -1;
@@ -199,6 +201,8 @@ fn roles(v: [i64; MOST_NUMBERS], words: usize) -> [i64; ROLES] {
 
 fn place(
     board: Board,
+    volts: &[i64],
+    totals: &mut [i64],
     v: [i64; MOST_NUMBERS],
     words: usize,
     out: &mut [u8; ROOM],
@@ -207,17 +211,25 @@ fn place(
     requires { ⌜ Reached board ⌝ }
     ensures { λ r. ⌜ Reached r ⌝ }
 {
-    let asked = board.place(v[0], roles(v, words));
+    let asked = board.place(volts, totals, v[0], roles(v, words));
     let answer = asked.answer;
     put_transistor(answer, out, at);
     asked.board
 }
 
-fn move_to(board: Board, node: i64, microvolts: i64, out: &mut [u8; ROOM], at: &mut usize) -> Board
+fn move_to(
+    board: Board,
+    volts: &mut [i64],
+    totals: &mut [i64],
+    node: i64,
+    microvolts: i64,
+    out: &mut [u8; ROOM],
+    at: &mut usize,
+) -> Board
     requires { ⌜ Reached board ⌝ }
     ensures { λ r. ⌜ Reached r ⌝ }
 {
-    let asked = board.move_all(&[node, microvolts]);
+    let asked = board.move_all(volts, totals, &[node, microvolts]);
     let answer = asked.answer;
     put_done(answer, Answer::Moved, out, at);
     asked.board
@@ -231,22 +243,36 @@ fn first(numbers: &[i64], n: usize) -> &[i64] {
     numbers
 }
 
-fn move_all(board: Board, list: Series, out: &mut [u8; ROOM], at: &mut usize) -> Board
+fn move_all(
+    board: Board,
+    volts: &mut [i64],
+    totals: &mut [i64],
+    list: Series,
+    out: &mut [u8; ROOM],
+    at: &mut usize,
+) -> Board
     requires { ⌜ Reached board ⌝ }
     ensures { λ r. ⌜ Reached r ⌝ }
 {
     let numbers = list.numbers;
-    let asked = board.move_all(first(&numbers, list.count));
+    let asked = board.move_all(volts, totals, first(&numbers, list.count));
     let answer = asked.answer;
     put_done(answer, Answer::Moved, out, at);
     asked.board
 }
 
-fn lift(board: Board, transistor: i64, out: &mut [u8; ROOM], at: &mut usize) -> Board
+fn lift(
+    board: Board,
+    volts: &[i64],
+    totals: &mut [i64],
+    transistor: i64,
+    out: &mut [u8; ROOM],
+    at: &mut usize,
+) -> Board
     requires { ⌜ Reached board ⌝ }
     ensures { λ r. ⌜ Reached r ⌝ }
 {
-    let asked = board.lift(transistor);
+    let asked = board.lift(volts, totals, transistor);
     let answer = asked.answer;
     put_done(answer, Answer::Lifted, out, at);
     asked.board
@@ -262,10 +288,17 @@ fn withdraw(board: Board, card: i64, out: &mut [u8; ROOM], at: &mut usize) -> Bo
     asked.board
 }
 
-fn read_node(board: Board, node: i64, out: &mut [u8; ROOM], at: &mut usize)
+fn read_node(
+    board: Board,
+    volts: &[i64],
+    totals: &[i64],
+    node: i64,
+    out: &mut [u8; ROOM],
+    at: &mut usize,
+)
     requires { ⌜ Reached board ⌝ }
 {
-    let asked = board.read_node(node);
+    let asked = board.read_node(volts, totals, node);
     let answer = asked.answer;
     put_reading(node, answer, out, at);
 }
@@ -332,23 +365,77 @@ fn put_row(node: u32, answer: board::Answer, out: &mut [u8; ROOM], at: &mut usiz
     }
 }
 
-fn put_sheet(board: Board, out: &mut [u8; ROOM], at: &mut usize)
+fn put_rows(board: Board, volts: &[i64], totals: &[i64], out: &mut [u8; ROOM], at: &mut usize)
     requires { ⌜ Reached board ⌝ }
 {
     put_answer(Answer::Sheet, out, at);
     for n in 0u32..32 {
-        let asked = board.read_node(n as i64);
+        let asked = board.read_node(volts, totals, n as i64);
         let answer = asked.answer;
         put_row(n, answer, out, at);
     }
 }
 
-// Whether the board is asked.
-pub fn asks_board(v: Verb) -> bool {
+// The sheet of the evening; no sheet is made where a voltage is outside its range.
+fn put_sheet(board: Board, volts: &[i64], totals: &[i64], out: &mut [u8; ROOM], at: &mut usize)
+    requires { ⌜ Reached board ⌝ }
+{
+    let asked = board.read_node(volts, totals, 0);
+    let answer = asked.answer;
+    match answer {
+        board::Answer::Refused(f) => put_refused(f, out, at),
+        _ => put_rows(board, volts, totals, out, at),
+    }
+}
+
+// Whether the two numbers of a poke, its last words, are of 64 bits.
+fn both_fit(line: &[u8], words: Words) -> bool {
+    if spelling::fits(script::word(line, words, 2)) {
+        spelling::fits(script::word(line, words, 3))
+    } else {
+        false
+    }
+}
+
+// Two numbers written into the slices, as a host could, where that is allowed and the node is one of the board's.
+pub fn poke(
+    allowed: bool,
+    c: Command,
+    line: &[u8],
+    volts: &mut [i64; NODES],
+    totals: &mut [i64; NODES],
+    out: &mut [u8; ROOM],
+    at: &mut usize,
+) {
+    let words = c.words;
+    let v = c.numbers;
+    let n = node_number(v[0]) as usize;
+    if n < NODES {
+        if allowed {
+            if both_fit(line, words) {
+                volts[n] = v[1];
+                totals[n] = v[2];
+                put_answer(Answer::Poked, out, at);
+                return;
+            }
+        }
+    }
+    put_error(script::word(line, words, 0), out, at);
+}
+
+// Whom a line asks: the board, nobody but its two slices, or neither.
+pub enum Asks {
+    Board,
+    Slices,
+    Neither,
+}
+
+pub fn asked_by(v: Verb) -> Asks {
     match v {
-        Verb::Nothing | Verb::TooLong | Verb::Error => false,
-        Verb::Library | Verb::Find | Verb::Clip | Verb::Mend => false,
-        _ => true,
+        Verb::Nothing | Verb::TooLong | Verb::Error => Asks::Neither,
+        Verb::Library | Verb::Find | Verb::Clip | Verb::Mend => Asks::Neither,
+        Verb::Poke => Asks::Slices,
+        _ => Asks::Board,
     }
 }
 
@@ -387,21 +474,31 @@ pub fn obey_apart(
 }
 
 // What a command asks of the board and does not change.
-fn show(board: Board, verb: Verb, number: i64, out: &mut [u8; ROOM], at: &mut usize)
+fn show(
+    board: Board,
+    volts: &[i64],
+    totals: &[i64],
+    verb: Verb,
+    number: i64,
+    out: &mut [u8; ROOM],
+    at: &mut usize,
+)
     requires { ⌜ Reached board ⌝ }
 {
     match verb {
-        Verb::Node => read_node(board, number, out, at),
+        Verb::Node => read_node(board, volts, totals, number, out, at),
         Verb::Currents => read_currents(board, number, out, at),
         Verb::Who => list_node(board, number, out, at),
         Verb::Sum => sum_up(board, number, out, at),
-        _ => put_sheet(board, out, at),
+        _ => put_sheet(board, volts, totals, out, at),
     }
 }
 
 // A command that says numbers, or nothing more.
 fn obey_numbers(
     board: Board,
+    volts: &mut [i64],
+    totals: &mut [i64],
     verb: Verb,
     v: [i64; MOST_NUMBERS],
     words: usize,
@@ -412,12 +509,12 @@ fn obey_numbers(
     ensures { λ r. ⌜ Reached r ⌝ }
 {
     match verb {
-        Verb::Place => place(board, v, words, out, at),
-        Verb::Move => move_to(board, v[0], v[1], out, at),
-        Verb::Lift => lift(board, v[0], out, at),
+        Verb::Place => place(board, volts, totals, v, words, out, at),
+        Verb::Move => move_to(board, volts, totals, v[0], v[1], out, at),
+        Verb::Lift => lift(board, volts, totals, v[0], out, at),
         Verb::Withdraw => withdraw(board, v[0], out, at),
         _ => {
-            show(board, verb, v[0], out, at);
+            show(board, volts, totals, verb, v[0], out, at);
             board
         }
     }
@@ -426,6 +523,8 @@ fn obey_numbers(
 // A command that asks the board; the bytes that its hex digits spell begin `spelled`.
 pub fn obey(
     board: Board,
+    volts: &mut [i64],
+    totals: &mut [i64],
     c: Command,
     line: &[u8],
     spelled: &[u8; MOST_BYTES],
@@ -448,7 +547,7 @@ pub fn obey(
             look_up(board, name, out, at);
             board
         }
-        Verb::Moves => move_all(board, list, out, at),
-        _ => obey_numbers(board, verb, v, words.count, out, at),
+        Verb::Moves => move_all(board, volts, totals, list, out, at),
+        _ => obey_numbers(board, volts, totals, verb, v, words.count, out, at),
     }
 }

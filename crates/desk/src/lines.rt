@@ -1,9 +1,11 @@
 // A script obeyed, line by line.
 ghost use Rattle.board.specs.Promise.{Reached};
 use crate::answer::put_unreadable;
-use crate::desk::asks_board;
+use crate::desk::Asks;
+use crate::desk::asked_by;
 use crate::desk::obey;
 use crate::desk::obey_apart;
+use crate::desk::poke;
 use crate::out::ROOM;
 use crate::out::flush;
 use crate::out::part;
@@ -11,6 +13,7 @@ use crate::shelf;
 use crate::shelf::MOST;
 use board::Board;
 use script::MOST_BYTES;
+use totals::NODES;
 
 // One byte more than the longest line: one that is longer is cut there, and is too long all the same.
 const LINE: usize = script::LONGEST_LINE + 1;
@@ -44,9 +47,12 @@ fn taken(got: isize, bytes: &[u8; READ]) -> &[u8] {
     part(bytes, 0, io::count(got, bytes))
 }
 
-// Obeys the k bytes of a line that has ended. `spelled` is room for the bytes that hex digits spell.
+// Obeys the k bytes of a line that has ended, by whether it may poke. `spelled` is room for the bytes that hex digits spell.
 fn obey_line(
     board: Board,
+    volts: &mut [i64; NODES],
+    totals: &mut [i64; NODES],
+    pokes: bool,
     line: &[u8; LINE],
     k: usize,
     spelled: &mut [u8; MOST_BYTES],
@@ -60,16 +66,35 @@ fn obey_line(
     let text = part(line, 0, k);
     let c = script::read(text, spelled);
     let verb = c.verb;
-    if asks_board(verb) {
-        return obey(board, c, text, spelled, shelf::held(held), out, at);
+    match asked_by(verb) {
+        Asks::Board => obey(
+            board,
+            volts,
+            totals,
+            c,
+            text,
+            spelled,
+            shelf::held(held),
+            out,
+            at,
+        ),
+        Asks::Slices => {
+            poke(pokes, c, text, volts, totals, out, at);
+            board
+        }
+        Asks::Neither => {
+            obey_apart(c, text, held, out, at);
+            board
+        }
     }
-    obey_apart(c, text, held, out, at);
-    board
 }
 
 // Takes what a read got of a script; n bytes of a line that has not ended are in `line`.
 fn feed(
     board: Board,
+    volts: &mut [i64; NODES],
+    totals: &mut [i64; NODES],
+    pokes: bool,
     got: isize,
     bytes: &[u8; READ],
     line: &mut [u8; LINE],
@@ -94,7 +119,18 @@ fn feed(
         }
         let k = *n;
         *n = 0;
-        let next = obey_line(current, line, k, &mut spelled, held, out, at);
+        let next = obey_line(
+            current,
+            volts,
+            totals,
+            pokes,
+            line,
+            k,
+            &mut spelled,
+            held,
+            out,
+            at,
+        );
         current = next;
     }
     current
@@ -109,20 +145,26 @@ fn write_out(got: isize, path: &[u8], out: &mut [u8; ROOM], at: &mut usize) {
 }
 
 // Obeys all that can be read. Nothing says that the input ends: the turns are counted down from a number that no run uses up.
-pub fn run(fd: i32, path: &[u8]) {
+pub fn run(fd: i32, path: &[u8], pokes: bool) {
     let mut bytes = [0u8; READ];
     let mut line = [0u8; LINE];
     let mut n: usize = 0;
     let mut held = [0u8; MOST];
     let mut out = [0u8; ROOM];
     let mut at: usize = 0;
-    let mut board = Board::fresh();
+    let mut volts = [0i64; NODES];
+    let mut totals = [0i64; NODES];
+    let begun = Board::fresh(&mut volts, &mut totals);
+    let mut board = begun.board;
     shelf::clear(&mut held);
     let mut turns = u64::MAX;
     while turns > 0 {
         let got = read(fd, &mut bytes);
         let next = feed(
             board,
+            &mut volts,
+            &mut totals,
+            pokes,
             got,
             &bytes,
             &mut line,

@@ -18,11 +18,9 @@ use Rattle.totals.specs.Gives.{nodesMost}
 use Rattle.totals.specs.Flow.{rolesAt, overAt, ticksAt, ticksGive, flow}
 use Rattle.totals.specs.inner.Sums.{More, Within, rolesGive}
 use Rattle.totals.specs.inner.Sizes.{flowMost}
-use Rattle.whole.specs.laws.Machine.{abs-neg}
 use Rattle.totals.proofs.Lists.{getD-map}
-use Rattle.totals.proofs.Roles.{roles-are-rows, roles-turned}
+use Rattle.totals.proofs.Roles.{roles-are-rows}
 use Rattle.totals.proofs.Amounts.{small-rows}
-use Rattle.flows.specs.Back.{ticksBack}
 use Rattle.flows.specs.inner.Workable.{rolesOf, Volts, Works}
 
 -- ---- the voltages of the roles
@@ -75,24 +73,9 @@ module _ (nodes : List ℕ) (ticks : List ℤ) where
             ∙ ap (λ (z : ℤ). getD l n (pos 0) +ℤ z) (roles-are-rows (rowsFor false) nodes ticks n long);
       }
 
-  pub takes-ticks : length ticks ≡ branches → {l l′ : List ℤ} →
-      More nodesMost l l′ (rolesGive nodes toRoles fromRoles ticks) → More nodesMost l l′ (ticksBack nodes ticks)
-  unfolding ticksGive ticksBack
-  takes-ticks long {l} m =
-      record {
-        long = m .long;
-        at =
-            λ n h. m .at n h
-            ∙ ap (λ (z : ℤ). getD l n (pos 0) +ℤ z) (roles-turned (rowsFor false) nodes ticks n long);
-      }
-
   pub ticks-small-give : Within tickLimit ticks → (n : ℕ) → natAbs (ticksGive nodes ticks n) ≤ flowMost
   unfolding ticksGive
   ticks-small-give w n = small-rows (rowsFor false) nodes ticks n tickLimit (w .within)
-
-  pub takes-small : Within tickLimit ticks → (n : ℕ) → natAbs (ticksBack nodes ticks n) ≤ flowMost
-  unfolding ticksBack
-  takes-small w n = rw (abs-neg (ticksGive nodes ticks n)) (ticks-small-give w n)
 
 pub small-flow : (c : WorkedCard) (nodes : List ℕ) (volts : List ℤ) (n : ℕ) → natAbs (flow c nodes volts n) ≤ flowMost
 unfolding flow

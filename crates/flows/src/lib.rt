@@ -1,4 +1,4 @@
-// A transistor worked: its currents, and by what it overloads; and currents put into the totals of its nodes and taken out.
+// A transistor worked: its currents, and by what it overloads; and currents put into sums at its nodes.
 ghost use mathlib.Core.Path.{_≡_};
 ghost use mathlib.Core.List.{map};
 ghost use Prim.Native.Nat.{_<_};
@@ -9,7 +9,6 @@ ghost use Rattle.rows.specs.Outcome.{isOver, drawnBy};
 ghost use Rattle.totals.specs.Gives.{nodesMost};
 ghost use Rattle.totals.specs.Flow.{ticksGive};
 ghost use Rattle.totals.specs.inner.Sums.{More, Wired, Givable};
-ghost use Rattle.flows.specs.Back.{ticksBack};
 ghost use Rattle.flows.specs.inner.Workable.{rolesOf, deckOf, cardOf, Workable, Works};
 use octave::Table;
 use polarity::Outcome;
@@ -60,20 +59,12 @@ pub fn work(
     polarity::work_out(table, r, &v)
 }
 
-// Gives a transistor's currents to the totals of its nodes.
+// Gives a transistor's currents to sums at its nodes.
 pub fn put_in(l: &mut [i64; NODES], on: &[u8; ROLES], own: &[i64; BRANCHES])
     requires { ⌜ Givable (now l) (now on) (now own) × (length (now own) ≡ branches) ⌝ }
     ensures { λ _. ⌜ More nodesMost (now (l .entry)) (now (l .exit)) (ticksGive (now (on .entry)) (now (own .entry))) ⌝ }
 {
     totals::put(l, on, own);
-}
-
-// Takes them out again.
-pub fn take_out(l: &mut [i64; NODES], on: &[u8; ROLES], own: &[i64; BRANCHES])
-    requires { ⌜ Givable (now l) (now on) (now own) × (length (now own) ≡ branches) ⌝ }
-    ensures { λ _. ⌜ More nodesMost (now (l .entry)) (now (l .exit)) (ticksBack (now (on .entry)) (now (own .entry))) ⌝ }
-{
-    totals::take(l, on, own);
 }
 
 pub fn is_over(o: Over) -> bool

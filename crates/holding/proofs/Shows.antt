@@ -1,24 +1,18 @@
--- Where the tests of looking a name up and of reading a node lead: their answers, which change nothing.
-use mathlib.Core.Path.{_≡_, subst, _∙_}
+-- Where the tests of looking a name up lead: its answers, which change nothing.
+use mathlib.Core.Path.{_≡_}
 use mathlib.Core.Bool.{true, false}
 use mathlib.Core.List.{List}
-use Prim.Native.Nat.{ℕ, _≤_, _<_}
-use lib.ListN.{getD}
-use lib.IntN.{ℤ, pos, natAbs}
+use Prim.Native.Nat.{ℕ}
 use borrow.Author.Tests.{ne-eqb}
-use Rattle.refusal.specs.declared.Refusal.the-variants.{BadName, NameNotHeld, OutOfRange}
+use Rattle.refusal.specs.declared.Refusal.the-variants.{BadName, NameNotHeld}
 use Rattle.name.specs.Name.{asked, padded}
-use Rattle.volts.specs.Volts.{givenBack}
-use Rattle.given.specs.inner.Nodes.{nodeOf}
 use Rattle.places.specs.Finding.{highestAt}
 use Rattle.places.specs.inner.Flat.{highestIn}
 use Rattle.places.specs.laws.Gather.{highest-flat}
 use Rattle.model.specs.Board.{Board}
-use Rattle.model.specs.declared.Answer.the-variants.{Issue, Node, Refused}
-use Rattle.model.specs.Counts.{nodesMost}
-use Rattle.model.specs.Verdict.{lookVerdict, nodeVerdict}
-use Rattle.model.specs.Model.{cardsOf, lookedOf, showedOf}
-use Rattle.model.proofs.Verdicts.{off-board, on-board}
+use Rattle.model.specs.declared.Answer.the-variants.{Issue, Refused}
+use Rattle.model.specs.Verdict.{lookVerdict}
+use Rattle.model.specs.Model.{cardsOf, lookedOf}
 
 -- ---- looking a name up
 
@@ -44,18 +38,3 @@ module _ (b : Board) (name : List ℕ) where
     pub looks-up : (n ≡ 0 → ⊥) → Issue n ≡ lookedOf b name .answer
     unfolding lookedOf lookVerdict
     looks-up z = rw (e, highest-is, ne-eqb n 0 z)
-
--- ---- reading a node
-
-module _ (b : Board) (z : ℤ) where
-  pub show-off : nodesMost ≤ nodeOf z → Refused OutOfRange ≡ showedOf b z .answer
-  unfolding showedOf nodeVerdict
-  show-off h = rw (off-board z h)
-
-  pub shows-it : {volts : List ℕ} {totals : List ℤ} → volts ≡ b .volts → totals ≡ b .totals → (n : ℕ) (v t : ℤ) →
-      n ≡ nodeOf z → n < nodesMost → v ≡ givenBack (getD volts n 0) → t ≡ getD totals n (pos 0) →
-      Node v t ≡ showedOf b z .answer
-  unfolding showedOf nodeVerdict
-  shows-it l m n v t e h p q =
-      let o = on-board z (subst (λ (k : ℕ). k < nodesMost) e h) in
-      let same : n ≡ natAbs z = e ∙ o .1 in rw (o .0, p, q, l, m, same)

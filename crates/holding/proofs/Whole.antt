@@ -8,9 +8,8 @@ use Rattle.refusal.specs.Order.{Verdict, no, yes}
 use Rattle.card.specs.declared.WorkedCard.{WorkedCard}
 use Rattle.model.specs.Board.{Board, Answered}
 use Rattle.model.specs.declared.Answer.{Answer}
-use Rattle.model.specs.Verdict.{nodeVerdict}
 use Rattle.model.specs.Model.{plain, loaded, loadedOf, mayLoad, withdrawn, withdrawnOf, mayWithdraw, looked, lookedOf}
-use Rattle.model.specs.Model.{mayLookUp, showed, showedOf}
+use Rattle.model.specs.Model.{mayLookUp}
 use Rattle.model.proofs.Whole.{Plain}
 use Rattle.holding.specs.inner.Lent.{CardArrays, LeavesCards}
 
@@ -119,7 +118,7 @@ pub withdrawn-whole : (b : Board) (n : ℤ) {answer : Answer} {numbers powers ti
     plain (withCards b numbers powers ticks switches names held (b .next)) answer ≡ withdrawnOf b n
 withdrawn-whole b n l = cards-whole b (withdraw-only b n) (withdraw-plain b n) l
 
--- ---- looking up and reading change nothing
+-- ---- looking up changes nothing
 
 pub looked-whole : (b : Board) (name : List ℕ) {answer : Answer} → answer ≡ lookedOf b name .answer →
     plain b answer ≡ lookedOf b name
@@ -129,12 +128,3 @@ looked-whole b name {answer} e = go (mayLookUp b name) e
     go : (v : Verdict ℕ) → answer ≡ looked b v .answer → plain b answer ≡ looked b v
     go (no f) e = rw e
     go (yes n) e = rw e
-
-pub showed-whole : (b : Board) (n : ℤ) {answer : Answer} → answer ≡ showedOf b n .answer →
-    plain b answer ≡ showedOf b n
-unfolding showedOf
-showed-whole b n {answer} e = go (nodeVerdict n) e
-  where
-    go : (v : Verdict ℕ) → answer ≡ showed b v .answer → plain b answer ≡ showed b v
-    go (no f) e = rw e
-    go (yes k) e = rw e

@@ -3,7 +3,7 @@ ghost use mathlib.Core.Path.{_≡_};
 ghost use Prim.Native.Nat.{_<_};
 ghost use Rattle.places.specs.Counts.{cardsMost};
 ghost use Rattle.model.specs.Board.{Board};
-ghost use Rattle.model.specs.Model.{loadedOf, withdrawnOf, lookedOf, showedOf};
+ghost use Rattle.model.specs.Model.{loadedOf, withdrawnOf, lookedOf};
 ghost use Rattle.holding.specs.inner.Lent.{CardArrays, LeavesCards, Holds, cardOf};
 ghost use Rattle.holding.specs.inner.Loading.{loading};
 use card::Judged;
@@ -19,7 +19,6 @@ use places::CARDS;
 use places::TRANSISTORS;
 use refusal::Refusal;
 use terms::Ready;
-use totals::NODES;
 
 // The free place for a card and the card worked, or the refusal.
 enum Loading {
@@ -166,17 +165,4 @@ pub fn look_up(held: &[u32; CARDS], names: &[u8; ALL_NAMES], name: &[u8]) -> Ans
         return Answer::Refused(Refusal::NameNotHeld);
     }
     Answer::Issue(n)
-}
-
-// A node's voltage in microvolts, and its total in ticks: 13.
-pub fn read_node(volts: &[u32; NODES], totals: &[i64; NODES], node: i64) -> Answer
-    ensures { λ r. ⌜ ((b : Board) → now (volts .entry) ≡ b .volts → now (totals .entry) ≡ b .totals → r ≡ showedOf b node .answer) ⌝ }
-{
-    let n = given::node_of(node) as usize;
-    if NODES <= n {
-        return Answer::Refused(Refusal::OutOfRange);
-    }
-    let v = volts::give_back(volts[n]);
-    let t = totals[n];
-    Answer::Node(v, t)
 }

@@ -1,14 +1,12 @@
--- What totals gain where voltages are moved: totals that were the sums of what stands are so again, and have room on
--- the way.
+-- What totals gain where voltages are moved: totals that were the sums of what stands are so again.
 use mathlib.Core.Path.{_≡_, refl, sym, ap, _∙_, subst}
 use mathlib.Core.Bool.{Bool, true, false, cond, _||_}
 use mathlib.Core.List.{List, [], _∷_, map}
-use Prim.Native.Nat.{ℕ, zero, suc, _*_, _≤_, _<_, zero-le}
-use native.Mathlib.Nat.{suc-mul}
+use Prim.Native.Nat.{ℕ, zero, suc, _≤_, _<_}
 use native.Mathlib.Omega.{arith}
 use lib.Dec.{eqb}
 use lib.ListN.{length, getD, set}
-use lib.IntN.{ℤ, pos, natAbs, negℤ, _+ℤ_, +ℤ-idr, +ℤ-idl, +ℤ-assoc, +ℤ-comm, +ℤ-invr, +ℤ-invl}
+use lib.IntN.{ℤ, pos, negℤ, _+ℤ_, +ℤ-idr, +ℤ-idl, +ℤ-assoc, +ℤ-comm, +ℤ-invr, +ℤ-invl}
 use lib.Seq.{ext-getD}
 use borrow.Author.Tests.{eqb-true, eqb-false, ne-eqb, eq-eqb}
 use Rattle.refusal.specs.Clash.{clash}
@@ -18,8 +16,6 @@ use Rattle.polarity.specs.Polarity.{outcomeOf}
 use Rattle.totals.specs.Gives.{nodesMost}
 use Rattle.totals.specs.Flow.{rolesAt, ticksAt, flow, sumOver, sumBelow, withMore}
 use Rattle.totals.specs.inner.Sums.{More}
-use Rattle.totals.specs.inner.Sizes.{flowMost}
-use Rattle.totals.proofs.Integers.{abs-add}
 use Rattle.deck.specs.laws.Ups.{length-up}
 use Rattle.given.specs.Lists.{anyOf}
 use Rattle.places.specs.Gathered.{Card, Transistor, noTransistor, workedAt}
@@ -29,7 +25,7 @@ use Rattle.settle.specs.Change.{changeBy}
 use Rattle.given.specs.Pairs.{Shift, shiftedIn}
 use Rattle.model.specs.Model.{shifted, touched}
 use Rattle.model.specs.inner.Sums.{placeGives, totalsOf}
-use Rattle.model.proofs.NodeSums.{up-at, small-place, small-sum, totals-at, are-totals}
+use Rattle.model.proofs.NodeSums.{up-at, totals-at, are-totals}
 
 -- ---- totals with more
 
@@ -43,12 +39,18 @@ unfolding withMore
 more-at l f n h = up-at (λ (m : ℕ). getD l m (pos 0) +ℤ f m) nodesMost n (pos 0) h
 
 -- what has so much more at each node is the totals with that more
-pub more-is : {l₀ l : List ℤ} {f : ℕ → ℤ} (g : ℕ → ℤ) → More nodesMost l₀ l f → ((n : ℕ) → n < nodesMost → f n ≡ g n) →
+more-is : {l₀ l : List ℤ} {f : ℕ → ℤ} (g : ℕ → ℤ) → More nodesMost l₀ l f → ((n : ℕ) → n < nodesMost → f n ≡ g n) →
     l ≡ withMore l₀ g
 more-is {l₀} {l} g more same =
     ext-getD (pos 0) l (withMore l₀ g) (more .long ∙ sym (more-long l₀ g))
     (λ n q. let b = subst (λ (k : ℕ). n < k) (more .long) q in
     more .at n b ∙ ap (λ (z : ℤ). getD l₀ n (pos 0) +ℤ z) (same n b) ∙ sym (more-at l₀ g n b))
+
+-- totals with the same more at each node
+pub same-more : (totals : List ℤ) (f g : ℕ → ℤ) → ((n : ℕ) → n < nodesMost → f n ≡ g n) →
+    withMore totals f ≡ withMore totals g
+same-more totals f g same =
+    more-is g (record { long = more-long totals f; at = λ n h. more-at totals f n h }) same
 
 -- ---- voltages of roles that no moved node has
 
@@ -181,16 +183,6 @@ midway-all f g zero (a ∷ l) h = absurd (omega arith)
 midway-all f g (suc k) [] h = absurd (omega arith)
 midway-all f g (suc k) (a ∷ l) h = ap (λ (z : ℤ). f a +ℤ z) (midway-all f g k l (omega arith))
 
-midway-small : {A : Type 0} (f g : A → ℤ) (most : ℕ) → ((a : A) → natAbs (f a) ≤ most) →
-    ((a : A) → natAbs (g a) ≤ most) → (k : ℕ) (l : List A) → natAbs (midway f g k l) ≤ length l * most
-unfolding midway sumOver
-midway-small f g most p q zero l = small-sum g most q l
-midway-small f g most p q (suc k) [] = zero-le
-midway-small f g most p q (suc k) (a ∷ l) =
-    let s = abs-add (f a) (midway f g k l) in
-    let t = midway-small f g most p q k l in
-    let u = p a in rw (suc-mul (length l) most) (omega arith)
-
 -- ---- the totals
 
 module _ (cards : List Card) (ts : List Transistor) (volts : List ℕ) (shifts : List Shift) {totals : List ℤ}
@@ -215,13 +207,6 @@ module _ (cards : List Card) (ts : List Transistor) (volts : List ℕ) (shifts :
       (gainOf k))
       (λ n b. more-at totals (gainOf k) n b ∙ sum-at n b k (omega arith)
       ∙ midway-all (after cards volts shifts n) (before cards volts shifts n) k ts h)
-
-  pub gains-small : (n : ℕ) → n < nodesMost → (k : ℕ) → k ≤ length ts →
-      natAbs (getD totals n (pos 0) +ℤ gainOf k n) ≤ length ts * flowMost
-  gains-small n h k m =
-      rw (sum-at n h k m)
-      (midway-small (after cards volts shifts n) (before cards volts shifts n) flowMost
-      (small-place cards (map givenBack (shifted volts shifts)) n) (small-place cards (map givenBack volts) n) k ts)
 
 -- ---- one transistor more, or less
 

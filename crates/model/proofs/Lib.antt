@@ -4,8 +4,9 @@ pub mod NodeSums
 pub mod Gains
 pub mod Shifts
 pub mod Named
+pub mod Found
+pub mod Boards
+pub mod Footing
 pub mod Invariant
 pub mod Lent
-pub mod PlacingTests
-pub mod Placing
 pub mod Whole

@@ -4,7 +4,7 @@ use mathlib.Core.Path.{_≡_, refl, sym, ap, _∙_, subst}
 use mathlib.Core.Bool.{Bool, true, false, cond}
 use mathlib.Core.Logic.{_⊎_, inl, inr}
 use mathlib.Core.List.{List, [], _∷_}
-use Prim.Native.Nat.{ℕ, zero, suc, _*_, _≤_, _<_, zero-le}
+use Prim.Native.Nat.{ℕ, suc, _*_, _≤_, _<_, zero-le}
 use native.Mathlib.Nat.{suc-mul, zero-add}
 use native.Mathlib.Omega.{arith}
 use lib.Dec.{eqb}
@@ -16,7 +16,6 @@ use Rattle.rows.specs.inner.FromTerms.{listUp}
 use Rattle.model.specs.Counts.{nodesMost, transistorsMost}
 use Rattle.totals.specs.Flow.{flow, sumOver}
 use Rattle.places.specs.Gathered.{Card, Transistor, workedAt}
-use Rattle.settle.specs.inner.Working.{totalMost}
 use Rattle.model.specs.inner.Sums.{placeGives, totalsOf}
 use Rattle.totals.specs.inner.Sums.{Room}
 use Rattle.totals.specs.inner.Sizes.{flowMost}
@@ -48,7 +47,7 @@ up-at f n i d h = getD-up f n 0 i d h ∙ ap f (zero-add i)
 
 -- ---- sizes
 
-pub small-place : (cards : List Card) (volts : List ℤ) (n : ℕ) (t : Transistor) →
+small-place : (cards : List Card) (volts : List ℤ) (n : ℕ) (t : Transistor) →
     natAbs (placeGives cards volts n t) ≤ flowMost
 unfolding placeGives
 small-place cards volts n t = go (eqb (t .issue) 0)
@@ -57,7 +56,7 @@ small-place cards volts n t = go (eqb (t .issue) 0)
     go true = zero-le
     go false = small-flow (workedAt cards (t .seat)) (t .nodes) volts n
 
-pub small-sum : {A : Type 0} (f : A → ℤ) (most : ℕ) → ((a : A) → natAbs (f a) ≤ most) → (l : List A) →
+small-sum : {A : Type 0} (f : A → ℤ) (most : ℕ) → ((a : A) → natAbs (f a) ≤ most) → (l : List A) →
     natAbs (sumOver f l) ≤ length l * most
 unfolding sumOver
 small-sum f most h [] = zero-le
@@ -87,6 +86,9 @@ are-totals cards ts volts l h at =
     (λ n q. let b = subst (λ (x : ℕ). n < x) h q in at n b ∙ sym (totals-at cards ts volts n b))
 
 -- no total is above what each place can give
+abbrev totalMost : ℕ
+totalMost = transistorsMost * flowMost
+
 pub totals-room : (cards : List Card) (ts : List Transistor) (volts : List ℤ) → length ts ≡ transistorsMost →
     Room nodesMost totalMost (totalsOf cards ts volts)
 totals-room cards ts volts h =

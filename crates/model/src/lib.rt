@@ -1,8 +1,4 @@
-// The board's model: what each call answers and changes, and the functions that place and lift on lent arrays.
-mod calls; // calls.rt: placing and lifting on lent arrays
-
-pub use calls::lift;
-pub use calls::place;
+// The board's model, definitions and what holds of them: what each call answers and changes. No code but the answers.
 use refusal::Refusal;
 
 pub enum Answer {

@@ -1,70 +1,84 @@
 -- Where the tests of a move lead, with what settling the places of its set gives.
 use mathlib.Core.Path.{_≡_, refl, sym, ap, _∙_, subst}
-use mathlib.Core.Bool.{Bool, true, false}
+use mathlib.Core.Bool.{Bool, true, false, cond, not}
 use mathlib.Core.List.{List, map}
-use Prim.Native.Nat.{ℕ, _*_, _≤_, _<_}
+use Prim.Native.Nat.{ℕ, _<_}
 use native.Mathlib.Omega.{arith}
-use lib.ListN.{length, getD}
-use lib.IntN.{ℤ, pos, natAbs, _+ℤ_}
+use lib.ListN.{length, getD, replicate, length-replicate}
+use lib.IntN.{ℤ, pos}
 use Rattle.refusal.specs.declared.Refusal.{Refusal}
-use Rattle.refusal.specs.declared.Refusal.the-variants.{Malformed, OutOfRange}
-use Rattle.volts.specs.Volts.{givenBack}
+use Rattle.refusal.specs.declared.Refusal.the-variants.{Malformed, OutOfReach, OutOfRange}
+use Rattle.refusal.specs.Clash.{clash}
+use Rattle.refusal.specs.Order.{yes}
+use Rattle.volts.specs.Volts.{givenBack, keptAs}
 use Rattle.rows.specs.Outcome.{isOver, drawnBy}
-use Rattle.totals.specs.Flow.{overAt}
-use Rattle.totals.specs.inner.Sizes.{flowMost}
+use Rattle.totals.specs.Flow.{overAt, withMore}
 use Rattle.given.specs.Pairs.{arePairs, somePairOff, Shift, shiftsOf}
+use Rattle.slices.specs.Slices.{offSlices, someOutside}
 use Rattle.places.specs.Gathered.{Transistor}
 use Rattle.places.specs.Finding.{standsAt}
 use Rattle.places.specs.Sets.{member}
-use Rattle.settle.specs.declared.First.{First}
-use Rattle.settle.specs.Change.{changes}
+use Rattle.places.specs.laws.Members.{member-set}
 use Rattle.flows.specs.inner.Workable.{deckOf}
-use Rattle.settle.specs.inner.Working.{cardAt, nodesAt, heldAt, Round, roundOf, gained, overOf, newAt, heldFrom}
-use Rattle.settle.specs.inner.Working.{Settling, Settled}
+use Rattle.settle.specs.declared.Judgement.{Judgement}
+use Rattle.settle.specs.inner.Working.{cardAt, nodesAt, heldAt, Round, roundOf, gained, overOf, newAt, firstSo, heldFrom}
+use Rattle.settle.specs.inner.Working.{standing, isTaken, Settling, Settled}
 use Rattle.settle.specs.laws.Firsts.{first-same}
 use Rattle.settle.specs.laws.Changes.{changes-same}
 use Rattle.settle.specs.laws.Renewals.{renewed-same}
-use Rattle.model.specs.Board.{Board}
+use Rattle.model.specs.Board.{Board, Answered}
+use Rattle.model.specs.declared.Answer.{Answer}
 use Rattle.model.specs.declared.Answer.the-variants.{Done, Refused}
-use Rattle.model.specs.Board.{Answered}
-use Rattle.model.specs.Counts.{transistorsMost}
+use Rattle.model.specs.Counts.{nodesMost, transistorsMost}
 use Rattle.model.specs.Verdict.{moveVerdict}
-use Rattle.model.specs.Model.{cardsOf, transistorsOf, transistorAt, workedOn, shifted, touched}
-use Rattle.model.specs.Model.{firstOver, gains, currentThen, heldThen, refuse, movedOf, Reached}
-use Rattle.model.specs.inner.Lent.{Lends, LeavesLevels}
-use Rattle.moving.specs.inner.Pairs.{NamesAny}
-use Rattle.places.specs.laws.Members.{member-set}
-use Rattle.moving.proofs.Pairs.{any-same}
+use Rattle.model.specs.Model.{transistorAt, workedOn, shifted, touched, firstOver, gains, currentThen, heldThen}
+use Rattle.model.specs.Model.{moved, movedOf}
+use Rattle.model.specs.Model as old
 use Rattle.model.proofs.Shifts.{shifted-long, shifted-near}
-use Rattle.model.proofs.Gains.{more-is, touched-stands, gains-small}
-use Rattle.model.proofs.Invariant.{Invariant, invariant, held-is, totals-long}
+use Rattle.model.proofs.Gains.{more-long, same-more, touched-stands}
+use Rattle.model.proofs.Footing.{Ground}
 use Rattle.model.proofs.Lent.{deckIn, stands-there, nodes-there, held-there, held-small, worked-there, able-at}
+use Rattle.lending.specs.Rest.{Rest, State, boardIn}
+use Rattle.lending.specs.Lending.{Lent, lentAs, refuse, movedLent}
+use Rattle.lending.specs.Reached.{Reached}
+use Rattle.lending.specs.inner.Lent.{stateWith, Lends, LeavesLevels}
+use Rattle.lending.proofs.Footing.{ground-in}
+use Rattle.lending.proofs.Cases.{off-slices, refused-by, leaves-64, taken-so}
+use Rattle.moving.specs.inner.Pairs.{NamesAny}
+use Rattle.moving.specs.inner.Told.{answerTo}
+use Rattle.moving.proofs.Pairs.{any-same}
 
 -- ---- refusals before anything is worked
 
-levels-stay : {b : Board} {f : Refusal} (a : Answered) → refuse b f ≡ a →
-    LeavesLevels a (Refused f) (b .volts) (b .totals) (b .currents)
-levels-stay a e =
-    rw (← e) (record { answer-is = refl; volts-are = refl; totals-are = refl; currents-are = refl })
+levels-stay : {s : State} {f : Refusal} (a : Lent) → a ≡ refuse s f →
+    LeavesLevels a (Refused f) (s .volts) (s .totals) (s .rest .currents)
+levels-stay a e = rw e (record { answer-is = refl; volts-are = refl; totals-are = refl; currents-are = refl })
 
-move-malformed : (b : Board) (pairs : List ℤ) → arePairs pairs ≡ false →
-    LeavesLevels (movedOf b pairs) (Refused Malformed) (b .volts) (b .totals) (b .currents)
+-- the same numbers by another name
+pub levels-as : {a : Lent} {x y : Answer} {volts volts′ totals totals′ currents : List ℤ} → x ≡ y → volts ≡ volts′ →
+    totals ≡ totals′ → LeavesLevels a y volts′ totals′ currents → LeavesLevels a x volts totals currents
+levels-as p q r l =
+    record {
+      answer-is = p ∙ l .answer-is;
+      volts-are = q ∙ l .volts-are;
+      totals-are = r ∙ l .totals-are;
+      currents-are = l .currents-are;
+    }
+
+move-malformed : (b : Board) (pairs : List ℤ) → arePairs pairs ≡ false → movedOf b pairs ≡ old.refuse b Malformed
 unfolding movedOf moveVerdict
-move-malformed b pairs e = levels-stay {b = b} (movedOf b pairs) (rw e)
+move-malformed b pairs e = rw e
 
 move-off : (b : Board) (pairs : List ℤ) → arePairs pairs ≡ true → somePairOff pairs ≡ true →
-    LeavesLevels (movedOf b pairs) (Refused OutOfRange) (b .volts) (b .totals) (b .currents)
+    movedOf b pairs ≡ old.refuse b OutOfRange
 unfolding movedOf moveVerdict
-move-off b pairs e f = levels-stay {b = b} (movedOf b pairs) (rw (e, f))
+move-off b pairs e f = rw (e, f)
 
 -- ---- pairs in range
 
-module _ (b : Board) (k : Reached b) (pairs : List ℤ) (good : arePairs pairs ≡ true) (on : somePairOff pairs ≡ false)
+module _ (b : Board) (g : Ground b) (pairs : List ℤ) (good : arePairs pairs ≡ true) (on : somePairOff pairs ≡ false)
     (will : List ℕ) (will-is : will ≡ shifted (b .volts) (shiftsOf pairs)) (places : ℕ)
     (pe : NamesAny pairs (b .naming) places) where
-  g : Invariant b
-  g = invariant k
-
   abbrev shifts : List Shift
   shifts = shiftsOf pairs
 
@@ -74,7 +88,7 @@ module _ (b : Board) (k : Reached b) (pairs : List ℤ) (good : arePairs pairs �
       pe .is i h
       ∙ any-same (λ (s : Shift). member (getD (b .naming) (s .node) 0) i)
       (λ (s : Shift). standsAt (s .node) (transistorAt b i)) pairs on
-      (λ s q. ap (λ (x : ℕ). member x i) (g .named .at (s .node) q)
+      (λ s q. ap (λ (x : ℕ). member x i) (g .footing .named .at (s .node) q)
       ∙ member-set (λ (j : ℕ). standsAt (s .node) (transistorAt b j)) transistorsMost i h)
 
   stands : (i : ℕ) → touched shifts (transistorAt b i) ≡ true → transistorAt b i .issue ≡ 0 → ⊥
@@ -84,144 +98,235 @@ module _ (b : Board) (k : Reached b) (pairs : List ℤ) (good : arePairs pairs �
   abbrev round : Round
   round = roundOf (deckIn b) (b .issues) (b .seats) (b .nodes) places will
 
-  gained-is : (m j : ℕ) → j ≤ transistorsMost →
-      gained round (b .currents) j m ≡
-      changes (λ (i : ℕ). touched shifts (transistorAt b i)) (workedOn b) (λ (i : ℕ). transistorAt b i .nodes)
-      (λ (i : ℕ). transistorAt b i .currents) (map givenBack (shifted (b .volts) shifts)) j m
-  gained-is m j h =
+  -- what is gained, and how the totals would stand, is what the model says
+  gained-is : (m : ℕ) → gained round (b .currents) transistorsMost m ≡ gains b shifts m
+  gained-is m =
       rw will-is
       (changes-same (member places) (λ (i : ℕ). touched shifts (transistorAt b i)) (cardAt (deckIn b) (b .seats))
       (workedOn b) (nodesAt (b .nodes)) (λ (i : ℕ). transistorAt b i .nodes) (heldAt (b .currents))
-      (λ (i : ℕ). transistorAt b i .currents) (map givenBack (shifted (b .volts) shifts)) m j
-      (λ i q. worked-is i (omega arith)) (λ i q t. worked-there b g i (omega arith) (stands i t))
-      (λ i q t. nodes-there b i (omega arith)) (λ i q t. held-there b i (omega arith)))
+      (λ (i : ℕ). transistorAt b i .currents) (map givenBack (shifted (b .volts) shifts)) m transistorsMost
+      worked-is (λ i q t. worked-there b (g .footing) i q (stands i t))
+      (λ i q t. nodes-there b i q) (λ i q t. held-there b i q))
 
-  pub settling-move : Settling round (b .currents) (b .totals)
-  unfolding changes
+  standing-is : standing round (b .currents) (b .totals) ≡ withMore (b .totals) (gains b shifts)
+  standing-is = same-more (b .totals) (gained round (b .currents) transistorsMost) (gains b shifts) (λ m h. gained-is m)
+
+  settling-move : Settling round (b .currents) (b .totals)
   settling-move =
       record {
         will-are =
             record {
-              long = ap length will-is ∙ shifted-long shifts (b .volts) ∙ g .sized .volts;
-              near = rw will-is (shifted-near pairs on (g .holds .near));
+              long = ap length will-is ∙ shifted-long shifts (b .volts) ∙ g .kept .long;
+              near = rw will-is (shifted-near pairs on (g .kept .near));
             };
         able =
             λ i h m. let t = sym (worked-is i h) ∙ m in
-            rw (nodes-there b i h, ← (ap (λ (u : Transistor). u .seat) (stands-there b i h))) (able-at b g i h
+            rw (nodes-there b i h, ← (ap (λ (u : Transistor). u .seat) (stands-there b i h))) (able-at b (g .footing) i h
             (stands i t));
-        small = λ i h m. rw (held-there b i h) (held-small b g i (stands i (sym (worked-is i h) ∙ m)));
-        long = totals-long g;
-        room =
-            λ j m h q. rw (gained-is m j h)
-            (subst
-            (λ (most : ℕ). natAbs
-            (getD (b .totals) m (pos 0) +ℤ
-            changes (λ (i : ℕ). touched shifts (transistorAt b i)) (workedOn b) (λ (i : ℕ). transistorAt b i .nodes)
-            (λ (i : ℕ). transistorAt b i .currents) (map givenBack (shifted (b .volts) shifts)) j m) ≤ most * flowMost)
-            (g .holds .transistors-long)
-            (gains-small (cardsOf b) (transistorsOf b) (b .volts) shifts (g .holds .balanced) (held-is g) m q j
-            (rw (g .holds .transistors-long) h)));
+        small = λ i h m. rw (held-there b i h) (held-small b (g .footing) i h (stands i (sym (worked-is i h) ∙ m)));
+        long = g .totals-long;
       }
 
-  module _ {first : First} {l held : List ℤ} (s : Settled round (b .currents) (b .totals) 0 first l held) where
-    first-is : first ≡ firstOver b shifts
-    first-is =
-        s .first-is
-        ∙ rw will-is
-        (first-same (member places) (λ (i : ℕ). touched shifts (transistorAt b i)) (λ (i : ℕ). getD (b .issues) i 0)
-        (λ (i : ℕ). transistorAt b i .issue)
-        (overOf (roundOf (deckIn b) (b .issues) (b .seats) (b .nodes) places (shifted (b .volts) shifts)))
-        (λ (i : ℕ). overAt (workedOn b i) (transistorAt b i .nodes) (map givenBack (shifted (b .volts) shifts)))
-        transistorsMost worked-is (λ i h t. sym (ap (λ (u : Transistor). u .issue) (stands-there b i h)))
-        (λ i h t. rw (worked-there b g i h (stands i t), nodes-there b i h)))
+  first-is : firstSo round transistorsMost ≡ firstOver b shifts
+  first-is =
+      rw will-is
+      (first-same (member places) (λ (i : ℕ). touched shifts (transistorAt b i)) (λ (i : ℕ). getD (b .issues) i 0)
+      (λ (i : ℕ). transistorAt b i .issue)
+      (overOf (roundOf (deckIn b) (b .issues) (b .seats) (b .nodes) places (shifted (b .volts) shifts)))
+      (λ (i : ℕ). overAt (workedOn b i) (transistorAt b i .nodes) (map givenBack (shifted (b .volts) shifts)))
+      transistorsMost worked-is (λ i h t. sym (ap (λ (u : Transistor). u .issue) (stands-there b i h)))
+      (λ i h t. rw (worked-there b (g .footing) i h (stands i t), nodes-there b i h)))
 
-    -- what is held anew is what the model says
-    held-is-then : heldFrom round (b .currents) 0 ≡ heldThen b shifts
-    held-is-then =
-        rw will-is
-        (renewed-same (member places) (λ (i : ℕ). touched shifts (transistorAt b i))
-        (newAt (roundOf (deckIn b) (b .issues) (b .seats) (b .nodes) places (shifted (b .volts) shifts)))
-        (currentThen b shifts) (b .currents) transistorsMost 0 (λ j h. worked-is j (omega arith))
-        (λ j h t. rw (worked-there b g j (omega arith) (stands j t), nodes-there b j (omega arith))))
+  -- what is held anew is what the model says
+  held-is-then : heldFrom round (b .currents) 0 ≡ heldThen b shifts
+  held-is-then =
+      rw will-is
+      (renewed-same (member places) (λ (i : ℕ). touched shifts (transistorAt b i))
+      (newAt (roundOf (deckIn b) (b .issues) (b .seats) (b .nodes) places (shifted (b .volts) shifts)))
+      (currentThen b shifts) (b .currents) transistorsMost 0 (λ j h. worked-is j (omega arith))
+      (λ j h t. rw (worked-there b (g .footing) j (omega arith) (stands j t), nodes-there b j (omega arith))))
 
-    pub move-over : isOver (first .over) ≡ true →
-        LeavesLevels (movedOf b pairs) (Refused (drawnBy (first .issue) (first .over))) (b .volts) (b .totals) held
+  module _ {told : Judgement} {next held : List ℤ} (s : Settled round (b .currents) (b .totals) 0 told next held) where
+    told-is : told .first ≡ firstOver b shifts
+    told-is = s .first-is ∙ first-is
+
+    move-over : isOver (told .first .over) ≡ true →
+        movedOf b pairs ≡ old.refuse b (drawnBy (told .first .issue) (told .first .over))
     unfolding movedOf moveVerdict
-    move-over o =
-        rw (s .held, o) (levels-stay {b = b} (movedOf b pairs) (rw (good, on, ← first-is, o)))
+    move-over o = rw (good, on, ← told-is, o)
 
-    pub moves-it : isOver (first .over) ≡ false → LeavesLevels (movedOf b pairs) Done will l held
+    moves-it : isOver (told .first .over) ≡ false → movedOf b pairs ≡ moved b (yes shifts)
     unfolding movedOf moveVerdict
-    moves-it o =
-        rw (good, on, ← first-is, o)
-        (record {
-          answer-is = refl;
-          volts-are = will-is;
-          totals-are = more-is (gains b shifts) (s .gains) (λ m h. gained-is m transistorsMost (omega arith));
-          currents-are = s .held ∙ rw o held-is-then;
-        })
+    moves-it o = rw (good, on, ← told-is, o)
 
--- ---- the same of arrays that are the board's
+    -- whether a total would leave
+    out-is : (out : Bool) → told .fits ≡ not out → (told .fits ≡ false → out ≡ true) × (told .fits ≡ true → out ≡ false)
+    out-is true e = (λ f. refl, λ f. clash cc)
+    out-is false e = (λ f. clash cc, λ f. refl)
 
-module _ {b : Board} {numbers powers ticks : List ℕ} {switches : List Bool} {issues seats nodes naming volts : List ℕ}
-    {totals currents : List ℤ}
-    (l : Lends b numbers powers ticks switches issues seats nodes naming volts totals currents)
-    (pairs : List ℤ) where
-  pub lent-malformed : arePairs pairs ≡ false →
-      LeavesLevels (movedOf b pairs) (Refused Malformed) volts totals currents
-  lent-malformed e = rw (l .volts-are, l .totals-are, l .currents-are) (move-malformed b pairs e)
+    fits-out : told .fits ≡ false → someOutside (withMore (b .totals) (gains b shifts)) ≡ true
+    fits-out f = rw (← standing-is) (out-is _ (s .fits-is) .0 f)
 
-  pub lent-off : arePairs pairs ≡ true → somePairOff pairs ≡ true →
-      LeavesLevels (movedOf b pairs) (Refused OutOfRange) volts totals currents
-  lent-off e f = rw (l .volts-are, l .totals-are, l .currents-are) (move-off b pairs e f)
+    fits-in : told .fits ≡ true → someOutside (withMore (b .totals) (gains b shifts)) ≡ false
+    fits-in f = rw (← standing-is) (out-is _ (s .fits-is) .1 f)
 
-  module _ (r : Reached b) (good : arePairs pairs ≡ true) (on : somePairOff pairs ≡ false) (will : List ℕ)
-      (will-is : will ≡ shifted volts (shiftsOf pairs)) (places : ℕ) (pe : NamesAny pairs naming places) where
-    own-will : will ≡ shifted (b .volts) (shiftsOf pairs)
-    own-will = rw (← (l .volts-are)) will-is
+    next-stands : told .fits ≡ true → next ≡ withMore (b .totals) (gains b shifts)
+    next-stands f = s .next-is ∙ rw (f, standing-is)
 
-    own-places : NamesAny pairs (b .naming) places
-    own-places = rw (← (l .naming-are)) pe
+    held-on : isTaken told ≡ false → held ≡ b .currents
+    held-on e = s .held ∙ rw e
 
-    pub lent-settling :
-        Settling (roundOf (deckOf numbers powers ticks switches) issues seats nodes places will) currents totals
-    lent-settling =
-        rw (
-          l .numbers-are,
-          l .powers-are,
-          l .ticks-are,
-          l .switches-are,
-          l .issues-are,
-          l .seats-are,
-          l .nodes-are,
-          l .totals-are,
-          l .currents-are,
-        )
-        (settling-move b r pairs good on will own-will places own-places)
+    held-anew : isOver (told .first .over) ≡ false → told .fits ≡ true → held ≡ heldThen b shifts
+    held-anew o f = s .held ∙ rw (o, f, held-is-then)
 
-    module _ {first : First} {t held : List ℤ}
-        (s : Settled (roundOf (deckOf numbers powers ticks switches) issues seats nodes places will) currents totals 0
-        first t held) where
-      own-settled : Settled (roundOf (deckIn b) (b .issues) (b .seats) (b .nodes) places will) (b .currents) (b .totals)
-          0 first t held
-      own-settled =
+-- ---- the same of arrays that are a board's, beside two slices
+
+module _ {r : Rest} {numbers powers ticks : List ℕ} {switches : List Bool} {issues seats nodes naming : List ℕ}
+    {currents : List ℤ} (l : Lends r numbers powers ticks switches issues seats nodes naming currents)
+    (volts totals pairs : List ℤ) where
+  abbrev state : State
+  state = stateWith r volts totals
+
+  abbrev call : Board → Answered
+  call b = movedOf b pairs
+
+  pub lent-turned : offSlices volts totals ≡ true →
+      LeavesLevels (movedLent state pairs) (Refused OutOfRange) volts totals currents
+  unfolding movedLent
+  lent-turned e = rw (l .currents-are) (levels-stay (movedLent state pairs) (off-slices call state e))
+
+  module _ (taken : offSlices volts totals ≡ false) where
+    lent-refused : {f : Refusal} → movedOf (boardIn state) pairs ≡ old.refuse (boardIn state) f →
+        LeavesLevels (movedLent state pairs) (Refused f) volts totals currents
+    unfolding movedLent
+    lent-refused e = rw (l .currents-are) (levels-stay (movedLent state pairs) (refused-by call state taken e))
+
+    pub lent-malformed : arePairs pairs ≡ false →
+        LeavesLevels (movedLent state pairs) (Refused Malformed) volts totals currents
+    lent-malformed e = lent-refused (move-malformed (boardIn state) pairs e)
+
+    pub lent-off : arePairs pairs ≡ true → somePairOff pairs ≡ true →
+        LeavesLevels (movedLent state pairs) (Refused OutOfRange) volts totals currents
+    lent-off e f = lent-refused (move-off (boardIn state) pairs e f)
+
+    module _ (k : Reached r) (good : arePairs pairs ≡ true) (on : somePairOff pairs ≡ false) (will : List ℕ)
+        (will-is : will ≡ shifted (map keptAs volts) (shiftsOf pairs)) (places : ℕ)
+        (pe : NamesAny pairs naming places) where
+      ground : Ground (boardIn state)
+      ground = ground-in state k taken
+
+      own-places : NamesAny pairs (r .naming) places
+      own-places = rw (← (l .naming-are)) pe
+
+      pub lent-settling :
+          Settling (roundOf (deckOf numbers powers ticks switches) issues seats nodes places will) currents totals
+      lent-settling =
           rw (
-            ← (l .numbers-are),
-            ← (l .powers-are),
-            ← (l .ticks-are),
-            ← (l .switches-are),
-            ← (l .issues-are),
-            ← (l .seats-are),
-            ← (l .nodes-are),
-            ← (l .totals-are),
-            ← (l .currents-are),
-          ) s
+            l .numbers-are,
+            l .powers-are,
+            l .ticks-are,
+            l .switches-are,
+            l .issues-are,
+            l .seats-are,
+            l .nodes-are,
+            l .currents-are,
+          )
+          (settling-move (boardIn state) ground pairs good on will will-is places own-places)
 
-      pub lent-over : isOver (first .over) ≡ true →
-          LeavesLevels (movedOf b pairs) (Refused (drawnBy (first .issue) (first .over))) volts totals held
-      lent-over o =
-          rw (l .volts-are, l .totals-are)
-          (move-over b r pairs good on will own-will places own-places own-settled o)
+      module _ {told : Judgement} {next held : List ℤ}
+          (s : Settled (roundOf (deckOf numbers powers ticks switches) issues seats nodes places will) currents totals 0
+          told next held) where
+        own-settled : Settled (roundOf (deckIn (boardIn state)) (r .issues) (r .seats) (r .nodes) places will)
+            (r .currents) totals 0 told next held
+        own-settled =
+            rw (
+              ← (l .numbers-are),
+              ← (l .powers-are),
+              ← (l .ticks-are),
+              ← (l .switches-are),
+              ← (l .issues-are),
+              ← (l .seats-are),
+              ← (l .nodes-are),
+              ← (l .currents-are),
+            ) s
 
-      pub lent-moves : isOver (first .over) ≡ false → LeavesLevels (movedOf b pairs) Done will t held
-      lent-moves o = moves-it b r pairs good on will own-will places own-places own-settled o
+        -- a refusal after the places were worked
+        stays : {f : Refusal} → movedLent state pairs ≡ refuse state f → isTaken told ≡ false →
+            LeavesLevels (movedLent state pairs) (Refused f) volts totals held
+        stays e t =
+            rw (held-on (boardIn state) ground pairs good on will will-is places own-places own-settled t)
+            (levels-stay (movedLent state pairs) e)
+
+        lent-over : isOver (told .first .over) ≡ true →
+            LeavesLevels (movedLent state pairs) (Refused (drawnBy (told .first .issue) (told .first .over))) volts totals
+            held
+        unfolding movedLent
+        lent-over o =
+            stays
+            (refused-by call state taken
+            (move-over (boardIn state) ground pairs good on will will-is places own-places own-settled o))
+            (rw o)
+
+        module _ (o : isOver (told .first .over) ≡ false) where
+          moves : movedOf (boardIn state) pairs ≡ moved (boardIn state) (yes (shiftsOf pairs))
+          moves = moves-it (boardIn state) ground pairs good on will will-is places own-places own-settled o
+
+          lent-leaves : told .fits ≡ false →
+              LeavesLevels (movedLent state pairs) (Refused OutOfReach) volts totals held
+          unfolding movedLent
+          lent-leaves f =
+              stays
+              (leaves-64 call state taken (rw moves refl)
+              (rw moves (fits-out (boardIn state) ground pairs good on will will-is places own-places own-settled f)))
+              (rw (o, f))
+
+          lent-moves : told .fits ≡ true →
+              LeavesLevels (movedLent state pairs) Done (map givenBack will) next held
+          unfolding movedLent
+          lent-moves f =
+              subst (λ (a : Lent). LeavesLevels a Done (map givenBack will) next held)
+              (sym
+              (taken-so call state taken (rw moves refl)
+              (rw moves (fits-in (boardIn state) ground pairs good on will will-is places own-places own-settled f))
+              ∙ ap lentAs moves))
+              (record {
+                answer-is = refl;
+                volts-are = ap (map givenBack) will-is;
+                totals-are =
+                    next-stands (boardIn state) ground pairs good on will will-is places own-places own-settled f;
+                currents-are =
+                    held-anew (boardIn state) ground pairs good on will will-is places own-places own-settled o f;
+              })
+
+        -- by what is told
+        pub lent-taken : isTaken told ≡ true →
+            LeavesLevels (movedLent state pairs) (answerTo told) (map givenBack will) next held
+        lent-taken t = go (isOver (told .first .over)) refl (told .fits) refl t
+          where
+            go : (over : Bool) → isOver (told .first .over) ≡ over → (fits : Bool) → told .fits ≡ fits →
+                cond over false fits ≡ true →
+                LeavesLevels (movedLent state pairs) (answerTo told) (map givenBack will) next held
+            go true o fits f e = clash cc
+            go false o true f e = rw (o, f) (lent-moves o f)
+            go false o false f e = clash cc
+
+        pub lent-left : isTaken told ≡ false → LeavesLevels (movedLent state pairs) (answerTo told) volts totals held
+        lent-left t = go (isOver (told .first .over)) refl (told .fits) refl t
+          where
+            go : (over : Bool) → isOver (told .first .over) ≡ over → (fits : Bool) → told .fits ≡ fits →
+                cond over false fits ≡ false → LeavesLevels (movedLent state pairs) (answerTo told) volts totals held
+            go true o fits f e = rw o (lent-over o)
+            go false o true f e = clash cc
+            go false o false f e = rw (o, f) (lent-leaves o f)
+
+        -- what is written is as long as it must be
+        pub next-long : length next ≡ nodesMost
+        next-long = ap length (s .next-is) ∙ go (told .fits)
+          where
+            go : (fits : Bool) →
+                length
+                (cond fits
+                (standing (roundOf (deckOf numbers powers ticks switches) issues seats nodes places will) currents totals)
+                (replicate nodesMost (pos 0))) ≡ nodesMost
+            go true = more-long totals _
+            go false = length-replicate nodesMost (pos 0)

@@ -1,14 +1,17 @@
-// Moving nodes together on a board's arrays, lent one by one: it tests, works each transistor that names one of the nodes once, and writes last, so that a refusal leaves them as they were.
+// Moving nodes together on a board's arrays, lent one by one beside the two slices: it tests, works each transistor that names one of the nodes once, judges the totals as they would stand, and writes last, so that a refusal leaves all as it was.
 ghost use mathlib.Core.Path.{_≡_};
 ghost use mathlib.Core.Bool.{false};
 ghost use Rattle.given.specs.Pairs.{arePairs, somePairOff};
-ghost use Rattle.model.specs.Board.{Board};
-ghost use Rattle.model.specs.Model.{movedOf, Reached};
-ghost use Rattle.model.specs.inner.Lent.{Lends, LeavesLevels};
+ghost use Rattle.lending.specs.Rest.{Rest};
+ghost use Rattle.lending.specs.Lending.{movedLent};
+ghost use Rattle.lending.specs.Reached.{Reached};
+ghost use Rattle.lending.specs.inner.Lent.{stateWith, Lends, LeavesLevels};
 ghost use Rattle.moving.specs.inner.Pairs.{KeepsPairs, NamesAny};
+ghost use Rattle.moving.specs.inner.Told.{answerTo};
 use model::Answer;
 use places::TRANSISTORS;
 use refusal::Refusal;
+use settle::Judgement;
 use totals::NODES;
 use volts::Voltage;
 
@@ -62,10 +65,25 @@ fn naming_any(naming: &[u64; NODES], pairs: &[i64]) -> u64
     set
 }
 
-// 1, 13 for any pair, then 15 or 18 for the first of the transistors that would overload at the end.
+// 15 or 18 for the first transistor that overloads, then 10 for a total that would leave the 64-bit range.
+fn answer_to(told: Judgement) -> Answer
+    ensures { λ r. ⌜ r ≡ answerTo told ⌝ }
+{
+    let first = told.first;
+    let over = first.over;
+    if settle::is_over(over) {
+        return Answer::Refused(settle::refusal_of(first.issue, over));
+    }
+    if told.fits {
+        return Answer::Done;
+    }
+    Answer::Refused(Refusal::OutOfReach)
+}
+
+// 13 for the slices, 1, 13 for any pair, then 15 or 18 for the first of the transistors that would overload at the end, and 10 for a total that would leave the 64-bit range.
 pub fn move_all(
-    volts: &mut [u32; NODES],
-    totals: &mut [i64; NODES],
+    volts: &mut [i64],
+    totals: &mut [i64],
     currents: &mut [i64; places::ALL_CURRENTS],
     numbers: &[u32; deck::ALL_NUMBERS],
     powers: &[u16; deck::ALL_POWERS],
@@ -77,21 +95,26 @@ pub fn move_all(
     naming: &[u64; NODES],
     pairs: &[i64],
 ) -> Answer
-    requires { ⌜ ((b : Board) × Reached b × Lends b (now numbers) (now powers) (now ticks) (now switches) (now issues) (now seats) (now nodes) (now naming) (now volts) (now totals) (now currents)) ⌝ }
-    ensures { λ r. ⌜ ((b : Board) → Reached b → Lends b (now (numbers .entry)) (now (powers .entry)) (now (ticks .entry)) (now (switches .entry)) (now (issues .entry)) (now (seats .entry)) (now (nodes .entry)) (now (naming .entry)) (now (volts .entry)) (now (totals .entry)) (now (currents .entry)) → LeavesLevels (movedOf b (now (pairs .entry))) r (now (volts .exit)) (now (totals .exit)) (now (currents .exit))) ⌝ }
+    requires { ⌜ ((r : Rest) × Reached r × Lends r (now numbers) (now powers) (now ticks) (now switches) (now issues) (now seats) (now nodes) (now naming) (now currents)) ⌝ }
+    ensures { λ a. ⌜ ((r : Rest) → Reached r → Lends r (now (numbers .entry)) (now (powers .entry)) (now (ticks .entry)) (now (switches .entry)) (now (issues .entry)) (now (seats .entry)) (now (nodes .entry)) (now (naming .entry)) (now (currents .entry)) → LeavesLevels (movedLent (stateWith r (now (volts .entry)) (now (totals .entry))) (now (pairs .entry))) a (now (volts .exit)) (now (totals .exit)) (now (currents .exit))) ⌝ }
 {
+    let kept = slices::keep_slices(volts, totals);
+    if !kept.good {
+        return Answer::Refused(Refusal::OutOfRange);
+    }
     if !are_pairs(pairs) {
         return Answer::Refused(Refusal::Malformed);
     }
-    let mut will = *volts;
+    let mut will = kept.volts;
     if !keep_pairs(&mut will, pairs) {
         return Answer::Refused(Refusal::OutOfRange);
     }
     let set = naming_any(naming, pairs);
-    let mut l = *totals;
-    let first = settle::settle(
+    let mut next = [0i64; NODES];
+    let told = settle::settle(
         currents,
-        &mut l,
+        &mut next,
+        totals,
         numbers,
         powers,
         ticks,
@@ -102,11 +125,9 @@ pub fn move_all(
         &will,
         set,
     );
-    let over = first.over;
-    if settle::is_over(over) {
-        return Answer::Refused(settle::refusal_of(first.issue, over));
+    if settle::is_taken(told) {
+        slices::put_volts(volts, &will);
+        slices::put_totals(totals, &next);
     }
-    *volts = will;
-    *totals = l;
-    Answer::Done
+    answer_to(told)
 }

@@ -55,63 +55,122 @@ fn answer_number(a: Answer) -> i64 {
 }
 
 // A node's total.
-fn total(b: Board, n: i64) -> i64
+fn total(b: Board, volts: &[i64; Board::NODES], totals: &[i64; Board::NODES], n: i64) -> i64
     requires { ⌜ Reached b ⌝ }
 {
-    let r = b.read_node(n);
+    let r = b.read_node(volts, totals, n);
     let a = r.answer;
     answer_number(a)
 }
 
-fn show_totals(b: Board, what: &[u8], a: i64, c: i64, d: i64, e: i64)
+fn show_totals(
+    b: Board,
+    volts: &[i64; Board::NODES],
+    totals: &[i64; Board::NODES],
+    what: &[u8],
+    a: i64,
+    c: i64,
+    d: i64,
+    e: i64,
+)
     requires { ⌜ Reached b ⌝ }
 {
-    shown::line(what, b" node 0", total(b, 0), a);
-    shown::line(what, b" node 1", total(b, 1), c);
-    shown::line(what, b" node 2", total(b, 2), d);
-    shown::line(what, b" node 3", total(b, 3), e);
+    shown::line(what, b" node 0", total(b, volts, totals, 0), a);
+    shown::line(what, b" node 1", total(b, volts, totals, 1), c);
+    shown::line(what, b" node 2", total(b, volts, totals, 2), d);
+    shown::line(what, b" node 3", total(b, volts, totals, 3), e);
 }
 
 // The paper's transistor on nodes 0 to 3.
-fn stand(b: Board) -> Answered
+fn stand(b: Board, volts: &[i64; Board::NODES], totals: &mut [i64; Board::NODES]) -> Answered
     requires { ⌜ Reached b ⌝ }
     ensures { λ r. ⌜ Reached (r .board) ⌝ }
 {
-    b.place(1, [0, 1, 1, 2, 2, 2, 3, -1, -1, -1, -1])
+    b.place(volts, totals, 1, [0, 1, 1, 2, 2, 2, 3, -1, -1, -1, -1])
+}
+
+// A board with the paper's card, over slices that it clears.
+fn begin(volts: &mut [i64; Board::NODES], totals: &mut [i64; Board::NODES]) -> Answered
+    ensures { λ r. ⌜ Reached (r .board) ⌝ }
+{
+    let begun = Board::fresh(volts, totals);
+    begun.board.load(b"a1", &records::paper())
+}
+
+fn move_node(
+    b: Board,
+    volts: &mut [i64; Board::NODES],
+    totals: &mut [i64; Board::NODES],
+    node: i64,
+    microvolts: i64,
+) -> Answered
+    requires { ⌜ Reached b ⌝ }
+    ensures { λ r. ⌜ Reached (r .board) ⌝ }
+{
+    b.move_to(volts, totals, node, microvolts)
+}
+
+fn lift(b: Board, volts: &[i64; Board::NODES], totals: &mut [i64; Board::NODES], n: i64) -> Answered
+    requires { ⌜ Reached b ⌝ }
+    ensures { λ r. ⌜ Reached (r .board) ⌝ }
+{
+    b.lift(volts, totals, n)
 }
 
 fn run_board() {
-    let loaded = Board::fresh().load(b"a1", &records::paper());
+    let mut volts = [0i64; Board::NODES];
+    let mut totals = [0i64; Board::NODES];
+    let loaded = begin(&mut volts, &mut totals);
     let card = loaded.answer;
     shown::line(b"load", b"", answer_number(card), 1);
-    let first = stand(loaded.board);
+    let first = stand(loaded.board, &volts, &mut totals);
     let placed = first.answer;
     shown::line(b"place", b"", answer_number(placed), 2);
-    let one = first.board.move_to(1, 16000);
-    let two = one.board.move_to(2, 16000);
-    let gone = two.board.lift(2);
-    show_totals(gone.board, b"lifted", 0, 0, 0, 0);
-    let again = stand(gone.board);
+    let one = move_node(first.board, &mut volts, &mut totals, 1, 16000);
+    let two = move_node(one.board, &mut volts, &mut totals, 2, 16000);
+    let gone = lift(two.board, &volts, &mut totals, 2);
+    show_totals(gone.board, &volts, &totals, b"lifted", 0, 0, 0, 0);
+    let again = stand(gone.board, &volts, &mut totals);
     let anew = again.answer;
     shown::line(b"place again", b"", answer_number(anew), 3);
-    show_totals(again.board, b"again", -2048, 1024, 1024, 0);
+    show_totals(again.board, &volts, &totals, b"again", -2048, 1024, 1024, 0);
+}
+
+// A board with two of the paper's transistors, the base of each on the other's emitter, and 2 V at their collectors.
+fn stage_on(volts: &mut [i64; Board::NODES], totals: &mut [i64; Board::NODES]) -> Board
+    ensures { λ r. ⌜ Reached r ⌝ }
+{
+    let loaded = begin(volts, totals);
+    let one = loaded
+        .board
+        .place(volts, totals, 1, [2, 1, 1, 3, 3, 3, 0, -1, -1, -1, -1]);
+    let two = one.board
+        .place(volts, totals, 1, [1, 2, 2, 3, 3, 3, 0, -1, -1, -1, -1]);
+    let stage = move_node(two.board, volts, totals, 3, 2000000);
+    stage.board
+}
+
+// Both bases of the stage lifted together.
+fn lift_both(b: Board, volts: &mut [i64; Board::NODES], totals: &mut [i64; Board::NODES])
+    requires { ⌜ Reached b ⌝ }
+{
+    let both = b.move_all(volts, totals, &[1, 2000000, 2, 2000000]);
+    let together = both.answer;
+    shown::line(b"both lifted", b"", answer_number(together), 0);
 }
 
 // Two of the paper's transistors, the base of each on the other's emitter: which of its nodes can be lifted by 2 V.
 fn run_stage() {
-    let loaded = Board::fresh().load(b"a1", &records::paper());
-    let one = loaded.board.place(1, [2, 1, 1, 3, 3, 3, 0, -1, -1, -1, -1]);
-    let two = one.board.place(1, [1, 2, 2, 3, 3, 3, 0, -1, -1, -1, -1]);
-    let stage = two.board.move_to(3, 2000000);
-    let base = stage.board.move_to(1, 2000000);
+    let mut volts = [0i64; Board::NODES];
+    let mut totals = [0i64; Board::NODES];
+    let stage = stage_on(&mut volts, &mut totals);
+    let base = move_node(stage, &mut volts, &mut totals, 1, 2000000);
     let alone = base.answer;
     shown::line(b"node 1 lifted", b"", answer_number(alone), 15);
-    let emitter = stage.board.move_to(2, 2000000);
+    let emitter = move_node(base.board, &mut volts, &mut totals, 2, 2000000);
     let other = emitter.answer;
     shown::line(b"node 2 lifted", b"", answer_number(other), 15);
-    let both = stage.board.move_all(&[1, 2000000, 2, 2000000]);
-    let together = both.answer;
-    shown::line(b"both lifted", b"", answer_number(together), 0);
+    lift_both(emitter.board, &mut volts, &mut totals);
 }
 
 // Two transistors listed into a buffer with no room.
@@ -161,14 +220,14 @@ fn list_into_three(b: Board, node: i64, count: i64, second: i64)
 
 // Who stands on node 3 of the stage, listed into buffers of several lengths.
 fn run_lists() {
-    let loaded = Board::fresh().load(b"a1", &records::paper());
-    let one = loaded.board.place(1, [2, 1, 1, 3, 3, 3, 0, -1, -1, -1, -1]);
-    let two = one.board.place(1, [1, 2, 2, 3, 3, 3, 0, -1, -1, -1, -1]);
-    list_into_none(two.board);
-    list_into_one(two.board);
-    list_into_two(two.board);
-    list_into_three(two.board, 3, 2, 3);
-    list_into_three(two.board, 32, 13, 7);
+    let mut volts = [0i64; Board::NODES];
+    let mut totals = [0i64; Board::NODES];
+    let stage = stage_on(&mut volts, &mut totals);
+    list_into_none(stage);
+    list_into_one(stage);
+    list_into_two(stage);
+    list_into_three(stage, 3, 2, 3);
+    list_into_three(stage, 32, 13, 7);
 }
 
 fn wide(x: u32) -> i64 {

@@ -34,7 +34,7 @@ fn turn_volts(pnp: bool, v: [u32; ROLES]) -> [u32; ROLES]
 }
 
 // The ticks of the branches, as they are or turned over.
-pub fn turn_ticks(pnp: bool, ticks: [i64; BRANCHES]) -> [i64; BRANCHES]
+fn turn_ticks(pnp: bool, ticks: [i64; BRANCHES]) -> [i64; BRANCHES]
     requires { ⌜ Turnable ticks ⌝ }
     ensures { λ r. ⌜ r ≡ map (turned pnp) ticks ⌝ }
 {

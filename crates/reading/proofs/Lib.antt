@@ -1,2 +1,3 @@
 pub mod Opens
 pub mod Whole
+pub mod Shows

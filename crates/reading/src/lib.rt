@@ -1,12 +1,16 @@
-// Reading what a transistor holds, on a board's arrays lent one by one.
+// Reading what a transistor holds, on a board's arrays lent one by one, and a node's numbers in the two slices.
 ghost use mathlib.Core.Path.{_≡_};
 ghost use Rattle.model.specs.Board.{Board};
 ghost use Rattle.model.specs.Model.{openedOf};
+ghost use Rattle.lending.specs.Rest.{Rest};
+ghost use Rattle.lending.specs.Lending.{showedLent};
+ghost use Rattle.lending.specs.inner.Lent.{stateWith};
 use model::Answer;
 use places::ALL_CURRENTS;
 use places::TRANSISTORS;
 use refusal::Refusal;
 use terms::BRANCHES;
+use totals::NODES;
 
 // The answer, and the currents beside it: all 0 beside a refusal.
 pub struct Reading {
@@ -35,4 +39,22 @@ pub fn read_currents(
         answer: Answer::Currents,
         ticks,
     }
+}
+
+// A node's voltage in microvolts and its total in ticks, as the slices have them: 13 for the slices, then for the node.
+pub fn read_node(volts: &[i64], totals: &[i64], node: i64) -> Answer
+    ensures { λ r. ⌜ ((b : Rest) → r ≡ showedLent (stateWith b (now (volts .entry)) (now (totals .entry))) node .answer) ⌝ }
+{
+    let kept = slices::keep_slices(volts, totals);
+    if !kept.good {
+        return Answer::Refused(Refusal::OutOfRange);
+    }
+    let n = given::node_of(node) as usize;
+    if NODES <= n {
+        return Answer::Refused(Refusal::OutOfRange);
+    }
+    let levels = kept.volts;
+    let v = volts::give_back(levels[n]);
+    let t = totals[n];
+    Answer::Node(v, t)
 }

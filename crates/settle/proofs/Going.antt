@@ -1,40 +1,45 @@
--- Going from place to place of a set: what the totals have gained, who overloads first, and what is held, once the places
--- below i are passed.
-use mathlib.Core.Path.{_≡_, refl, sym, ap, _∙_}
-use mathlib.Core.Bool.{Bool, true, false, cond}
+-- Going from place to place of a set: what has come and what has gone, who overloads first, and what is held, once the
+-- places below i are passed.
+use mathlib.Core.Path.{_≡_, refl, sym, ap, _∙_, subst}
+use mathlib.Core.Bool.{Bool, true, false, cond, not}
 use mathlib.Core.Logic.{_⊎_, inl, inr}
 use mathlib.Core.List.{List, map}
 use Prim.Native.Nat.{ℕ, zero, suc, _+_, _-_, _*_, _≤_, _<_, zero-le}
+use native.Mathlib.Nat.{suc-mul, mul-le-mul-right}
 use native.Mathlib.Numerals.{add-one}
 use native.Mathlib.Omega.{arith}
-use lib.ListN.{length, getD, List·getD-eq-default}
-use lib.IntN.{ℤ, pos, natAbs, _+ℤ_, +ℤ-idr, +ℤ-assoc}
+use lib.ListN.{length, getD, replicate, length-replicate, List·getD-eq-default}
+use lib.IntN.{ℤ, pos, natAbs, negℤ, _+ℤ_, _-ℤ_, +ℤ-idr, +ℤ-comm, negℤ-+ℤ}
 use Rattle.whole.specs.laws.Biased.{below-or-not}
 use Rattle.volts.specs.Volts.{givenBack}
 use Rattle.octave.specs.Table.{entries}
 use Rattle.scaling.specs.Scaled.{tickLimit}
 use Rattle.rows.specs.declared.Over.{Over}
 use Rattle.rows.specs.declared.Outcome.{Outcome}
-use Rattle.rows.specs.Outcome.{isOver}
 use Rattle.terms.specs.Rows.{branches}
 use Rattle.totals.specs.Gives.{nodesMost}
-use Rattle.totals.specs.Flow.{flow, ticksGive, sumBelow}
-use Rattle.totals.specs.inner.Sums.{More, Within, Room, Givable}
-use Rattle.totals.proofs.Amounts.{room-less, room-more}
+use Rattle.totals.specs.Flow.{flow, ticksGive, sumBelow, withMore}
+use Rattle.totals.specs.inner.Sums.{More, Within, Room, Wired, Givable}
+use Rattle.totals.specs.inner.Sizes.{flowMost, roomMost}
+use Rattle.totals.proofs.Integers.{abs-add, swap-inner}
 use Rattle.deck.specs.Stretch.{written}
-use Rattle.deck.specs.laws.Stretches.{length-stretch}
+use Rattle.deck.specs.laws.Stretches.{length-stretch, getD-none}
+use Rattle.deck.specs.laws.Ups.{up-same}
+use Rattle.slices.specs.declared.Stood.{Stood}
+use Rattle.slices.specs.Slices.{someOutside, changed, stoodUnless, stoodOf}
 use Rattle.flows.specs.Back.{ticksBack}
 use Rattle.flows.specs.inner.Workable.{Workable, Works, cardOf}
-use Rattle.flows.proofs.Currents.{ticks-within, ticks-count, takes-small}
+use Rattle.flows.proofs.Currents.{ticks-within, ticks-count, ticks-small-give}
 use Rattle.places.specs.Counts.{transistorsMost}
 use Rattle.places.specs.Sets.{member}
 use Rattle.places.specs.inner.Parts.{NextIn}
 use Rattle.settle.specs.declared.First.{First}
+use Rattle.settle.specs.declared.Judgement.{Judgement}
 use Rattle.settle.specs.Change.{changeBy, changes}
 use Rattle.settle.specs.First.{earlier, firstBelow, nobody}
 use Rattle.settle.specs.Renewed.{renewed}
-use Rattle.settle.specs.inner.Working.{cardAt, nodesAt, heldAt, Round, gained, overOf, newAt, firstSo, heldFrom}
-use Rattle.settle.specs.inner.Working.{Settling, Gone, Going, Settled, totalMost}
+use Rattle.settle.specs.inner.Working.{cardAt, nodesAt, heldAt, Round, gained, newAt, firstSo, heldFrom}
+use Rattle.settle.specs.inner.Working.{given, Sums, standing, isTaken, Settling, Gone, Going, Settled}
 use Rattle.settle.specs.laws.Renewals.{renewed-past}
 
 -- ---- sums and firsts over places that are passed over
@@ -68,34 +73,113 @@ reach {from = from} {next = next} h n = go (below-or-not next transistorsMost)
 
 -- ---- the places below i are passed, and i is one of the set or none is left
 
-module _ (r : Round) (currents l₀ : List ℤ) where
+-- what the places passed give
+module _ (r : Round) (each : ℕ → List ℤ) where
+  sums-none : Sums r each 0 (replicate nodesMost (pos 0))
+  unfolding given sumBelow
+  sums-none = record { long = length-replicate nodesMost (pos 0); at = λ n h. getD-none (pos 0) nodesMost n }
+
+  -- on to the next of the set
+  sums-on : (from i : ℕ) → from ≤ transistorsMost → NextIn (r .marked) from i → {l : List ℤ} → Sums r each from l →
+      Sums r each i l
+  unfolding given
+  sums-on from i h next s = record { long = s .long; at = λ n b. s .at n b ∙ sym (same n) }
+    where
+      sum : from + (i - from) ≡ i
+      sum = let e = reach h next in omega arith
+
+      same : (n : ℕ) → given r each i n ≡ given r each from n
+      same n =
+          rw (sym sum)
+          (sum-past _ from (i - from)
+          (λ j p q. ap (λ (t : Bool). cond t (ticksGive (nodesAt (r .nodes) j) (each j) n) (pos 0))
+          (next .between j p (rw sum at q))))
+
+  -- past a place of it
+  sums-more : {i : ℕ} → member (r .marked) i ≡ true → {l l′ : List ℤ} → Sums r each i l →
+      More nodesMost l l′ (ticksGive (nodesAt (r .nodes) i) (each i)) → Sums r each (i + 1) l′
+  unfolding given sumBelow
+  sums-more {i} m s more =
+      record {
+        long = more .long;
+        at =
+            λ n b. rw (add-one i, m)
+            (more .at n b ∙ ap (λ (z : ℤ). z +ℤ ticksGive (nodesAt (r .nodes) i) (each i) n) (s .at n b));
+      }
+
+  -- none is above what all places can give
+  module _ (small : (j : ℕ) → j < transistorsMost → member (r .marked) j ≡ true → Within tickLimit (each j)) where
+    given-small : (k n : ℕ) → k ≤ transistorsMost → natAbs (given r each k n) ≤ k * flowMost
+    unfolding given sumBelow
+    given-small zero n h = zero-le
+    given-small (suc k) n h =
+        let a = given-small k n (omega arith) in
+        let b = go (member (r .marked) k) refl in
+        let s = abs-add (given r each k n) (cond (member (r .marked) k) (ticksGive (nodesAt (r .nodes) k) (each k) n)
+        (pos 0)) in rw (suc-mul k flowMost) (omega arith)
+      where
+        go : (t : Bool) → member (r .marked) k ≡ t →
+            natAbs (cond t (ticksGive (nodesAt (r .nodes) k) (each k) n) (pos 0)) ≤ flowMost
+        go true e = ticks-small-give (nodesAt (r .nodes) k) (each k) (small k (omega arith) e) n
+        go false e = zero-le
+
+    sums-room : {k : ℕ} → k ≤ transistorsMost → {l : List ℤ} → Sums r each k l → Room nodesMost roomMost l
+    sums-room {k} h {l} s = record { long = s .long; within = λ n. go n (below-or-not n nodesMost) }
+      where
+        go : (n : ℕ) → (n < nodesMost) ⊎ (nodesMost ≤ n) → natAbs (getD l n (pos 0)) ≤ roomMost
+        go n (inl b) =
+            let a = given-small k n h in
+            let m = mul-le-mul-right flowMost h in rw (s .at n b) (omega arith)
+        go n (inr b) = rw (List·getD-eq-default l (pos 0) {n = n} (rw (s .long) b)) zero-le
+
+module _ (r : Round) (currents : List ℤ) where
+  -- what comes in less what goes out is what is gained, at one place and over all of them
+  difference-at : (k n : ℕ) (t : Bool) →
+      cond t (ticksGive (nodesAt (r .nodes) k) (newAt r k) n) (pos 0)
+      -ℤ cond t (ticksGive (nodesAt (r .nodes) k) (heldAt currents k) n) (pos 0)
+      ≡ cond t (changeBy (cardAt (r .deck) (r .seats) k) (nodesAt (r .nodes) k) (heldAt currents k)
+      (map givenBack (r .will)) n) (pos 0)
+  unfolding changeBy flow ticksBack
+  difference-at k n true =
+      +ℤ-comm (ticksGive (nodesAt (r .nodes) k) (newAt r k) n)
+      (negℤ (ticksGive (nodesAt (r .nodes) k) (heldAt currents k) n))
+  difference-at k n false = refl
+
+  difference : (k n : ℕ) → given r (newAt r) k n -ℤ given r (heldAt currents) k n ≡ gained r currents k n
+  unfolding given changes sumBelow
+  difference zero n = refl
+  difference (suc k) n =
+      ap (λ (z : ℤ). given r (newAt r) (suc k) n +ℤ z) (negℤ-+ℤ (given r (heldAt currents) k n) _)
+      ∙ swap-inner (given r (newAt r) k n) _ (negℤ (given r (heldAt currents) k n)) _
+      ∙ (λ j. difference k n j +ℤ difference-at k n (member (r .marked) k) j)
+
+  -- so the totals with the one and less the other are as they would stand
+  changed-is : (totals : List ℤ) {coming going : List ℤ} → Sums r (newAt r) transistorsMost coming →
+      Sums r (heldAt currents) transistorsMost going → changed totals coming going ≡ standing r currents totals
+  unfolding withMore
+  changed-is totals {coming} {going} c g =
+      up-same
+      (λ (n : ℕ). getD totals n (pos 0) +ℤ (getD coming n (pos 0) -ℤ getD going n (pos 0)))
+      (λ (n : ℕ). getD totals n (pos 0) +ℤ gained r currents transistorsMost n) nodesMost 0
+      (λ i h. let z : 0 + i ≡ i = omega arith in
+      rw z (ap (λ (x : ℤ). getD totals i (pos 0) +ℤ x) ((λ j. c .at i h j -ℤ g .at i h j) ∙ difference transistorsMost i)))
+
   -- from a place before on to the next of the set
-  on-to : (from i : ℕ) → from ≤ transistorsMost → NextIn (r .marked) from i → {l : List ℤ} {first : First} →
-      More nodesMost l₀ l (gained r currents from) → first ≡ firstSo r from → Gone r currents l₀ i l first
-  unfolding changes
-  on-to from i h next {l} {first} more told =
+  on-to : (from i : ℕ) → from ≤ transistorsMost → NextIn (r .marked) from i → {coming going : List ℤ} {first : First} →
+      Sums r (newAt r) from coming → Sums r (heldAt currents) from going → first ≡ firstSo r from →
+      Gone r currents i coming going first
+  on-to from i h next comes goes told =
       record {
         most = next .most;
         is = next .is;
-        gains = record {
-          long = more .long;
-          at = λ n b. more .at n b ∙ ap (λ (z : ℤ). getD l₀ n (pos 0) +ℤ z) (same n);
-        };
+        comes = sums-on r (newAt r) from i h next comes;
+        goes = sums-on r (heldAt currents) from i h next goes;
         first-is = told ∙ sym (rw (sym sum) (first-past (member (r .marked)) _ _ from (i - from) (λ j p q. next .between j p
             (rw sum at q))));
       }
     where
       sum : from + (i - from) ≡ i
       sum = let e = reach h next in omega arith
-
-      same : (n : ℕ) → gained r currents from n ≡ gained r currents i n
-      same n =
-          sym
-          (rw (sym sum)
-          (sum-past _ from (i - from)
-          (λ j p q. ap (λ (t : Bool). cond t (changeBy (cardAt (r .deck) (r .seats) j) (nodesAt (r .nodes) j)
-          (heldAt currents j) (map givenBack (r .will)) n) (pos 0))
-          (next .between j p (rw sum at q)))))
 
   -- and what is held from there on
   held-past : (from i : ℕ) → from ≤ transistorsMost → NextIn (r .marked) from i →
@@ -112,139 +196,140 @@ module _ (r : Round) (currents l₀ : List ℤ) where
 
   -- ---- the first place
 
-  gone-none : length l₀ ≡ nodesMost → (i : ℕ) → NextIn (r .marked) 0 i → Gone r currents l₀ i l₀ nobody
-  unfolding changes sumBelow firstBelow
-  gone-none h i next =
-      on-to 0 i zero-le next (record { long = h; at = λ n b. sym (+ℤ-idr (getD l₀ n (pos 0))) }) refl
+  gone-none : (i : ℕ) → NextIn (r .marked) 0 i →
+      Gone r currents i (replicate nodesMost (pos 0)) (replicate nodesMost (pos 0)) nobody
+  unfolding firstBelow
+  gone-none i next = on-to 0 i zero-le next (sums-none r (newAt r)) (sums-none r (heldAt currents)) refl
 
-  pub begins : {table : List ℕ} → table ≡ entries → Settling r currents l₀ → (i : ℕ) → NextIn (r .marked) 0 i →
-      Going r table currents l₀ i l₀ nobody
-  begins t s i next = record { table-is = t; settling = s; gone = gone-none (s .long) i next }
+  pub begins : {table : List ℕ} {totals : List ℤ} → table ≡ entries → Settling r currents totals → (i : ℕ) →
+      NextIn (r .marked) 0 i →
+      Going r table currents totals i (replicate nodesMost (pos 0)) (replicate nodesMost (pos 0)) nobody
+  begins t s i next = record { table-is = t; settling = s; gone = gone-none i next }
 
-  pub held-start : (i : ℕ) → NextIn (r .marked) 0 i → {first : First} {l held : List ℤ} →
-      Settled r currents l₀ i first l held → Settled r currents l₀ 0 first l held
-  held-start i next {first} s =
+  pub held-start : (i : ℕ) → NextIn (r .marked) 0 i → {totals : List ℤ} {told : Judgement} {after held : List ℤ} →
+      Settled r currents totals i told after held → Settled r currents totals 0 told after held
+  held-start i next {told = told} s =
       record {
         first-is = s .first-is;
-        gains = s .gains;
-        held = s .held ∙ ap (cond (isOver (first .over)) currents) (sym (held-past 0 i zero-le next));
+        fits-is = s .fits-is;
+        next-is = s .next-is;
+        held = s .held ∙ ap (λ (l : List ℤ). cond (isTaken told) l currents) (sym (held-past 0 i zero-le next));
       }
 
   -- ---- a place worked
 
-  module _ (s : Settling r currents l₀) where
-    gone-room : {i : ℕ} {l : List ℤ} {first : First} → Gone r currents l₀ i l first → Room nodesMost totalMost l
-    gone-room {i} {l} g = record { long = g .gains .long; within = λ n. go n (below-or-not n nodesMost) }
-      where
-        go : (n : ℕ) → (n < nodesMost) ⊎ (nodesMost ≤ n) → natAbs (getD l n (pos 0)) ≤ totalMost
-        go n (inl b) = rw (g .gains .at n b) (s .room i n (g .most) b)
-        go n (inr b) = rw (List·getD-eq-default l (pos 0) {n = n} (rw (g .gains .long) b)) zero-le
+  module _ {totals : List ℤ} (s : Settling r currents totals) {i : ℕ} {coming going : List ℤ} {first : First}
+      (g : Gone r currents i coming going first) (h : i < transistorsMost) {on : List ℕ}
+      (o : on ≡ nodesAt (r .nodes) i) where
+    -- what the place i asks of working it
+    pub gone-works : (table : List ℕ) → table ≡ entries → Workable table (r .deck) (getD (r .seats) i 0) on (r .will)
+    gone-works table t =
+        record { table-is = t; able = rw o (s .able i h (g .is h)); volts-are = s .will-are }
 
-    module _ {i : ℕ} {l : List ℤ} {first : First} (g : Gone r currents l₀ i l first) (h : i < transistorsMost)
-        {on : List ℕ} (o : on ≡ nodesAt (r .nodes) i) where
-      -- what the place i asks of working it
-      pub gone-works : (table : List ℕ) → table ≡ entries → Workable table (r .deck) (getD (r .seats) i 0) on (r .will)
-      gone-works table t =
-          record { table-is = t; able = rw o (s .able i h (g .is h)); volts-are = s .will-are }
+    wired : Wired nodesMost on
+    wired = record { wired = rw o (s .able i h (g .is h) .wired) }
 
-      module _ {old : List ℤ} (e : old ≡ heldAt currents i) where
-        small : Within tickLimit old
-        small = rw e (s .small i h (g .is h))
-
-        -- of taking out what it holds
-        pub gone-takes : Givable l on old × (length old ≡ branches)
-        gone-takes = (
-          record {
-            wired = record { wired = rw o (s .able i h (g .is h) .wired) };
-            room = room-less (omega arith) (gone-room g);
-            within = small;
-          },
-          rw e (length-stretch (pos 0) currents (branches * i) branches),
-        )
-
-        module _ {l′ : List ℤ} (out : More nodesMost l l′ (ticksBack on old)) {w : Outcome}
-            (works : Works (cardOf (r .deck) (getD (r .seats) i 0)) on (map givenBack (r .will)) w) where
-          -- of putting its new currents in
-          pub gone-puts : Givable l′ on (w .ticks) × (length (w .ticks) ≡ branches)
-          gone-puts = (
-            record {
-              wired = record { wired = rw o (s .able i h (g .is h) .wired) };
-              room = room-less (omega arith) (room-more (gone-room g) out (takes-small on old small));
-              within = rw (works .ticks) (ticks-within _ on (map givenBack (r .will)));
-            },
-            rw (works .ticks) (ticks-count _ on (map givenBack (r .will))),
-          )
-
-          pub gone-more : {l″ : List ℤ} → More nodesMost l′ l″ (ticksGive on (w .ticks)) → {found : First} →
-              found ≡ earlier first (getD (r .issues) i 0) (w .over) → (next : ℕ) → NextIn (r .marked) (i + 1) next →
-              Gone r currents l₀ next l″ found
-          unfolding changes sumBelow firstBelow changeBy flow
-          gone-more {l″} into {found} f next n =
-              on-to (i + 1) next (omega arith) n
-              (record {
-                long = into .long;
-                at =
-                    λ m b. rw (add-one i, g .is h)
-                    (into .at m b ∙ ap (λ (z : ℤ). z +ℤ ticksGive on (w .ticks) m)
-                    (out .at m b ∙ ap (λ (z : ℤ). z +ℤ ticksBack on old m) (g .gains .at m b))
-                    ∙ rw (works .ticks, o, e)
-                    (regroup (getD l₀ m (pos 0)) (gained r currents i m)
-                    (ticksBack (nodesAt (r .nodes) i) (heldAt currents i) m)
-                    (ticksGive (nodesAt (r .nodes) i) (newAt r i) m)));
-              })
-              (rw (add-one i, g .is h) (f ∙ rw (g .first-is, works .over, o)))
-            where
-              regroup : (a b c e : ℤ) → ((a +ℤ b) +ℤ c) +ℤ e ≡ a +ℤ (b +ℤ (c +ℤ e))
-              regroup a b c e = simp +ℤ-assoc
-
-  -- so that going on from there is going on from the next place
-  pub goes-on : {table : List ℕ} {i : ℕ} {l : List ℤ} {first : First} → Going r table currents l₀ i l first →
-      i < transistorsMost → {on : List ℕ} → on ≡ nodesAt (r .nodes) i → {old : List ℤ} → old ≡ heldAt currents i →
-      {l′ : List ℤ} → More nodesMost l l′ (ticksBack on old) → {w : Outcome} →
-      Works (cardOf (r .deck) (getD (r .seats) i 0)) on (map givenBack (r .will)) w → {l″ : List ℤ} →
-      More nodesMost l′ l″ (ticksGive on (w .ticks)) → {found : First} →
-      found ≡ earlier first (getD (r .issues) i 0) (w .over) → (next : ℕ) → NextIn (r .marked) (i + 1) next →
-      Going r table currents l₀ next l″ found
-  goes-on g h o e out works into f next n =
+    -- of letting go what it holds
+    pub gone-goes : {old : List ℤ} → old ≡ heldAt currents i → Givable going on old × (length old ≡ branches)
+    gone-goes e = (
       record {
-        table-is = g .table-is;
-        settling = g .settling;
-        gone = gone-more (g .settling) (g .gone) h o e out works into f next n;
+        wired = wired;
+        room = sums-room r (heldAt currents) (s .small) (g .most) (g .goes);
+        within = rw e (s .small i h (g .is h));
+      },
+      rw e (length-stretch (pos 0) currents (branches * i) branches),
+    )
+
+    -- and of letting its new currents come
+    pub gone-comes : {w : Outcome} → Works (cardOf (r .deck) (getD (r .seats) i 0)) on (map givenBack (r .will)) w →
+        Givable coming on (w .ticks) × (length (w .ticks) ≡ branches)
+    gone-comes works = (
+      record {
+        wired = wired;
+        room = sums-room r (newAt r) (λ j q m. ticks-within _ _ _) (g .most) (g .comes);
+        within = rw (works .ticks) (ticks-within _ on (map givenBack (r .will)));
+      },
+      rw (works .ticks) (ticks-count _ on (map givenBack (r .will))),
+    )
+
+  -- going on from there is going on from the next place
+  pub goes-on : {table : List ℕ} {totals : List ℤ} {i : ℕ} {coming going : List ℤ} {first : First} →
+      Going r table currents totals i coming going first → i < transistorsMost → {on : List ℕ} →
+      on ≡ nodesAt (r .nodes) i → {old : List ℤ} → old ≡ heldAt currents i → {going′ : List ℤ} →
+      More nodesMost going going′ (ticksGive on old) → {w : Outcome} →
+      Works (cardOf (r .deck) (getD (r .seats) i 0)) on (map givenBack (r .will)) w → {coming′ : List ℤ} →
+      More nodesMost coming coming′ (ticksGive on (w .ticks)) → {found : First} →
+      found ≡ earlier first (getD (r .issues) i 0) (w .over) → (next : ℕ) → NextIn (r .marked) (i + 1) next →
+      Going r table currents totals next coming′ going′ found
+  unfolding firstBelow
+  goes-on {i = i} {coming = coming} {going = going} {first = first} q h o e out {w} works into f next n =
+      record {
+        table-is = q .table-is;
+        settling = q .settling;
+        gone =
+            on-to (i + 1) next (omega arith) n
+            (sums-more r (newAt r) (g .is h) (g .comes) (rw (← new, ← o) into))
+            (sums-more r (heldAt currents) (g .is h) (g .goes) (rw (← e, ← o) out))
+            (rw (add-one i, g .is h) (f ∙ rw (g .first-is, works .over, o)));
       }
+    where
+      g : Gone r currents i coming going first
+      g = q .gone
+
+      new : w .ticks ≡ newAt r i
+      new = works .ticks ∙ rw o
 
   -- ---- none is left, and on the way back
 
-  pub gone-all : {i : ℕ} {l : List ℤ} {first : First} → Gone r currents l₀ i l first → transistorsMost ≤ i →
-      Settled r currents l₀ i first l currents
+  -- what standing tells
+  told-by : (after : List ℤ) (out : Bool) →
+      (stoodUnless out after .good ≡ not out)
+      × (stoodUnless out after .totals ≡ cond (stoodUnless out after .good) after (replicate nodesMost (pos 0)))
+  told-by after true = (refl, refl)
+  told-by after false = (refl, refl)
+
+  pub gone-all : {totals : List ℤ} {i : ℕ} {coming going : List ℤ} {first : First} →
+      Gone r currents i coming going first → transistorsMost ≤ i → {s : Stood} → s ≡ stoodOf totals coming going →
+      Settled r currents totals i (record { first = first; fits = s .good }) (s .totals) currents
   unfolding renewed
-  gone-all {i} {l} {first} g h =
+  gone-all {totals} {i} {coming} {going} {first} g h {s} stands =
       let m = g .most in
       let e : i ≡ transistorsMost = omega arith in
+      let after = standing r currents totals in
+      let is : s ≡ stoodUnless (someOutside after) after =
+      stands
+      ∙ ap (λ (l : List ℤ). stoodUnless (someOutside l) l)
+      (changed-is totals (rw e at (g .comes)) (rw e at (g .goes))) in
+      let tells = told-by after (someOutside after) in
       record {
         first-is = rw e at (g .first-is);
-        gains = rw e at (g .gains);
-        held = rw e (sym (either (isOver (first .over))));
+        fits-is = ap (λ (x : Stood). x .good) is ∙ tells .0;
+        next-is =
+            subst (λ (x : Stood). x .totals ≡ cond (x .good) after (replicate nodesMost (pos 0))) (sym is) (tells .1);
+        held = rw e (sym (either (isTaken (record { first = first; fits = s .good }))));
       }
     where
       either : (t : Bool) → cond t currents currents ≡ currents
       either true = refl
       either false = refl
 
-  module _ {i next : ℕ} (h : i < transistorsMost) (n : NextIn (r .marked) (i + 1) next) {first : First}
-      {l held : List ℤ} (s : Settled r currents l₀ next first l held) where
-    -- somebody overloads: what was held is held on
-    pub back-over : isOver (first .over) ≡ true → Settled r currents l₀ i first l held
-    back-over e = record { first-is = s .first-is; gains = s .gains; held = s .held ∙ rw e }
+  module _ {i next : ℕ} (h : i < transistorsMost) (n : NextIn (r .marked) (i + 1) next) {totals : List ℤ}
+      {told : Judgement} {after held : List ℤ} (s : Settled r currents totals next told after held) where
+    -- it is refused: what was held is held on
+    pub back-left : isTaken told ≡ false → Settled r currents totals i told after held
+    back-left e =
+        record { first-is = s .first-is; fits-is = s .fits-is; next-is = s .next-is; held = s .held ∙ rw e }
 
-    pub back-held : isOver (first .over) ≡ false → member (r .marked) i ≡ true → {on : List ℕ} →
+    pub back-held : isTaken told ≡ true → member (r .marked) i ≡ true → {on : List ℕ} →
         on ≡ nodesAt (r .nodes) i → {w : Outcome} →
         Works (cardOf (r .deck) (getD (r .seats) i 0)) on (map givenBack (r .will)) w →
-        Settled r currents l₀ i first l (written (pos 0) held (branches * i) (w .ticks) branches)
+        Settled r currents totals i told after (written (pos 0) held (branches * i) (w .ticks) branches)
     unfolding renewed
     back-held e m o {w} works =
         record {
           first-is = s .first-is;
-          gains = s .gains;
+          fits-is = s .fits-is;
+          next-is = s .next-is;
           held = rw (e, one, m, new, rest);
         }
       where

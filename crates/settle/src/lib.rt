@@ -1,14 +1,11 @@
-// The places of a set brought to new voltages: what the totals gain, what is held then, and the first of them that overloads.
+// The places of a set brought to new voltages: what comes into the totals and what goes out, how they would stand, what is held then, and the first of the places that overloads.
 ghost use mathlib.Core.Path.{_≡_};
-ghost use mathlib.Core.List.{List};
-ghost use lib.IntN.{ℤ};
 ghost use Rattle.flows.specs.inner.Workable.{deckOf};
 ghost use Rattle.settle.specs.First.{earlier};
-ghost use Rattle.settle.specs.inner.Working.{roundOf, Settling, Going, Settled};
+ghost use Rattle.settle.specs.inner.Working.{roundOf, isTaken, Settling, Going, Settled};
 pub use flows::is_over;
 pub use flows::put_in;
 pub use flows::refusal_of;
-pub use flows::take_out;
 pub use flows::work;
 use octave::Table;
 use places::ALL_CURRENTS;
@@ -21,6 +18,12 @@ use totals::NODES;
 pub struct First {
     pub issue: u32,
     pub over: Over,
+}
+
+// That, and whether every total stays within 64 bits.
+pub struct Judgement {
+    pub first: First,
+    pub fits: bool,
 }
 
 // Of one that was found and another, the one of the lower issue number that overloads.
@@ -39,10 +42,25 @@ fn earlier_of(a: First, issue: u32, over: Over) -> First
     a
 }
 
-// Works the place i of the set and then those after it. A place's new currents are held on the way back, when nobody has turned out to overload, so that nothing is to be undone.
+// Nobody overloads, and every total stays in range.
+pub fn is_taken(j: Judgement) -> bool
+    ensures { λ r. ⌜ r ≡ isTaken j ⌝ }
+{
+    let first = j.first;
+    let over = first.over;
+    if is_over(over) {
+        return false;
+    }
+    j.fits
+}
+
+// Works the place i of the set and then those after it; after the last, the totals are judged as they would stand. A place's new currents are held on the way back, when nothing has turned out to be refused, so that nothing is to be undone.
 fn settle_from(
     currents: &mut [i64; ALL_CURRENTS],
-    l: &mut [i64; NODES],
+    coming: &mut [i64; NODES],
+    going: &mut [i64; NODES],
+    next: &mut [i64; NODES],
+    totals: &[i64],
     table: &Table,
     numbers: &[u32; deck::ALL_NUMBERS],
     powers: &[u16; deck::ALL_POWERS],
@@ -55,27 +73,36 @@ fn settle_from(
     set: u64,
     i: usize,
     first: First,
-) -> First
-    requires { ⌜ ((l₀ : List ℤ) × Going (roundOf (deckOf (now numbers) (now powers) (now ticks) (now switches)) (now issues) (now seats) (now nodes) set (now will)) (now table) (now currents) l₀ i (now l) first) ⌝ }
-    ensures { λ r. ⌜ ((l₀ : List ℤ) → Going (roundOf (deckOf (now (numbers .entry)) (now (powers .entry)) (now (ticks .entry)) (now (switches .entry))) (now (issues .entry)) (now (seats .entry)) (now (nodes .entry)) set (now (will .entry))) (now (table .entry)) (now (currents .entry)) l₀ i (now (l .entry)) first → Settled (roundOf (deckOf (now (numbers .entry)) (now (powers .entry)) (now (ticks .entry)) (now (switches .entry))) (now (issues .entry)) (now (seats .entry)) (now (nodes .entry)) set (now (will .entry))) (now (currents .entry)) l₀ i r (now (l .exit)) (now (currents .exit))) ⌝ }
+) -> Judgement
+    requires { ⌜ Going (roundOf (deckOf (now numbers) (now powers) (now ticks) (now switches)) (now issues) (now seats) (now nodes) set (now will)) (now table) (now currents) (now totals) i (now coming) (now going) first ⌝ }
+    ensures { λ r. ⌜ Settled (roundOf (deckOf (now (numbers .entry)) (now (powers .entry)) (now (ticks .entry)) (now (switches .entry))) (now (issues .entry)) (now (seats .entry)) (now (nodes .entry)) set (now (will .entry))) (now (currents .entry)) (now (totals .entry)) i r (now (next .exit)) (now (currents .exit)) ⌝ }
 {
     if TRANSISTORS <= i {
-        return first;
+        let stood = slices::stand_all(totals, coming, going);
+        let all = stood.totals;
+        *next = all;
+        return Judgement {
+            first,
+            fits: stood.good,
+        };
     }
     let s = seats[i] as usize;
     let on = sets::nodes_at(nodes, i);
     let old = sets::currents_at(currents, i);
     let o = work(table, numbers, powers, ticks, switches, s, &on, will);
     let new = o.ticks;
-    take_out(l, &on, &old);
-    put_in(l, &on, &new);
+    put_in(going, &on, &old);
+    put_in(coming, &on, &new);
     let issue = issues[i];
     let over = o.over;
     let found = earlier_of(first, issue, over);
-    let next = sets::next_in(set, i + 1);
+    let after = sets::next_in(set, i + 1);
     let last = settle_from(
         currents,
-        l,
+        coming,
+        going,
+        next,
+        totals,
         table,
         numbers,
         powers,
@@ -86,20 +113,20 @@ fn settle_from(
         nodes,
         will,
         set,
-        next,
+        after,
         found,
     );
-    let worst = last.over;
-    if !is_over(worst) {
+    if is_taken(last) {
         sets::put_currents(currents, i, &new);
     }
     last
 }
 
-// Brings the places of the set to the new voltages: each gives the totals what it will have in place of what it holds, and holds that. Tells the first of them that overloads then; where one does, what was held is held on.
+// Brings the places of the set to the new voltages: at their nodes what they hold goes out of the totals and what they will have comes in, and that is held then. Tells the first of them that overloads then, and whether every total as it would stand is in range; where one overloads or a total is not, what was held is held on. The totals as they would stand are written to `next`, and those lent are left.
 pub fn settle(
     currents: &mut [i64; ALL_CURRENTS],
-    l: &mut [i64; NODES],
+    next: &mut [i64; NODES],
+    totals: &[i64],
     numbers: &[u32; deck::ALL_NUMBERS],
     powers: &[u16; deck::ALL_POWERS],
     ticks: &[u64; deck::ALL_TICKS],
@@ -109,11 +136,14 @@ pub fn settle(
     nodes: &[u8; ALL_NODES],
     will: &[u32; NODES],
     set: u64,
-) -> First
-    requires { ⌜ Settling (roundOf (deckOf (now numbers) (now powers) (now ticks) (now switches)) (now issues) (now seats) (now nodes) set (now will)) (now currents) (now l) ⌝ }
-    ensures { λ r. ⌜ Settled (roundOf (deckOf (now (numbers .entry)) (now (powers .entry)) (now (ticks .entry)) (now (switches .entry))) (now (issues .entry)) (now (seats .entry)) (now (nodes .entry)) set (now (will .entry))) (now (currents .entry)) (now (l .entry)) 0 r (now (l .exit)) (now (currents .exit)) ⌝ }
+) -> Judgement
+    requires { ⌜ Settling (roundOf (deckOf (now numbers) (now powers) (now ticks) (now switches)) (now issues) (now seats) (now nodes) set (now will)) (now currents) (now totals) ⌝ }
+    ensures { λ r. ⌜ Settled (roundOf (deckOf (now (numbers .entry)) (now (powers .entry)) (now (ticks .entry)) (now (switches .entry))) (now (issues .entry)) (now (seats .entry)) (now (nodes .entry)) set (now (will .entry))) (now (currents .entry)) (now (totals .entry)) 0 r (now (next .exit)) (now (currents .exit)) ⌝ }
 {
-    let table = octave::table();
+    let mut table = [0u32; octave::ENTRIES];
+    octave::lay_table(&mut table);
+    let mut coming = [0i64; NODES];
+    let mut going = [0i64; NODES];
     let first = First {
         issue: 0,
         over: Over::Within,
@@ -121,7 +151,10 @@ pub fn settle(
     let i = sets::next_in(set, 0);
     settle_from(
         currents,
-        l,
+        &mut coming,
+        &mut going,
+        next,
+        totals,
         &table,
         numbers,
         powers,

@@ -8,7 +8,7 @@ use native.Mathlib.Numerals.{add-one}
 use native.Mathlib.Omega.{arith}
 use lib.ListN.{length, drop, getD, drop-of-length-le}
 use lib.Seq.{drop-cons}
-use Rattle.spelling.specs.Number.{isDigit, digitOf, allDigits, decimalFrom, firstBeyond}
+use Rattle.spelling.specs.Number.{isDigit, digitOf, allDigits, decimalFrom, firstPast}
 
 -- the byte at i and those after it
 pub split : (s : List ℕ) (i : ℕ) → i < length s → drop i s ≡ getD s i 0 ∷ drop (i + 1) s
@@ -45,36 +45,36 @@ unfolding decimalFrom
 grows x [] = omega arith
 grows x (b ∷ l) = let h = grows (10 * x + digitOf b) l in omega arith
 
-held-on : (x : ℕ) (l : List ℕ) → min (decimalFrom x l) firstBeyond ≡ min (decimalFrom (min x firstBeyond) l) firstBeyond
-held-on x l = by (decLt firstBeyond x)
+held-on : (x : ℕ) (l : List ℕ) → min (decimalFrom x l) firstPast ≡ min (decimalFrom (min x firstPast) l) firstPast
+held-on x l = by (decLt firstPast x)
   where
-    by : Dec (firstBeyond < x) → min (decimalFrom x l) firstBeyond ≡ min (decimalFrom (min x firstBeyond) l) firstBeyond
-    by (yes h) = omega (arith, grows x l, grows (min x firstBeyond) l)
-    by (no h) = let e : min x firstBeyond ≡ x = omega arith in rw e
+    by : Dec (firstPast < x) → min (decimalFrom x l) firstPast ≡ min (decimalFrom (min x firstPast) l) firstPast
+    by (yes h) = omega (arith, grows x l, grows (min x firstPast) l)
+    by (no h) = let e : min x firstPast ≡ x = omega arith in rw e
 
 pub record Value (s : List ℕ) (i x : ℕ) : Type 0 where
   pub within : i ≤ length s
-  pub so-far : min (decimalFrom 0 s) firstBeyond ≡ min (decimalFrom x (drop i s)) firstBeyond
-  pub held : x ≤ firstBeyond
+  pub so-far : min (decimalFrom 0 s) firstPast ≡ min (decimalFrom x (drop i s)) firstPast
+  pub held : x ≤ firstPast
 
 module _ {s : List ℕ} {i x : ℕ} (v : Value s i x) where
-  pub value-on : i < length s → (d y : ℕ) → d ≡ digitOf (getD s i 0) → y ≡ min (10 * x + d) firstBeyond
+  pub value-on : i < length s → (d y : ℕ) → d ≡ digitOf (getD s i 0) → y ≡ min (10 * x + d) firstPast
       → Value s (i + 1) y
   unfolding decimalFrom
   value-on h d y e f =
-      let g : min (decimalFrom 0 s) firstBeyond ≡ min (decimalFrom (10 * x + d) (drop (i + 1) s)) firstBeyond =
-      v .so-far ∙ ap (λ (l : List ℕ). min (decimalFrom x l) firstBeyond) (split s i h)
-      ∙ ap (λ (z : ℕ). min (decimalFrom (10 * x + z) (drop (i + 1) s)) firstBeyond) (sym e) in record {
+      let g : min (decimalFrom 0 s) firstPast ≡ min (decimalFrom (10 * x + d) (drop (i + 1) s)) firstPast =
+      v .so-far ∙ ap (λ (l : List ℕ). min (decimalFrom x l) firstPast) (split s i h)
+      ∙ ap (λ (z : ℕ). min (decimalFrom (10 * x + z) (drop (i + 1) s)) firstPast) (sym e) in record {
         within = omega arith;
         so-far =
             g ∙ held-on (10 * x + d) (drop (i + 1) s) ∙ ap
-            (λ (z : ℕ). min (decimalFrom z (drop (i + 1) s)) firstBeyond) (sym f);
+            (λ (z : ℕ). min (decimalFrom z (drop (i + 1) s)) firstPast) (sym f);
         held = omega arith;
       }
 
-  pub value-end : length s ≤ i → x ≡ min (decimalFrom 0 s) firstBeyond
+  pub value-end : length s ≤ i → x ≡ min (decimalFrom 0 s) firstPast
   unfolding decimalFrom
   value-end h =
-      let g : min (decimalFrom 0 s) firstBeyond ≡ min x firstBeyond =
-      v .so-far ∙ ap (λ (l : List ℕ). min (decimalFrom x l) firstBeyond) (none-left s i h) in
+      let g : min (decimalFrom 0 s) firstPast ≡ min x firstPast =
+      v .so-far ∙ ap (λ (l : List ℕ). min (decimalFrom x l) firstPast) (none-left s i h) in
       let b = v .held in omega arith

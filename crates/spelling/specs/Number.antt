@@ -30,6 +30,15 @@ decimalValue l = decimalFrom 0 l
 abbrev pub firstBeyond : ℕ
 firstBeyond = 2 ^ 63
 
+-- and the first that none has
+abbrev pub firstPast : ℕ
+firstPast = firstBeyond + 1
+
+-- whether n, or -n, is a signed number of 64 bits
+abbrev pub withinEnds : Bool → ℕ → Bool
+withinEnds false n = ltb n firstBeyond
+withinEnds true n = leb n firstBeyond
+
 -- the signed number of 64 bits nearest to n, or to -n: itself, unless it is beyond them. The two ends, -2^63 and 2^63
 -- - 1, are no card, transistor,
 -- node or voltage, so that a number beyond them is refused as they are.
@@ -51,3 +60,11 @@ parsedAfter false w = parsedWith false w
 
 unfoldable pub parsedOf : List ℕ → Parsed
 parsedOf w = parsedAfter (eqb (getD w 0 0) 45) w
+
+-- the number that a word of digits spells is one of 64 bits
+abbrev pub fitsAfter : Bool → List ℕ → Bool
+fitsAfter true w = withinEnds true (decimalValue (drop 1 w))
+fitsAfter false w = withinEnds false (decimalValue w)
+
+unfoldable pub fitsOf : List ℕ → Bool
+fitsOf w = fitsAfter (eqb (getD w 0 0) 45) w

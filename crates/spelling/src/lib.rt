@@ -1,6 +1,6 @@
 // The number that a word spells in decimal digits. The word is lent.
 ghost use mathlib.Core.Path.{_≡_};
-ghost use Rattle.spelling.specs.Number.{parsedOf};
+ghost use Rattle.spelling.specs.Number.{parsedOf, fitsOf};
 
 mod numeral; // numeral.rt: a decimal numeral read
 
@@ -21,5 +21,19 @@ pub fn number(word: &[u8]) -> Parsed
         numeral::read(&word[1..], true)
     } else {
         numeral::read(word, false)
+    }
+}
+
+// Whether the number that a word of digits spells is one of 64 bits, and not only answered by the nearest.
+pub fn fits(word: &[u8]) -> bool
+    ensures { λ r. ⌜ r ≡ fitsOf (now (word .entry)) ⌝ }
+{
+    if word.len() == 0 {
+        return true;
+    }
+    if word[0] == b'-' {
+        numeral::is_within(&word[1..], true)
+    } else {
+        numeral::is_within(word, false)
     }
 }

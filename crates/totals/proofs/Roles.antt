@@ -8,7 +8,7 @@ use native.Mathlib.Nat.{le-of-eq}
 use native.Mathlib.Omega.{arith}
 use lib.Dec.{eqb, lit<}
 use lib.ListN.{length, getD, replicate, length-map}
-use lib.IntN.{ℤ, pos, negℤ, _+ℤ_, _-ℤ_, +ℤ-idl, +ℤ-idr, +ℤ-assoc, +ℤ-comm, negℤ-+ℤ, negℤ-negℤ}
+use lib.IntN.{ℤ, pos, negℤ, _+ℤ_, +ℤ-idl, +ℤ-idr, +ℤ-assoc, negℤ-+ℤ}
 use borrow.Author.Tests.{eqb-true, eqb-false, ne-eqb}
 use Rattle.terms.specs.Rows.{Role, E1, B1, B2, C1, C2, C4, S, E, B, C, C3, Row, roleIndex, roles, branches}
 use Rattle.scaling.specs.Scaled.{tickLimit}
@@ -16,7 +16,6 @@ use Rattle.terms.specs.Ends.{fromsOf, tosOf}
 use Rattle.totals.specs.Gives.{nodesMost, atNode, rowsGive}
 use Rattle.totals.specs.inner.Sums.{More, Within, Room, Wired, Givable, ends, endsGive, spread, rolesGive}
 use Rattle.totals.specs.inner.Sizes.{flowMost, roomMost}
-use Rattle.polarity.proofs.Laws.{negated-at}
 use Rattle.totals.proofs.Lists.{getD-map}
 use Rattle.totals.proofs.Integers.{turned, swap-inner}
 use Rattle.totals.proofs.Amounts.{room-more, ends-small}
@@ -103,41 +102,6 @@ module _ (nodes : List ℕ) (n : ℕ) where
 
 -- ---- the branches by their nodes
 
--- a branch turned about takes what it gave
-turned-ends : (a b : ℤ) → b -ℤ a ≡ negℤ (a -ℤ b)
-turned-ends a b = +ℤ-comm b (negℤ a) ∙ ap (λ (z : ℤ). negℤ a +ℤ z) (sym (negℤ-negℤ b)) ∙ sym (negℤ-+ℤ a (negℤ b))
-
-ends-turned : (froms tos : List ℕ) (ticks : List ℤ) (k n : ℕ) →
-    endsGive tos froms ticks k n ≡ negℤ (endsGive froms tos ticks k n)
-unfolding endsGive
-ends-turned froms tos ticks zero n = refl
-ends-turned froms tos ticks (suc k) n =
-    let x = getD ticks k (pos 0) in
-    ap (λ (z : ℤ). z +ℤ ends (getD tos k 0) (getD froms k 0) x n) (ends-turned froms tos ticks k n)
-    ∙ ap (λ (z : ℤ). negℤ (endsGive froms tos ticks k n) +ℤ z)
-    (turned-ends (atNode (getD froms k 0) n x) (atNode (getD tos k 0) n x))
-    ∙ sym (negℤ-+ℤ (endsGive froms tos ticks k n) (ends (getD froms k 0) (getD tos k 0) x n))
-
--- and so does one of the negated ticks
-ends-less : (froms tos : List ℕ) (ticks : List ℤ) (k n : ℕ) →
-    endsGive froms tos (map negℤ ticks) k n ≡ negℤ (endsGive froms tos ticks k n)
-unfolding endsGive
-ends-less froms tos ticks zero n = refl
-ends-less froms tos ticks (suc k) n =
-    let x = getD ticks k (pos 0) in
-    let f = getD froms k 0 in
-    let t = getD tos k 0 in
-    rw (ends-less froms tos ticks k n, negated-at ticks k, turned (eqb f n) x, turned (eqb t n) x)
-    (ap (λ (z : ℤ). negℤ (endsGive froms tos ticks k n) +ℤ z) (sym (negℤ-+ℤ (atNode f n x) (negℤ (atNode t n x))))
-    ∙ sym (negℤ-+ℤ (endsGive froms tos ticks k n) (ends f t x n)))
-
--- so that the negated ticks one way are the ticks the other way
-pub gives-turned : (nodes froms tos : List ℕ) (ticks : List ℤ) (n : ℕ) →
-    rolesGive nodes froms tos (map negℤ ticks) n ≡ rolesGive nodes tos froms ticks n
-gives-turned nodes froms tos ticks n =
-    spread-same nodes n _ _ roles
-    (λ r h. ends-less froms tos ticks branches r ∙ sym (ends-turned froms tos ticks branches r))
-
 -- the first branch before the others
 ends-first : (f t : ℕ) (froms tos : List ℕ) (x : ℤ) (ticks : List ℤ) (k n : ℕ) →
     endsGive (f ∷ froms) (t ∷ tos) (x ∷ ticks) (suc k) n ≡ ends f t x n +ℤ endsGive froms tos ticks k n
@@ -193,27 +157,12 @@ wired-tos rows = wired-by (λ (r : Row). r .to) rows
 
 -- any rows
 module _ (rows : List Row) (nodes : List ℕ) (ticks : List ℤ) (n : ℕ) (h : length ticks ≡ length rows) where
-  abbrev rolesOf : (Row → Role) → List ℕ
-  rolesOf end = map (λ (r : Row). roleIndex (end r)) rows
-
-  by-roles : (from to : Row → Role) →
-      spread nodes (endsGive (rolesOf from) (rolesOf to) ticks (length rows)) roles n
-      ≡ endsGive (nodesOf nodes n (rolesOf from)) (nodesOf nodes n (rolesOf to)) ticks (length rows) n
-  by-roles from to =
-      spread-branches nodes n _ _ ticks (wired-by from rows) (wired-by to rows) (length rows)
-      (le-of-eq (sym (length-map rows _))) (le-of-eq (sym (length-map rows _)))
-
   pub roles-are-rows :
       spread nodes (endsGive (fromsOf rows) (tosOf rows) ticks (length rows)) roles n ≡ rowsGive rows nodes ticks n
-  roles-are-rows = by-roles (λ (r : Row). r .from) (λ (r : Row). r .to) ∙ ends-are-rows nodes n rows ticks h
-
-  pub roles-turned :
-      spread nodes (endsGive (tosOf rows) (fromsOf rows) ticks (length rows)) roles n
-      ≡ negℤ (rowsGive rows nodes ticks n)
-  roles-turned =
-      by-roles (λ (r : Row). r .to) (λ (r : Row). r .from)
-      ∙ ends-turned (nodesOf nodes n (fromsOf rows)) (nodesOf nodes n (tosOf rows)) ticks (length rows) n
-      ∙ ap negℤ (ends-are-rows nodes n rows ticks h)
+  roles-are-rows =
+      spread-branches nodes n (fromsOf rows) (tosOf rows) ticks (wired-froms rows) (wired-tos rows) (length rows)
+      (le-of-eq (sym (length-map rows _))) (le-of-eq (sym (length-map rows _)))
+      ∙ ends-are-rows nodes n rows ticks h
 
 -- ---- the roles' amounts, worked from nothing
 

@@ -81,13 +81,3 @@ pub fn put(l: &mut [i64; NODES], nodes: &[u8; ROLES], ticks: &[i64; BRANCHES])
     branches(&mut a, &from, &to, ticks);
     hand_out(l, nodes, &a);
 }
-
-// The same taken away: put, with every number turned over. So the ends of the branches are looked at in one place, where the compiler knows them.
-pub fn take(l: &mut [i64; NODES], nodes: &[u8; ROLES], ticks: &[i64; BRANCHES])
-    requires { ⌜ Givable (now l) (now nodes) (now ticks) ⌝ }
-    ensures { λ _. ⌜ More nodesMost (now (l .entry)) (now (l .exit)) (rolesGive (now (nodes .entry)) toRoles fromRoles (now (ticks .entry))) ⌝ }
-{
-    let own = *ticks;
-    let back = polarity::turn_ticks(true, own);
-    put(l, nodes, &back);
-}

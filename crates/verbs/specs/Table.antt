@@ -8,7 +8,7 @@ use Rattle.name.specs.Name.{same}
 use Rattle.verbs.specs.declared.Verb.{Verb}
 use Rattle.verbs.specs.declared.Verb.the-variants.{Library, Find, Clip, Load, Record, Place}
 use Rattle.verbs.specs.declared.Verb.the-variants.{Move, Moves, Lift, Withdraw, Lookup, Node, Sheet}
-use Rattle.verbs.specs.declared.Verb.the-variants.{Currents, Who, Sum, Mend, Error}
+use Rattle.verbs.specs.declared.Verb.the-variants.{Currents, Who, Sum, Mend, Poke, Error}
 use Rattle.verbs.specs.declared.Wants.{Wants}
 use Rattle.verbs.specs.declared.Wants.the-variants.{Texts, Numbers, Either, Pairs, NameAndHex}
 use Rattle.verbs.specs.declared.Row.{Row}
@@ -45,6 +45,7 @@ table =
     ∷ entry "who" Who (Numbers 2)
     ∷ entry "sum" Sum (Numbers 2)
     ∷ entry "mend" Mend (Texts 1)
+    ∷ entry "poke" Poke (Numbers 4)
     ∷ []
 
 abbrev pub rows : ℕ

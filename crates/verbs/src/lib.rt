@@ -21,6 +21,7 @@ pub enum Verb {
     Who,
     Sum,
     Mend,
+    Poke,
     // a line that is passed over
     Nothing,
     TooLong,
@@ -44,7 +45,7 @@ pub struct Row {
 }
 
 // How many commands there are.
-const ROWS: usize = 17;
+const ROWS: usize = 18;
 
 // The words of the commands as numbers, in the table's order: the first byte is the lowest.
 const PACKED: [u64; ROWS] = [
@@ -65,6 +66,7 @@ const PACKED: [u64; ROWS] = [
     0x6f6877,
     0x6d7573,
     0x646e656d,
+    0x656b6f70,
 ];
 
 // A word of one to eight bytes that a name may have, as a number; 0 for any other.
@@ -169,6 +171,10 @@ fn row_at(i: usize) -> Row
         16 => Row {
             verb: Verb::Mend,
             wants: Wants::Texts(1),
+        },
+        17 => Row {
+            verb: Verb::Poke,
+            wants: Wants::Numbers(4),
         },
         _ => Row {
             verb: Verb::Error,

@@ -1,4 +1,4 @@
--- A board's arrays are as long as they are declared.
+-- A board's arrays are as long as they are declared; its voltages and totals are spoken of elsewhere.
 use mathlib.Core.Path.{_≡_}
 use Prim.Native.Nat.{_*_}
 use lib.ListN.{length}
@@ -15,7 +15,6 @@ pub record Sized (b : Board) : Type 0 where
   pub switches : length (b .switches) ≡ switchesEach * cardsMost
   pub names : length (b .names) ≡ nameLength * cardsMost
   pub held : length (b .held) ≡ cardsMost
-  pub volts : length (b .volts) ≡ nodesMost
   pub issues : length (b .issues) ≡ transistorsMost
   pub cards : length (b .cards) ≡ transistorsMost
   pub seats : length (b .seats) ≡ transistorsMost

@@ -1,10 +1,10 @@
 -- What going through a set of places asks and gives.
 use mathlib.Core.Path.{_≡_}
-use mathlib.Core.Bool.{true, cond}
+use mathlib.Core.Bool.{Bool, true, false, cond, not}
 use mathlib.Core.List.{List, map}
 use Prim.Native.Nat.{ℕ, _-_, _*_, _≤_, _<_}
-use lib.ListN.{getD, length}
-use lib.IntN.{ℤ, pos, natAbs, _+ℤ_}
+use lib.ListN.{getD, length, replicate}
+use lib.IntN.{ℤ, pos}
 use Rattle.volts.specs.Volts.{givenBack}
 use Rattle.octave.specs.Table.{entries}
 use Rattle.scaling.specs.Scaled.{tickLimit}
@@ -13,21 +13,18 @@ use Rattle.rows.specs.declared.Over.{Over}
 use Rattle.rows.specs.Outcome.{isOver}
 use Rattle.terms.specs.Rows.{roles, branches}
 use Rattle.totals.specs.Gives.{nodesMost}
-use Rattle.totals.specs.Flow.{overAt, ticksAt}
-use Rattle.totals.specs.inner.Sums.{More, Within}
-use Rattle.totals.specs.inner.Sizes.{flowMost}
+use Rattle.totals.specs.Flow.{overAt, ticksAt, ticksGive, sumBelow, withMore}
+use Rattle.totals.specs.inner.Sums.{Within}
 use Rattle.deck.specs.Stretch.{stretch}
+use Rattle.slices.specs.Slices.{someOutside}
 use Rattle.flows.specs.inner.Workable.{Volts, Deck, cardOf, Able}
 use Rattle.places.specs.Counts.{transistorsMost}
 use Rattle.places.specs.Sets.{member}
 use Rattle.settle.specs.declared.First.{First}
+use Rattle.settle.specs.declared.Judgement.{Judgement}
 use Rattle.settle.specs.First.{firstBelow}
 use Rattle.settle.specs.Change.{changes}
 use Rattle.settle.specs.Renewed.{renewed}
-
--- what every transistor gives
-abbrev pub totalMost : ℕ
-totalMost = transistorsMost * flowMost
 
 abbrev pub cardAt : Deck → List ℕ → ℕ → WorkedCard
 cardAt d seats i = cardOf d (getD seats i 0)
@@ -72,33 +69,53 @@ firstSo r k = firstBelow (member (r .marked)) (λ (j : ℕ). getD (r .issues) j 
 abbrev pub heldFrom : Round → List ℤ → ℕ → List ℤ
 heldFrom r currents i = renewed (member (r .marked)) (newAt r) currents (transistorsMost - i) i
 
--- every place of the set can be worked, what it holds is small, and the totals have room on the way
-pub record Settling (r : Round) (currents : List ℤ) (totals : List ℤ) : Type 0 where
+-- what the places of the set below k give to node n, where each has these currents
+unfoldable pub given : Round → (ℕ → List ℤ) → ℕ → ℕ → ℤ
+unfolding sumBelow ticksGive
+given r each k n =
+    sumBelow (λ (i : ℕ). cond (member (r .marked) i) (ticksGive (nodesAt (r .nodes) i) (each i) n) (pos 0)) k
+
+-- l is that at every node
+pub record Sums (r : Round) (each : ℕ → List ℤ) (k : ℕ) (l : List ℤ) : Type 0 where
+  pub long : length l ≡ nodesMost
+  pub at : (n : ℕ) → n < nodesMost → getD l n (pos 0) ≡ given r each k n
+
+-- the totals as they would stand
+abbrev pub standing : Round → List ℤ → List ℤ → List ℤ
+standing r currents totals = withMore totals (gained r currents transistorsMost)
+
+-- nobody overloads, and every total stays in range
+abbrev pub isTaken : Judgement → Bool
+isTaken j = cond (isOver (j .first .over)) false (j .fits)
+
+-- every place of the set can be worked, and what it holds is small
+pub record Settling (r : Round) (currents totals : List ℤ) : Type 0 where
   pub will-are : Volts (r .will)
   pub able : (i : ℕ) → i < transistorsMost → member (r .marked) i ≡ true →
       Able (r .deck) (getD (r .seats) i 0) (nodesAt (r .nodes) i)
   pub small : (i : ℕ) → i < transistorsMost → member (r .marked) i ≡ true → Within tickLimit (heldAt currents i)
   pub long : length totals ≡ nodesMost
-  pub room : (k n : ℕ) → k ≤ transistorsMost → n < nodesMost →
-      natAbs (getD totals n (pos 0) +ℤ gained r currents k n) ≤ totalMost
 
--- the places of the set below i are passed, and i is one of the set or none is left: l are the totals l₀ with what
--- those places give, and first is the first of them that overloads
-pub record Gone (r : Round) (currents l₀ : List ℤ) (i : ℕ) (l : List ℤ) (first : First) : Type 0 where
+-- the places of the set below i are passed, and i is one of the set or none is left: what those places will have comes
+-- in, what they hold goes out, and first is the first of them that overloads
+pub record Gone (r : Round) (currents : List ℤ) (i : ℕ) (coming going : List ℤ) (first : First) : Type 0 where
   pub most : i ≤ transistorsMost
   pub is : i < transistorsMost → member (r .marked) i ≡ true
-  pub gains : More nodesMost l₀ l (gained r currents i)
+  pub comes : Sums r (newAt r) i coming
+  pub goes : Sums r (heldAt currents) i going
   pub first-is : first ≡ firstSo r i
 
 -- going on from there
-pub record Going (r : Round) (table : List ℕ) (currents l₀ : List ℤ) (i : ℕ) (l : List ℤ) (first : First) : Type 0 where
+pub record Going (r : Round) (table : List ℕ) (currents totals : List ℤ) (i : ℕ) (coming going : List ℤ)
+    (first : First) : Type 0 where
   pub table-is : table ≡ entries
-  pub settling : Settling r currents l₀
-  pub gone : Gone r currents l₀ i l first
+  pub settling : Settling r currents totals
+  pub gone : Gone r currents i coming going first
 
--- all places of the set are passed: the first that overloads, the totals, and what is held. It is held anew from the
--- place i on, unless somebody overloads
-pub record Settled (r : Round) (currents l₀ : List ℤ) (i : ℕ) (first : First) (l currents′ : List ℤ) : Type 0 where
-  pub first-is : first ≡ firstSo r transistorsMost
-  pub gains : More nodesMost l₀ l (gained r currents transistorsMost)
-  pub held : currents′ ≡ cond (isOver (first .over)) currents (heldFrom r currents i)
+-- all places of the set are passed: the first that overloads; whether every total would stay in range, and the totals
+-- as they would stand or none; and what is held. It is held anew from the place i on, unless this is refused
+pub record Settled (r : Round) (currents totals : List ℤ) (i : ℕ) (told : Judgement) (next currents′ : List ℤ) : Type 0 where
+  pub first-is : told .first ≡ firstSo r transistorsMost
+  pub fits-is : told .fits ≡ not (someOutside (standing r currents totals))
+  pub next-is : next ≡ cond (told .fits) (standing r currents totals) (replicate nodesMost (pos 0))
+  pub held : currents′ ≡ cond (isTaken told) (heldFrom r currents i) currents

@@ -3,6 +3,7 @@ use mathlib.Core.Path.{refl}
 use borrow.Author.Needs.{needs}
 use mir.Syntax.{w64}
 use mir.ValLaws.{toZ-ofZ}
+use Rattle.lending.specs.Rest.{bare}
 use Rattle.board.specs.Promise.{modelOf}
 use Rattle.board.proofs.Reaches.{after-list}
 use Rattle.roster.proofs.Tells.{listed-whole}
@@ -17,7 +18,7 @@ returns : tie.Need-returns
 returns c =
     let r = c .before .before in
     let s = start r in
-    let b = modelOf (s .args .self) in
+    let b = bare (modelOf (s .args .self)) in
     let lent = r .list-node .ensures b refl refl in
     let told = rw (toZ-ofZ w64 (s .args .node) (s .fits .node)) at lent in
     after-list (s .pre) (s .args .node) (s .args .list .now)

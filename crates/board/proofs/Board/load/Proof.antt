@@ -1,6 +1,7 @@
 -- `load` lends its arrays, and what comes back is the next board.
 use mathlib.Core.Path.{refl}
 use borrow.Author.Needs.{needs}
+use Rattle.lending.specs.Rest.{bare}
 use Rattle.board.specs.Promise.{modelOf}
 use Rattle.board.proofs.Reaches.{after-load}
 use Rattle.holding.proofs.Whole.{own-cards, loaded-whole}
@@ -16,7 +17,7 @@ start c =
 returns : tie.Need-returns
 returns c =
     let s = start (c .before) in
-    let b = modelOf (s .args .self) in
+    let b = bare (modelOf (s .args .self)) in
     after-load (s .pre) (s .args .name .now) (s .args .bytes .now)
     refl
     (loaded-whole b (s .args .name .now) (s .args .bytes .now) (c .load .ensures b (own-cards b) refl))

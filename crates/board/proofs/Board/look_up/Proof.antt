@@ -1,6 +1,7 @@
 -- `look_up` hands back the answer, and the board as it was.
 use mathlib.Core.Path.{refl}
 use borrow.Author.Needs.{needs}
+use Rattle.lending.specs.Rest.{bare}
 use Rattle.board.specs.Promise.{modelOf}
 use Rattle.board.proofs.Reaches.{after-look}
 use Rattle.holding.proofs.Whole.{looked-whole}
@@ -10,7 +11,7 @@ use Rattle.board.proofs.Board.look_up.Tie as tie
 returns : tie.Need-returns
 returns c =
     let s = c .before .before .before .before .before .before in
-    let b = modelOf (s .args .self) in
+    let b = bare (modelOf (s .args .self)) in
     after-look (s .pre) (s .args .name .now)
     refl
     (looked-whole b (s .args .name .now) (c .look-up .ensures b refl refl))

@@ -1,15 +1,18 @@
 -- `move_to` is `move_all` of one pair.
+use borrow.Author.Needs.{needs}
 use mir.Syntax.{w64}
 use mir.ValLaws.{toZ-ofZ}
-use borrow.Author.Needs.{needs}
 use Rattle.board.proofs.Board.move_to.Statement.{statement}
 use Rattle.board.proofs.Board.move_to.Tie as tie
 
 returns : tie.Need-returns
 returns c =
-    let s = c .before .before in
+    let m = c .before .before in
+    let s = m .before .before .before .before in
     rw (toZ-ofZ w64 (s .args .node) (s .fits .node), toZ-ofZ w64 (s .args .microvolts) (s .fits .microvolts)) at
-    (c .move-all .ensures)
+    (m .move-all .ensures)
 
 pub move-to-spec : {M : Type 1} → statement M
-move-to-spec = tie.close (tie.spec (λ c. search needs) (λ c κs. search needs) returns)
+move-to-spec =
+    tie.close
+    (tie.spec (λ c. search needs) (λ c κs. search needs) (λ c. search needs) (λ c. search needs) returns)

@@ -3,6 +3,7 @@ use mathlib.Core.Path.{refl}
 use borrow.Author.Needs.{needs}
 use mir.Syntax.{w64}
 use mir.ValLaws.{toZ-ofZ}
+use Rattle.lending.specs.Rest.{bare}
 use Rattle.board.specs.Promise.{modelOf}
 use Rattle.board.proofs.Reaches.{after-currents}
 use Rattle.reading.proofs.Whole.{opened-whole}
@@ -13,7 +14,7 @@ returns : tie.Need-returns
 returns c =
     let r = c .before in
     let s = r .before .before .before .before .before in
-    let b = modelOf (s .args .self) in
+    let b = bare (modelOf (s .args .self)) in
     let told = r .read-currents .ensures b refl refl in
     after-currents (s .pre) (s .args .transistor)
     refl

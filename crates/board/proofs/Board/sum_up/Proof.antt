@@ -3,6 +3,7 @@ use mathlib.Core.Path.{refl}
 use borrow.Author.Needs.{needs}
 use mir.Syntax.{w64}
 use mir.ValLaws.{toZ-ofZ}
+use Rattle.lending.specs.Rest.{bare}
 use Rattle.board.specs.Promise.{modelOf}
 use Rattle.board.proofs.Reaches.{after-sum}
 use Rattle.summary.proofs.Sums.{own-node, summed-whole}
@@ -16,7 +17,7 @@ start c = c .before .before .before .before .before .before .before .before
 returns : tie.Need-returns
 returns c =
     let s = start (c .before) in
-    let b = modelOf (s .args .self) in
+    let b = bare (modelOf (s .args .self)) in
     let told = c .sum-up .ensures b (own-node b) in
     after-sum (s .pre) (s .args .node)
     refl

@@ -3,6 +3,7 @@ use mathlib.Core.Path.{refl}
 use borrow.Author.Needs.{needs}
 use mir.Syntax.{w64}
 use mir.ValLaws.{toZ-ofZ}
+use Rattle.lending.specs.Rest.{bare}
 use Rattle.board.specs.Promise.{modelOf}
 use Rattle.board.proofs.Reaches.{after-withdraw}
 use Rattle.holding.proofs.Whole.{own-cards, withdrawn-whole}
@@ -18,7 +19,7 @@ start c =
 returns : tie.Need-returns
 returns c =
     let s = start (c .before) in
-    let b = modelOf (s .args .self) in
+    let b = bare (modelOf (s .args .self)) in
     let lent = c .withdraw .ensures b (own-cards b) refl refl in
     after-withdraw (s .pre) (s .args .card)
     refl

@@ -7,11 +7,13 @@ use Rattle.desk.proofs.lines.feed.Statement.{statement}
 use Rattle.desk.proofs.lines.feed.Tie as tie
 
 abbrev Inv-loop : tie.InvT-loop
-Inv-loop got bytes line₀ n₀ held₀ out₀ at₀ more spelled₀ current₀ i₀ line n held out at spelled current i =
+Inv-loop volts₀ totals₀ pokes got bytes line₀ n₀ held₀ out₀ at₀ more spelled₀ current₀ i₀ volts totals line n held
+    out at spelled current i =
     Reached current
 
 abbrev μ-loop : tie.MeasureT-loop
-μ-loop got bytes line₀ n₀ held₀ out₀ at₀ more spelled₀ current₀ i₀ line n held out at spelled current i =
+μ-loop volts₀ totals₀ pokes got bytes line₀ n₀ held₀ out₀ at₀ more spelled₀ current₀ i₀ volts totals line n held out
+    at spelled current i =
     length more - i
 
 pub feed-spec : {M : Type 1} → statement M

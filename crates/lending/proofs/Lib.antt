@@ -1,0 +1,4 @@
+pub mod Footing
+pub mod Tests
+pub mod Cases
+pub mod Stays

@@ -1,0 +1,5 @@
+pub mod Sums
+pub mod PlacingTests
+pub mod Placing
+pub mod Lifting
+pub mod Lent

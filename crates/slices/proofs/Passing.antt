@@ -1,0 +1,178 @@
+-- A list filled place by place as long as nothing is turned away, and what a test of a whole list then says.
+use mathlib.Core.Path.{_≡_, refl, sym, ap, subst, _∙_}
+use mathlib.Core.Bool.{Bool, true, false, cond, not, _||_}
+use mathlib.Core.List.{List, [], _∷_}
+use mathlib.Core.Logic.{_⊎_, inl, inr}
+use Prim.Native.Nat.{ℕ, zero, suc, _+_, _≤_, _<_}
+use native.Mathlib.Omega.{arith}
+use lib.Dec.{eqb}
+use lib.ListN.{length, getD, set}
+use lib.IntN.{ℤ, pos, _+ℤ_, _-ℤ_}
+use borrow.Author.Tests.{eqb-true}
+use Rattle.whole.specs.laws.Biased.{below-or-not}
+use Rattle.whole.specs.laws.Machine.{held}
+use Rattle.refusal.specs.Clash.{clash}
+use Rattle.volts.specs.Volts.{offVolts, keptAs}
+use Rattle.rows.specs.laws.Filled.{Filled, filled-none, filled-more, filled-all, filled-map}
+use Rattle.totals.specs.Gives.{nodesMost}
+use Rattle.totals.specs.Flow.{withMore}
+use Rattle.given.specs.Lists.{anyOf}
+use Rattle.deck.specs.laws.Ups.{length-up, getD-up}
+use Rattle.slices.specs.declared.Kept.{Kept}
+use Rattle.slices.specs.declared.Total.{Total}
+use Rattle.slices.specs.declared.Total.the-variants.{At, Leaves}
+use Rattle.slices.specs.Slices.{rightLengths, noneKept, keptUnless, keptOf, keptSlices, outside64, standingAt, noneStand}
+use Rattle.slices.specs.Slices.{stoodUnless, stoodOf, changed}
+use Rattle.slices.proofs.Raised.{inside-held}
+
+-- ---- while it is filled
+
+-- the first k places hold f, and none of them was turned away
+pub record Passing {A : Type 0} (d : A) (n : ℕ) (off : ℕ → Bool) (f : ℕ → A) (k : ℕ) (r : List A) : Type 0 where
+  pub filled : Filled d n f k r
+  pub on : (i : ℕ) → i < k → off i ≡ false
+
+module _ {A : Type 0} {d : A} {n : ℕ} {off : ℕ → Bool} {f : ℕ → A} where
+  pub passing-none : {r : List A} → length r ≡ n → Passing d n off f 0 r
+  passing-none h = record { filled = filled-none h; on = λ i q. absurd (omega arith) }
+
+  pub passing-more : {r : List A} {k : ℕ} (v : A) → k < n → v ≡ f k → off k ≡ false → Passing d n off f k r →
+      Passing d n off f (k + 1) (set r k v)
+  passing-more {r} {k} v h e o s =
+      record { filled = filled-more v h e (s .filled); on = λ i q. go i q (below-or-not i k) }
+    where
+      go : (i : ℕ) → i < k + 1 → (i < k) ⊎ (k ≤ i) → off i ≡ false
+      go i q (inl b) = s .on i b
+      go i q (inr b) = let same : i ≡ k = omega arith in rw same o
+
+-- ---- a test of a whole list
+
+pub none-passes : {A : Type 0} (p : A → Bool) (d : A) (l : List A) →
+    ((i : ℕ) → i < length l → p (getD l i d) ≡ false) → anyOf p l ≡ false
+unfolding anyOf
+none-passes p d [] h = refl
+none-passes p d (a ∷ l) h = rw (h 0 (omega arith)) (none-passes p d l (λ i q. h (suc i) (omega arith)))
+
+or-true : (a : Bool) {b : Bool} → b ≡ true → a || b ≡ true
+or-true true e = refl
+or-true false e = e
+
+one-passes : {A : Type 0} (p : A → Bool) (d : A) (l : List A) (k : ℕ) → k < length l → p (getD l k d) ≡ true →
+    anyOf p l ≡ true
+unfolding anyOf
+one-passes p d [] k h e = absurd (omega arith)
+one-passes p d (a ∷ l) zero h e = rw e
+one-passes p d (a ∷ l) (suc k) h e = or-true (p a) (one-passes p d l k (omega arith) e)
+
+-- ---- voltages kept
+
+abbrev pub offAt : List ℤ → ℕ → Bool
+offAt volts i = offVolts (getD volts i (pos 0))
+
+abbrev pub keptAt : List ℤ → ℕ → ℕ
+keptAt volts i = keptAs (getD volts i (pos 0))
+
+module _ (volts : List ℤ) (long : length volts ≡ nodesMost) where
+  pub kept-all : {k : ℕ} {r : List ℕ} → nodesMost ≤ k → Passing 0 nodesMost (offAt volts) (keptAt volts) k r →
+      record { good = true; volts = r } ≡ keptOf volts
+  kept-all {k} {r} h s =
+      let on = none-passes offVolts (pos 0) volts (λ i q. s .on i (omega arith)) in
+      ap (λ (l : List ℕ). record { good = true; volts = l }) (filled-map keptAs (pos 0) volts long h (s .filled))
+      ∙ ap (λ (off : Bool). keptUnless off volts) (sym on)
+
+  pub kept-none : (k : ℕ) → k < nodesMost → offAt volts k ≡ true → noneKept ≡ keptOf volts
+  kept-none k h e =
+      ap (λ (off : Bool). keptUnless off volts) (sym (one-passes offVolts (pos 0) volts k (omega arith) e))
+
+-- ---- both slices, by their lengths
+
+module _ (volts totals : List ℤ) where
+  abbrev kept-if : Bool → Bool → Kept
+  kept-if v t = keptUnless (not v || (not t || anyOf offVolts volts)) volts
+
+  pub wrong-lengths : rightLengths volts totals ≡ false → noneKept ≡ keptSlices volts totals
+  wrong-lengths h = go (eqb (length volts) nodesMost) (eqb (length totals) nodesMost) h
+    where
+      go : (v t : Bool) → not (not v || not t) ≡ false → noneKept ≡ kept-if v t
+      go true true h = clash cc
+      go true false h = refl
+      go false t h = refl
+
+  pub record RightLengths : Type 0 where
+    pub volts-long : length volts ≡ nodesMost
+    pub totals-long : length totals ≡ nodesMost
+    pub same : keptOf volts ≡ keptSlices volts totals
+
+  pub right-lengths : rightLengths volts totals ≡ true → RightLengths
+  right-lengths h = go (eqb (length volts) nodesMost) (eqb (length totals) nodesMost) refl refl h
+    where
+      go : (v t : Bool) → eqb (length volts) nodesMost ≡ v → eqb (length totals) nodesMost ≡ t →
+          not (not v || not t) ≡ true → RightLengths
+      go true true p q h =
+          record {
+            volts-long = eqb-true _ _ p;
+            totals-long = eqb-true _ _ q;
+            same = sym (ap (λ (v : Bool). kept-if v (eqb (length totals) nodesMost)) p ∙ ap (kept-if true) q);
+          }
+      go true false p q h = clash cc
+      go false t p q h = clash cc
+
+-- ---- totals that would stand
+
+module _ (totals coming going : List ℤ) where
+  -- what would stand at a node
+  abbrev pub wouldAt : ℕ → ℤ
+  wouldAt n = getD totals n (pos 0) +ℤ (getD coming n (pos 0) -ℤ getD going n (pos 0))
+
+  abbrev pub outAt : ℕ → Bool
+  outAt n = outside64 (wouldAt n)
+
+  pub record StandsAt (k : ℕ) (v : ℤ) : Type 0 where
+    pub is : v ≡ wouldAt k
+    pub on : outAt k ≡ false
+    pub fits : held v ≡ v
+
+  -- from what `stand` says of one node
+  pub out-by : {w : ℤ} {x : Total} (k : ℕ) → w ≡ wouldAt k → x ≡ standingAt w → x ≡ Leaves → outAt k ≡ true
+  out-by k p q r = go (outAt k) (sym (ap standingAt p) ∙ sym q ∙ r)
+    where
+      go : (out : Bool) → cond out Leaves (At (wouldAt k)) ≡ Leaves → out ≡ true
+      go true e = refl
+      go false e = clash cc
+
+  pub in-by : {w v : ℤ} {x : Total} (k : ℕ) → w ≡ wouldAt k → x ≡ standingAt w → x ≡ At v → StandsAt k v
+  in-by {w} {v} k p q r = go (outAt k) refl (sym (ap standingAt p) ∙ sym q ∙ r)
+    where
+      go : (out : Bool) → outAt k ≡ out → cond out Leaves (At (wouldAt k)) ≡ At v → StandsAt k v
+      go true o e = clash cc
+      go false o e =
+          let same : wouldAt k ≡ v = cc in
+          record { is = sym same; on = o; fits = subst (λ (z : ℤ). held z ≡ z) same (inside-held (wouldAt k) o) }
+
+  changed-at : (n : ℕ) → n < nodesMost → getD (changed totals coming going) n (pos 0) ≡ wouldAt n
+  unfolding withMore
+  changed-at n h =
+      let z : 0 + n ≡ n = omega arith in getD-up wouldAt nodesMost 0 n (pos 0) h ∙ ap wouldAt z
+
+  changed-long : length (changed totals coming going) ≡ nodesMost
+  unfolding withMore
+  changed-long = length-up wouldAt nodesMost 0
+
+  pub stood-all : {k : ℕ} {r : List ℤ} → nodesMost ≤ k → Passing (pos 0) nodesMost outAt wouldAt k r →
+      record { good = true; totals = r } ≡ stoodOf totals coming going
+  unfolding withMore
+  stood-all {k} {r} h s =
+      let long = changed-long in
+      let inside = none-passes outside64 (pos 0) (changed totals coming going) (λ i q. here i (omega arith)) in
+      ap (λ (l : List ℤ). record { good = true; totals = l }) (filled-all h (s .filled))
+      ∙ ap (λ (leaves : Bool). stoodUnless leaves (changed totals coming going)) (sym inside)
+    where
+      here : (i : ℕ) → i < nodesMost → outside64 (getD (changed totals coming going) i (pos 0)) ≡ false
+      here i q = ap outside64 (changed-at i q) ∙ s .on i (omega arith)
+
+  pub stood-none : (k : ℕ) → k < nodesMost → outAt k ≡ true → noneStand ≡ stoodOf totals coming going
+  stood-none k h e =
+      let long = changed-long in
+      let out =
+      one-passes outside64 (pos 0) (changed totals coming going) k (omega arith) (ap outside64 (changed-at k h) ∙ e) in
+      ap (λ (leaves : Bool). stoodUnless leaves (changed totals coming going)) (sym out)

@@ -1,0 +1,85 @@
+-- The two lent slices of a board, a voltage in microvolts and a total in ticks for each node: what turns them away,
+-- what is kept of the voltages, and totals as they would stand.
+use mathlib.Core.Path.{_≡_}
+use mathlib.Core.Bool.{Bool, true, false, cond, not, _||_}
+use mathlib.Core.List.{List, map}
+use Prim.Native.Nat.{ℕ, suc, _+_, _-_}
+use lib.Dec.{eqb}
+use lib.ListN.{length, getD, replicate}
+use lib.IntN.{ℤ, pos, negsuc, _-ℤ_}
+use lib.Signed.{leZ, ltZ}
+use Rattle.whole.specs.Signed.{signedSpan}
+use Rattle.volts.specs.Volts.{offVolts, keptAs}
+use Rattle.totals.specs.Gives.{nodesMost}
+use Rattle.totals.specs.Flow.{withMore}
+use Rattle.given.specs.Lists.{anyOf}
+use Rattle.slices.specs.declared.Kept.{Kept}
+use Rattle.slices.specs.declared.Total.{Total}
+use Rattle.slices.specs.declared.Total.the-variants.{At, Leaves}
+use Rattle.slices.specs.declared.Stood.{Stood}
+
+-- ---- 13: slices of another length, or a voltage outside its range
+
+abbrev pub otherLength : List ℤ → Bool
+otherLength l = not (eqb (length l) nodesMost)
+
+abbrev pub offSlices : List ℤ → List ℤ → Bool
+offSlices volts totals = otherLength volts || (otherLength totals || anyOf offVolts volts)
+
+-- both of their length
+abbrev pub rightLengths : List ℤ → List ℤ → Bool
+rightLengths volts totals = not (otherLength volts || otherLength totals)
+
+-- the voltages as they are kept, or none
+abbrev pub noneKept : Kept
+noneKept = record { good = false; volts = replicate nodesMost (keptAs (pos 0)) }
+
+abbrev pub keptUnless : Bool → List ℤ → Kept
+keptUnless off volts = cond off noneKept (record { good = true; volts = map keptAs volts })
+
+abbrev pub keptOf : List ℤ → Kept
+keptOf volts = keptUnless (anyOf offVolts volts) volts
+
+abbrev pub keptSlices : List ℤ → List ℤ → Kept
+keptSlices volts totals = keptUnless (offSlices volts totals) volts
+
+-- ---- slices cleared, where both have their length: whether they have, and what stands in them then
+
+abbrev pub cleared : Bool → List ℤ → List ℤ
+cleared good l = cond good (replicate nodesMost (pos 0)) l
+
+pub record Clears (volts totals : List ℤ) (good : Bool) (volts′ totals′ : List ℤ) : Type 0 where
+  pub told : good ≡ rightLengths volts totals
+  pub volts-are : volts′ ≡ cleared (rightLengths volts totals) volts
+  pub totals-are : totals′ ≡ cleared (rightLengths volts totals) totals
+
+-- ---- 10: a total that would leave the 64-bit range, from -2^63 to 2^63 - 1
+
+abbrev pub outside64 : ℤ → Bool
+outside64 z = leZ (pos signedSpan) z || ltZ z (negsuc (signedSpan - 1))
+
+abbrev pub someOutside : List ℤ → Bool
+someOutside totals = anyOf outside64 totals
+
+-- one total
+abbrev pub standingAt : ℤ → Total
+standingAt z = cond (outside64 z) Leaves (At z)
+
+-- all of them, each with what comes in at its node and less what goes out there, or none
+abbrev pub noneStand : Stood
+noneStand = record { good = false; totals = replicate nodesMost (pos 0) }
+
+abbrev pub changed : List ℤ → List ℤ → List ℤ → List ℤ
+changed totals coming going = withMore totals (λ (n : ℕ). getD coming n (pos 0) -ℤ getD going n (pos 0))
+
+abbrev pub stoodUnless : Bool → List ℤ → Stood
+stoodUnless leaves totals = cond leaves noneStand (record { good = true; totals = totals })
+
+abbrev pub stoodOf : List ℤ → List ℤ → List ℤ → Stood
+stoodOf totals coming going = stoodUnless (someOutside (changed totals coming going)) (changed totals coming going)
+
+-- ---- a number raised by the largest size, so that none is negative
+
+abbrev pub raisedBy : ℕ → ℤ → ℕ
+raisedBy most (pos n) = most + n
+raisedBy most (negsuc n) = most - suc n
