@@ -3,10 +3,12 @@
 //!   bench vectors FOLDER    this implementation against a folder of outside vectors
 //!   bench desk [--poke] SCRIPT   what the desk must answer to a script
 //!   bench listing LIBRARY   what the listing must print of a library
+//!   bench models FILE       the model lines of a library
+//!   bench cards FILE        the library of model lines
 //!   bench time NAME TIMES   one of the timed runs: root, exponential, currents, saturated, wide, reverse, sister, empty, still,
 //!                           move, refused, all, named_0, named_1, named_8, named_32, named_64, singly, together, pair, mend,
 //!                           write, read, find, and the last four with _wide, the last
-//!                           two with _alike and _crowded
+//!                           two with _alike and _crowded; write_line, read_line
 //!   bench differ ROUNDS     random inputs through the built programs (`./desk`, `./listing` of the project) and this implementation
 
 mod board;
@@ -14,6 +16,7 @@ mod card;
 mod currents;
 mod differ;
 mod library;
+mod lines;
 mod numbers;
 mod protocol;
 
@@ -61,6 +64,46 @@ fn part(folder: &Path, name: &str) -> PathBuf {
     }
 }
 
+/// The tables and files of model lines, where a folder has them.
+fn line_vectors(folder: &Path, tell: &mut impl FnMut(bool, &str)) {
+    let table = |file: &str| std::fs::read_to_string(folder.join(file)).unwrap_or_default();
+    for row in table("lines.tsv").lines() {
+        let (line, want) = row.split_once('\t').unwrap();
+        let got = match lines::read(&unhex(line)) {
+            Err(k) => format!("refused {k}"),
+            Ok((name, words)) => {
+                let name: String = name.iter().map(|b| format!("{b:02x}")).collect();
+                format!("ok {name} {}", words.map(|w| format!("{w:016x}")).join(" "))
+            }
+        };
+        tell(got == want, row);
+    }
+    for row in table("written.tsv").lines() {
+        let cells: Vec<&str> = row.split('\t').collect();
+        let got = match lines::write(&unhex(cells[0]), &unhex(cells[1])) {
+            Err(k) => format!("refused {k}").into_bytes(),
+            Ok(line) => line,
+        };
+        tell(got == cells[2].as_bytes(), row);
+    }
+    for row in table("numbers.tsv").lines() {
+        let (word, want) = row.split_once('\t').unwrap();
+        let word = u64::from_str_radix(word, 16).unwrap();
+        let got = lines::shortest(f64::from_bits(word)).unwrap_or("21".into());
+        tell(got == want, row);
+    }
+    for s in stems(folder, ".models") {
+        let library = std::fs::read(folder.join(format!("{s}.lib"))).unwrap();
+        let want = std::fs::read(folder.join(format!("{s}.models"))).unwrap();
+        tell(lines::models(&library) == want, &s);
+    }
+    for s in stems(folder, ".made") {
+        let text = std::fs::read(folder.join(format!("{s}.sp"))).unwrap();
+        let want = std::fs::read(folder.join(format!("{s}.made"))).unwrap();
+        tell(lines::cards(&text) == want, &s);
+    }
+}
+
 fn vectors(folder: &Path) {
     let (mut good, mut bad) = (0, 0);
     let mut tell = |same: bool, what: &str| {
@@ -73,7 +116,9 @@ fn vectors(folder: &Path) {
     };
     let listing = part(folder, "listing");
     for s in stems(&listing, ".lib") {
-        let want = std::fs::read(listing.join(format!("{s}.listing"))).unwrap();
+        let Ok(want) = std::fs::read(listing.join(format!("{s}.listing"))) else {
+            continue;
+        };
         tell(
             protocol::listing(&std::fs::read(listing.join(format!("{s}.lib"))).unwrap()) == want,
             &s,
@@ -106,6 +151,7 @@ fn vectors(folder: &Path) {
             );
         }
     }
+    line_vectors(folder, &mut tell);
     let desk = part(folder, "desk");
     std::env::set_current_dir(&desk).unwrap();
     for s in stems(Path::new("."), ".desk") {
@@ -452,6 +498,31 @@ fn time_find(times: usize, set: &Names, version: u16) {
     println!("{sum}");
 }
 
+/// A card's line written so often, its multiplicity another each time.
+fn time_write_line(times: u64) {
+    let mut record = wide_record(1.0);
+    let mut sum = 0;
+    for n in 0..times {
+        record[7] = 64;
+        record[6] = (16 * (n % 8)) as u8;
+        let line = lines::write(b"npn200", std::hint::black_box(&record)).unwrap();
+        sum = (sum + line.len() as u64 + line[17] as u64) % (1 << 30);
+    }
+    println!("{sum}");
+}
+
+/// A card's line read so often, the last byte of its name another each time.
+fn time_read_line(times: u64) {
+    let mut line = lines::write(b"npn200", &wide_record(1.0)).unwrap();
+    let mut sum = 0;
+    for n in 0..times {
+        line[12] = 48 + (n % 10) as u8;
+        let (name, words) = lines::read(std::hint::black_box(&line)).unwrap();
+        sum = (sum + name[5] as u64 + words[n as usize % 24] % 7) % (1 << 30);
+    }
+    println!("{sum}");
+}
+
 fn time(name: &str, times: u64) {
     match name {
         "root" => time_root(times),
@@ -485,6 +556,8 @@ fn time(name: &str, times: u64) {
         "read_alike" => time_read(times as usize, &ALIKE, 1),
         "find_alike" => time_find(times as usize, &ALIKE, 1),
         "read_crowded" => time_read(times as usize, &CROWDED, 1),
+        "write_line" => time_write_line(times),
+        "read_line" => time_read_line(times),
         "find_crowded" => time_find(times as usize, &CROWDED, 1),
         _ => println!("no timed run {name}"),
     }
@@ -503,6 +576,12 @@ fn main() {
         ["listing", library] => std::io::stdout()
             .write_all(&protocol::listing(&std::fs::read(library).unwrap()))
             .unwrap(),
+        ["models", file] => std::io::stdout()
+            .write_all(&lines::models(&std::fs::read(file).unwrap()))
+            .unwrap(),
+        ["cards", file] => std::io::stdout()
+            .write_all(&lines::cards(&std::fs::read(file).unwrap()))
+            .unwrap(),
         ["time", name, times] => time(name, times.parse().unwrap()),
         ["vectors", folder] => vectors(&std::fs::canonicalize(folder).unwrap()),
         ["differ", rounds] => {
@@ -515,7 +594,7 @@ fn main() {
             );
         }
         _ => {
-            println!("usage: bench vectors FOLDER | desk [--poke] SCRIPT | listing LIBRARY | time NAME TIMES | differ ROUNDS")
+            println!("usage: bench vectors FOLDER | desk [--poke] SCRIPT | listing LIBRARY | models FILE | cards FILE | time NAME TIMES | differ ROUNDS")
         }
     }
 }

@@ -4,6 +4,7 @@ use crate::board::{Board, Lent, Refused, NODES};
 use crate::card::{clip, judge};
 use crate::currents::ROLES;
 use crate::library;
+use crate::lines;
 use std::fmt::Write;
 
 pub const LONGEST: usize = 16 + 208 * 256;
@@ -138,7 +139,12 @@ impl Desk {
             if words.is_empty() || words[0][0] == b'#' {
                 continue;
             }
-            match self.obey(&words) {
+            let answer = if words[0] == b".model" {
+                Some(self.load_line(line))
+            } else {
+                self.obey(&words)
+            };
+            match answer {
                 Some(answer) => out.extend(answer),
                 None => {
                     out.extend(b"error ");
@@ -148,6 +154,14 @@ impl Desk {
             out.push(b'\n');
         }
         out
+    }
+
+    fn load_line(&mut self, line: &[u8]) -> Vec<u8> {
+        let loaded = lines::read(lines::trimmed(line)).and_then(|(name, words)| {
+            self.board
+                .load(&name, &words.map(u64::to_le_bytes).concat())
+        });
+        told(loaded, |i| format!("card {i}")).into_bytes()
     }
 
     fn record(&self, name: &[u8]) -> Result<Vec<u8>, u32> {
@@ -186,6 +200,13 @@ impl Desk {
                 told(r.and_then(|r| self.board.load(rest[0], &r)), |i| {
                     format!("card {i}")
                 })
+            }
+            (b"model", 1) => {
+                let line = self.record(rest[0]).and_then(|r| lines::write(rest[0], &r));
+                match line {
+                    Ok(line) => return Some(line),
+                    Err(k) => format!("refused {k}"),
+                }
             }
             (b"record", 2) => {
                 let bytes = hex(rest[1])?;

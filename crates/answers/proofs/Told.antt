@@ -9,12 +9,13 @@ use Rattle.refusal.specs.declared.Refusal.the-variants.{Malformed, BadName, Nam
 use Rattle.refusal.specs.declared.Refusal.the-variants.{NotFinite, WrongLevel, BadExsub, BadOctave, OutOfReach}
 use Rattle.refusal.specs.declared.Refusal.the-variants.{NoRoom, Unknown, OutOfRange, SplitCollector, Overload}
 use Rattle.refusal.specs.declared.Refusal.the-variants.{CardInUse, NumbersUsedUp, Injection, NegativeIcss}
+use Rattle.refusal.specs.declared.Refusal.the-variants.{BadKey, BadNumber, KeyMissing, BadLine}
 use Rattle.refusal.specs.Told.{valuesOf}
 use Rattle.refusal.proofs.Refusal.{the-type}
 
 -- their places among all, from 0
 abbrev alone : List ℕ
-alone = 0 ∷ 1 ∷ 2 ∷ 3 ∷ 4 ∷ 5 ∷ 6 ∷ 7 ∷ 8 ∷ 9 ∷ 10 ∷ 11 ∷ 12 ∷ 13 ∷ 15 ∷ 16 ∷ 18 ∷ []
+alone = 0 ∷ 1 ∷ 2 ∷ 3 ∷ 4 ∷ 5 ∷ 6 ∷ 7 ∷ 8 ∷ 9 ∷ 10 ∷ 11 ∷ 12 ∷ 13 ∷ 15 ∷ 16 ∷ 18 ∷ 19 ∷ 20 ∷ 21 ∷ 22 ∷ []
 
 pub no-values : (f : Refusal) → OneOf alone (tagOf the-type f) → [] ≡ valuesOf f
 no-values (Overload i b) h = absurd (miss alone 14 tt h)
@@ -36,3 +37,7 @@ no-values SplitCollector h = refl
 no-values CardInUse h = refl
 no-values NumbersUsedUp h = refl
 no-values NegativeIcss h = refl
+no-values BadKey h = refl
+no-values BadNumber h = refl
+no-values KeyMissing h = refl
+no-values BadLine h = refl

@@ -45,6 +45,10 @@ errorLine first = bytes "error " ++ (take shownBytes first ++ newline ∷ [])
 unfoldable pub unreadableLine : List ℕ → List ℕ
 unreadableLine path = bytes "error cannot read " ++ (path ++ newline ∷ [])
 
+-- a card's model line
+unfoldable pub modelLine : List ℕ → List ℕ
+modelLine line = line ++ newline ∷ []
+
 -- ---- as many as there are: each written by its digits, a space before each, and the newline
 
 unfoldable pub spacedLine : {A : Type 0} → (A → List ℕ) → List A → List ℕ

@@ -1,6 +1,6 @@
 // The line that answers a command, written in a lent buffer.
 ghost use Rattle.answers.specs.Page.{Writes};
-ghost use Rattle.answers.specs.Answers.{answerLine, errorLine, unreadableLine, currentsLine, whoLine, sumLine, clipLine};
+ghost use Rattle.answers.specs.Answers.{answerLine, errorLine, unreadableLine, modelLine, currentsLine, whoLine, sumLine, clipLine};
 
 mod page; // page.rt: bytes written in a lent buffer
 mod parts; // parts.rt: what the answers are made of
@@ -10,7 +10,7 @@ use refusal::Refusal;
 // Room for the longest answer, that to `clip`.
 pub const ANSWER_ROOM: usize = 512;
 
-// An answer; those to `clip`, `currents`, `who` and `sum`, an unreadable file and a line that is no command are apart.
+// An answer; those to `clip`, `currents`, `who`, `sum` and `model`, an unreadable file and a line that is no command are apart.
 pub enum Answer {
     Library(u32),
     Offset(usize),
@@ -66,6 +66,14 @@ pub fn unreadable_line(path: &[u8], out: &mut [u8]) -> usize
     let start = page::put(b"error cannot read ", out, 0);
     let named = page::put(path, out, start);
     page::put(b"\n", out, named)
+}
+
+// The model line of a card; what the buffer has no room for is left out.
+pub fn model_line(line: &[u8], out: &mut [u8]) -> usize
+    ensures { λ r. ⌜ Writes (modelLine (now (line .entry))) (now (out .entry)) 0 (now (out .exit)) r ⌝ }
+{
+    let ended = page::put(line, out, 0);
+    page::put(b"\n", out, ended)
 }
 
 // A clipped record: its mask, by whether it is of version 2, and the bits of its numbers.

@@ -10,6 +10,7 @@ use Rattle.refusal.specs.declared.Refusal.the-variants.{Malformed, BadName, Nam
 use Rattle.refusal.specs.declared.Refusal.the-variants.{NotFinite, WrongLevel, BadExsub, BadOctave, OutOfReach}
 use Rattle.refusal.specs.declared.Refusal.the-variants.{NoRoom, Unknown, OutOfRange, SplitCollector, Overload}
 use Rattle.refusal.specs.declared.Refusal.the-variants.{CardInUse, NumbersUsedUp, Injection, NegativeIcss}
+use Rattle.refusal.specs.declared.Refusal.the-variants.{BadKey, BadNumber, KeyMissing, BadLine}
 use Rattle.refusal.specs.Order.{Verdict, no, yes, refuseIf, andThen}
 use Rattle.totals.specs.Flow.{overloads}
 use Rattle.given.specs.Lists.{anyOf}
@@ -43,6 +44,10 @@ bareOf SplitCollector = SplitCollector
 bareOf CardInUse = CardInUse
 bareOf NumbersUsedUp = NumbersUsedUp
 bareOf NegativeIcss = NegativeIcss
+bareOf BadKey = BadKey
+bareOf BadNumber = BadNumber
+bareOf KeyMissing = KeyMissing
+bareOf BadLine = BadLine
 
 abbrev pub bare : {A : Type 0} → Verdict A → Verdict A
 bare (no f) = no (bareOf f)

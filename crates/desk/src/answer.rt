@@ -12,6 +12,9 @@ use terms::BRANCHES;
 // Room for the answer to the longest path that an argument or a line gives.
 const PATH_ROOM: usize = 131104;
 
+// Room for the longest model line and its newline.
+const MODEL_ROOM: usize = 641;
+
 // The first n bytes of a text.
 fn put_part(text: &[u8; ANSWER_ROOM], n: usize, out: &mut [u8; ROOM], at: &mut usize) {
     puts(part(text, 0, n), out, at);
@@ -37,6 +40,13 @@ pub fn put_error(first: &[u8], out: &mut [u8; ROOM], at: &mut usize) {
 pub fn put_unreadable(path: &[u8], out: &mut [u8; ROOM], at: &mut usize) {
     let mut text = [0u8; PATH_ROOM];
     let n = answers::unreadable_line(path, &mut text);
+    puts(part(&text, 0, n), out, at);
+}
+
+// A model line.
+pub fn put_model(line: &[u8], out: &mut [u8; ROOM], at: &mut usize) {
+    let mut text = [0u8; MODEL_ROOM];
+    let n = answers::model_line(line, &mut text);
     puts(part(&text, 0, n), out, at);
 }
 

@@ -4,6 +4,7 @@ use crate::answer::put_answer;
 use crate::answer::put_clipping;
 use crate::answer::put_currents;
 use crate::answer::put_error;
+use crate::answer::put_model;
 use crate::answer::put_refused;
 use crate::answer::put_sum;
 use crate::answer::put_unreadable;
@@ -18,6 +19,7 @@ use answers::Answer;
 use board::Board;
 use library::Located;
 use library::Reading;
+use line_write::Written;
 use mending::Mending;
 use places::TRANSISTORS;
 use script::Command;
@@ -30,6 +32,9 @@ use script::Words;
 use terms::BRANCHES;
 use terms::ROLES;
 use totals::NODES;
+
+// Room for the longest model line.
+const MODEL_ROOM: usize = 640;
 
 // A node that is on no board.
 const OFF: i64 = -1;
@@ -91,6 +96,27 @@ fn clip_record(bytes: &[u8], out: &mut [u8; ROOM], at: &mut usize) {
 fn clip(name: &[u8], library: &[u8], out: &mut [u8; ROOM], at: &mut usize) {
     match library::locate(library, name) {
         Located::Record { at: place, size } => clip_record(part(library, place, size), out, at),
+        Located::Refused(f) => put_refused(f, out, at),
+    }
+}
+
+// The model line of a card of the library held.
+fn write_model(name: &[u8], rec: &[u8], out: &mut [u8; ROOM], at: &mut usize) {
+    let mut line = [0u8; MODEL_ROOM];
+    match line_write::write_line(name, rec, &mut line) {
+        Written::Bytes(n) => put_model(part(&line, 0, n), out, at),
+        Written::Refused(f) => put_refused(f, out, at),
+    }
+}
+
+fn model(name: &[u8], library: &[u8], out: &mut [u8; ROOM], at: &mut usize) {
+    match library::locate(library, name) {
+        Located::Record { at: place, size } => write_model(
+            name,
+            part(library, place, size),
+            out,
+            at,
+        ),
         Located::Refused(f) => put_refused(f, out, at),
     }
 }
@@ -165,6 +191,22 @@ fn load(board: Board, name: &[u8], library: &[u8], out: &mut [u8; ROOM], at: &mu
             at,
         ),
         Located::Refused(f) => {
+            put_refused(f, out, at);
+            board
+        }
+    }
+}
+
+// A model line loads its card.
+fn load_line(board: Board, line: &[u8], out: &mut [u8; ROOM], at: &mut usize) -> Board
+    requires { ⌜ Reached board ⌝ }
+    ensures { λ r. ⌜ Reached r ⌝ }
+{
+    let mut name = [0u8; name::LENGTH];
+    let mut rec = [0u8; line_read::RECORD_BYTES];
+    match line_read::read_line(trimming::trimmed(line), &mut name, &mut rec) {
+        line_read::Answer::Taken => load_record(board, sheet::bare_name(&name), &rec, out, at),
+        line_read::Answer::Refused(f) => {
             put_refused(f, out, at);
             board
         }
@@ -433,7 +475,7 @@ pub enum Asks {
 pub fn asked_by(v: Verb) -> Asks {
     match v {
         Verb::Nothing | Verb::TooLong | Verb::Error => Asks::Neither,
-        Verb::Library | Verb::Find | Verb::Clip | Verb::Mend => Asks::Neither,
+        Verb::Library | Verb::Find | Verb::Clip | Verb::Mend | Verb::Model => Asks::Neither,
         Verb::Poke => Asks::Slices,
         _ => Asks::Board,
     }
@@ -451,6 +493,7 @@ fn obey_shelf(
         Verb::Library => take_library(word, held, out, at),
         Verb::Find => find(word, shelf::held(held), out, at),
         Verb::Mend => mend(held, out, at),
+        Verb::Model => model(word, shelf::held(held), out, at),
         _ => clip(word, shelf::held(held), out, at),
     }
 }
@@ -543,6 +586,7 @@ pub fn obey(
     match verb {
         Verb::Load => load(board, name, library, out, at),
         Verb::Record => load_record(board, name, part(spelled, 0, c.bytes), out, at),
+        Verb::ModelLine => load_line(board, line, out, at),
         Verb::Lookup => {
             look_up(board, name, out, at);
             board

@@ -43,7 +43,7 @@ pub fn copy(src: &[u8], dst: &mut [u8])
 }
 
 // Puts the words that bytes spell at the start of a buffer.
-fn load(src: &[u8], dst: &mut [u64])
+pub fn load(src: &[u8], dst: &mut [u64])
     requires { ⌜ length (now src) / wordBytes ≤ length (now dst) ⌝ }
     ensures { λ r. ⌜ now (dst .exit) ≡ over (wordsIn (now (src .entry))) (now (dst .entry)) ⌝ }
 {
@@ -103,7 +103,7 @@ fn put(dst: &mut [u8], at: usize, w: usize, x: u64)
 }
 
 // The bytes of a word.
-fn bytes(x: u64) -> [u8; WORD_BYTES]
+pub fn bytes(x: u64) -> [u8; WORD_BYTES]
     ensures { λ r. ⌜ r ≡ bytesOf wordBytes x ⌝ }
 {
     let mut b = [0u8; WORD_BYTES];
@@ -112,7 +112,7 @@ fn bytes(x: u64) -> [u8; WORD_BYTES]
 }
 
 // Puts the bytes of words at the start of a buffer.
-fn store(words: &[u64], dst: &mut [u8])
+pub fn store(words: &[u64], dst: &mut [u8])
     requires { ⌜ wordBytes * length (now words) ≤ length (now dst) ⌝ }
     ensures { λ r. ⌜ now (dst .exit) ≡ over (bytesOfAll (now (words .entry))) (now (dst .entry)) ⌝ }
 {

@@ -38,10 +38,10 @@ use Rattle.bytes_le.specs.Buffer.{over}
 
 -- ---- bytes and words
 
-below-drop : (m n : ℕ) (l : List ℕ) → Below m l → Below m (drop n l)
+pub below-drop : (m n : ℕ) (l : List ℕ) → Below m l → Below m (drop n l)
 below-drop m n l b i = rw getD-drop (b (n + i))
 
-below-take : (m n : ℕ) (l : List ℕ) → 0 < m → Below m l → Below m (take n l)
+pub below-take : (m n : ℕ) (l : List ℕ) → 0 < m → Below m l → Below m (take n l)
 below-take m zero l p b i = p
 below-take m (suc n) [] p b i = p
 below-take m (suc n) (x ∷ l) p b zero = b 0

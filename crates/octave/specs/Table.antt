@@ -9,7 +9,7 @@ use native.Mathlib.Omega.{arith}
 use lib.Dec.{leb, leb→le, lit<}
 use lib.ListN.{getD}
 use mir.Facts.{and-yes}
-use Rattle.octave.specs.laws.Every.{at-each}
+use Rattle.whole.specs.laws.Every.{at-each}
 
 -- points of the table in an octave
 abbrev pub points : ℕ

@@ -1,3 +1,2 @@
 -- What follows from the definitions.
-pub mod Every
 pub mod Places

@@ -9,7 +9,7 @@ use lib.Dec.{leb, leb→le}
 use lib.Pow.{pow-pos}
 use mir.Facts.{and-yes}
 use Rattle.octave.specs.Table.{places, points, steps, entries, entryOf, mantissaOf, rule}
-use Rattle.octave.specs.laws.Every.{at-each}
+use Rattle.whole.specs.laws.Every.{at-each}
 use Rattle.octave_error.specs.Near.{million, Near}
 use Rattle.octave_error.proofs.Powers.{mul-pow}
 

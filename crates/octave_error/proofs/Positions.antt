@@ -10,7 +10,7 @@ use lib.Dec.{leb, leb→le}
 use lib.Pow.{pow-pos}
 use Rattle.octave.specs.Table.{places, points, steps, parts, entries, entryOf, mantissaOf}
 use Rattle.octave.specs.Table.{rule, entry-rises, entry-low}
-use Rattle.octave.specs.laws.Every.{at-each}
+use Rattle.whole.specs.laws.Every.{at-each}
 use Rattle.octave_error.specs.Near.{million, Near}
 use Rattle.octave_error.proofs.Powers.{power-is, power-parted, next-upper, next-lower, raise-upper, raise-lower}
 use Rattle.octave_error.proofs.Powers.{raise-strictly, raise-less, raise-more}

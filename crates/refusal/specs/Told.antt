@@ -8,6 +8,7 @@ use Rattle.refusal.specs.declared.Refusal.the-variants.{Malformed, BadNa
 use Rattle.refusal.specs.declared.Refusal.the-variants.{NotFinite, WrongLevel, BadExsub, BadOctave, OutOfReach}
 use Rattle.refusal.specs.declared.Refusal.the-variants.{NoRoom, Unknown, OutOfRange, SplitCollector, Overload}
 use Rattle.refusal.specs.declared.Refusal.the-variants.{CardInUse, NumbersUsedUp, Injection, NegativeIcss}
+use Rattle.refusal.specs.declared.Refusal.the-variants.{BadKey, BadNumber, KeyMissing, BadLine}
 
 -- the number of each refusal
 abbrev pub numberOf : Refusal → ℕ
@@ -30,6 +31,10 @@ numberOf CardInUse = 16
 numberOf NumbersUsedUp = 17
 numberOf (Injection i b) = 18
 numberOf NegativeIcss = 19
+numberOf BadKey = 20
+numberOf BadNumber = 21
+numberOf KeyMissing = 22
+numberOf BadLine = 23
 
 -- the values beside the number: for what overloads, the transistor's number and its branch
 abbrev pub valuesOf : Refusal → List ℕ
@@ -52,6 +57,10 @@ valuesOf SplitCollector = []
 valuesOf CardInUse = []
 valuesOf NumbersUsedUp = []
 valuesOf NegativeIcss = []
+valuesOf BadKey = []
+valuesOf BadNumber = []
+valuesOf KeyMissing = []
+valuesOf BadLine = []
 
 abbrev pub told : Refusal → List ℕ
 told f = numberOf f ∷ valuesOf f
@@ -80,6 +89,10 @@ inOrder i b =
     ∷ NumbersUsedUp
     ∷ Injection i b
     ∷ NegativeIcss
+    ∷ BadKey
+    ∷ BadNumber
+    ∷ KeyMissing
+    ∷ BadLine
     ∷ []
 
 -- the refusal whose number stands first among what is told, and its values after it
@@ -107,6 +120,10 @@ told-back CardInUse = refl
 told-back NumbersUsedUp = refl
 told-back (Injection i b) = refl
 told-back NegativeIcss = refl
+told-back BadKey = refl
+told-back BadNumber = refl
+told-back KeyMissing = refl
+told-back BadLine = refl
 
 pub told-injective : (f g : Refusal) → told f ≡ told g → f ≡ g
 told-injective f g e = sym (told-back f) ∙ ap refusalTold e ∙ told-back g

@@ -41,6 +41,14 @@ pub enum Refusal {
     Injection(u32, u32),
     // I_CSs is below zero
     NegativeIcss,
+    // a key of a model line that is none, or stands twice
+    BadKey,
+    // a word of a model line that is no number of its form, or a number that has no such form
+    BadNumber,
+    // a key that must be given is missing
+    KeyMissing,
+    // a line that is no model line in any other way
+    BadLine,
 }
 
 pub fn number(f: Refusal) -> u32
@@ -66,5 +74,9 @@ pub fn number(f: Refusal) -> u32
         Refusal::NumbersUsedUp => 17,
         Refusal::Injection(_, _) => 18,
         Refusal::NegativeIcss => 19,
+        Refusal::BadKey => 20,
+        Refusal::BadNumber => 21,
+        Refusal::KeyMissing => 22,
+        Refusal::BadLine => 23,
     }
 }

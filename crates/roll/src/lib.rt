@@ -20,7 +20,7 @@ const DIGITS: usize = 64;
 const MARK_WORDS: usize = 64;
 
 // Whether the name with these two words stands in a directory.
-fn holds(d: &[u8], low: u64, high: u64) -> bool
+pub fn holds(d: &[u8], low: u64, high: u64) -> bool
     ensures { λ r. ⌜ r ≡ among (bytesOf wordBytes low ++ bytesOf wordBytes high) (namesIn (now (d .entry))) ⌝ }
 {
     let mut t = d;

@@ -15,7 +15,7 @@ use Rattle.verbs.specs.declared.Row.{Row}
 use Rattle.verbs.specs.declared.Verb.{Verb}
 use Rattle.verbs.specs.declared.Verb.the-variants.{Nothing, TooLong, Error}
 use Rattle.verbs.specs.declared.Wants.{Wants}
-use Rattle.verbs.specs.declared.Wants.the-variants.{Texts, Numbers, Either, Pairs, NameAndHex}
+use Rattle.verbs.specs.declared.Wants.the-variants.{Texts, Numbers, Either, Pairs, NameAndHex, Anything}
 use Rattle.words.specs.Words.{noWords, wordsOf, wordAt}
 use Rattle.verbs.specs.Table.{rowNamed}
 use Rattle.script.specs.Command.{longestLine, mostBytes, passedOver, said, hasNumbers, saidPairs, verbIf, hexOf}
@@ -44,6 +44,10 @@ module _ (line : List ℕ) (w : Words) {old : List ℕ} {v : Verb} {r : Command}
   pub said-list : {want : Wants} → want ≡ Pairs → r ≡ saidPairs line w v → SaysTo line w v want old r old
   unfolding saidTo spelledTo
   said-list e g = record { command = rw e g; buffer = rw e }
+
+  pub said-any : {want : Wants} → want ≡ Anything → r ≡ said line w v 0 → SaysTo line w v want old r old
+  unfolding saidTo spelledTo
+  said-any e g = record { command = rw e g; buffer = rw e }
 
   pub said-other : (w .count ≡ 3 → ⊥) → r ≡ said line w Error 0 → SaysTo line w v NameAndHex old r old
   unfolding saidTo spelledTo

@@ -14,7 +14,7 @@ use Rattle.verbs.specs.declared.Row.{Row}
 use Rattle.verbs.specs.declared.Verb.{Verb}
 use Rattle.verbs.specs.declared.Verb.the-variants.{Nothing, TooLong, Error}
 use Rattle.verbs.specs.declared.Wants.{Wants}
-use Rattle.verbs.specs.declared.Wants.the-variants.{Texts, Numbers, Either, Pairs, NameAndHex}
+use Rattle.verbs.specs.declared.Wants.the-variants.{Texts, Numbers, Either, Pairs, NameAndHex, Anything}
 use Rattle.words.specs.Words.{noWords, wordsOf, wordAt}
 use Rattle.numbered.specs.Numbers.{mostNumbers, areNumbers, numbersTo}
 use Rattle.series.specs.declared.Series.{Series}
@@ -86,6 +86,7 @@ saidTo line w v (Numbers n) = said line w (verbIf (hasNumbers line w n) v) 0
 saidTo line w v (Either m n) = said line w (verbIf (hasNumbers line w m || hasNumbers line w n) v) 0
 saidTo line w v Pairs = saidPairs line w v
 saidTo line w v NameAndHex = saidIf (eqb (w .count) 3) line w v
+saidTo line w v Anything = said line w v 0
 
 -- what stands in the lent buffer afterwards: the bytes that are spelled, where the row wants them
 abbrev pub spelledIf : Bool → List ℕ → Words → List ℕ → List ℕ
@@ -98,6 +99,7 @@ spelledTo line w (Numbers n) old = old
 spelledTo line w (Either m n) old = old
 spelledTo line w Pairs old = old
 spelledTo line w NameAndHex old = spelledIf (eqb (w .count) 3) line w old
+spelledTo line w Anything old = old
 
 -- a line with these words that is not passed over says r to the row of that verb, and leaves new in the buffer
 pub record SaysTo (line : List ℕ) (w : Words) (v : Verb) (want : Wants) (old : List ℕ) (r : Command)

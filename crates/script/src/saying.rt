@@ -125,5 +125,6 @@ pub(crate) fn said_to(
         Wants::Either(m, n) => said(line, words, verb_if(has_either(line, words, m, n), verb), 0),
         Wants::Pairs => said_pairs(line, words, verb),
         Wants::NameAndHex => said_hex(line, words, verb, bytes),
+        Wants::Anything => said(line, words, verb, 0),
     }
 }

@@ -1,3 +1,2 @@
--- The table of the commands; `inner` has the words of inner contracts.
+-- The table of the commands.
 pub mod Table
-pub mod inner

@@ -8,9 +8,9 @@ use Rattle.name.specs.Name.{same}
 use Rattle.verbs.specs.declared.Verb.{Verb}
 use Rattle.verbs.specs.declared.Verb.the-variants.{Library, Find, Clip, Load, Record, Place}
 use Rattle.verbs.specs.declared.Verb.the-variants.{Move, Moves, Lift, Withdraw, Lookup, Node, Sheet}
-use Rattle.verbs.specs.declared.Verb.the-variants.{Currents, Who, Sum, Mend, Poke, Error}
+use Rattle.verbs.specs.declared.Verb.the-variants.{Currents, Who, Sum, Mend, Poke, ModelLine, Model, Error}
 use Rattle.verbs.specs.declared.Wants.{Wants}
-use Rattle.verbs.specs.declared.Wants.the-variants.{Texts, Numbers, Either, Pairs, NameAndHex}
+use Rattle.verbs.specs.declared.Wants.the-variants.{Texts, Numbers, Either, Pairs, NameAndHex, Anything}
 use Rattle.verbs.specs.declared.Row.{Row}
 use Rattle.spelling.specs.Bytes.{bytes}
 
@@ -25,7 +25,8 @@ row v w = record { verb = v; wants = w }
 abbrev entry : String → Verb → Wants → Entry
 entry word v w = record { word = bytes word; row = row v w }
 
--- each number is how many words a line of the command has, the first counted; a placing has one of two
+-- each number is how many words a line of the command has, the first counted; a placing has one of two, and a model line
+-- however many it likes, since the reader of such lines judges them
 abbrev pub table : List Entry
 table =
     entry "library" Library (Texts 2)
@@ -46,6 +47,8 @@ table =
     ∷ entry "sum" Sum (Numbers 2)
     ∷ entry "mend" Mend (Texts 1)
     ∷ entry "poke" Poke (Numbers 4)
+    ∷ entry ".model" ModelLine Anything
+    ∷ entry "model" Model (Texts 2)
     ∷ []
 
 abbrev pub rows : ℕ

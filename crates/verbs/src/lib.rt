@@ -1,7 +1,6 @@
 // The commands: the word of each, and what a line of it has to be.
 ghost use mathlib.Core.Path.{_≡_};
 ghost use Rattle.verbs.specs.Table.{rowAt, placeIn, table, rowNamed};
-ghost use Rattle.verbs.specs.inner.Packing.{packedOf};
 
 pub enum Verb {
     Library,
@@ -22,6 +21,9 @@ pub enum Verb {
     Sum,
     Mend,
     Poke,
+    // a model line, whose card is loaded
+    ModelLine,
+    Model,
     // a line that is passed over
     Nothing,
     TooLong,
@@ -30,13 +32,14 @@ pub enum Verb {
 }
 
 // What the words of a command have to be, beside the first: any, or numbers, as many as make so many words in all, or
-// one of two; pairs of numbers, as many as there are; or a name and hex digits.
+// one of two; pairs of numbers, as many as there are; a name and hex digits; or whatever they are.
 pub enum Wants {
     Texts(usize),
     Numbers(usize),
     Either(usize, usize),
     Pairs,
     NameAndHex,
+    Anything,
 }
 
 pub struct Row {
@@ -45,7 +48,7 @@ pub struct Row {
 }
 
 // How many commands there are.
-const ROWS: usize = 18;
+const ROWS: usize = 20;
 
 // The words of the commands as numbers, in the table's order: the first byte is the lowest.
 const PACKED: [u64; ROWS] = [
@@ -67,27 +70,15 @@ const PACKED: [u64; ROWS] = [
     0x6d7573,
     0x646e656d,
     0x656b6f70,
+    0x6c65646f6d2e,
+    0x6c65646f6d,
 ];
-
-// A word of one to eight bytes that a name may have, as a number; 0 for any other.
-fn packed(word: &[u8]) -> u64
-    ensures { λ r. ⌜ r ≡ packedOf (now (word .entry)) ⌝ }
-{
-    if bytes_le::WORD_BYTES < word.len() {
-        return 0;
-    }
-    if name::is_asked(word) {
-        bytes_le::u64_at(word, 0)
-    } else {
-        0
-    }
-}
 
 // The place in the table of the command with that word; how many there are, where none has it.
 fn place_of(word: &[u8]) -> usize
     ensures { λ r. ⌜ r ≡ placeIn (now (word .entry)) table ⌝ }
 {
-    let x = packed(word);
+    let x = packing::packed(word);
     let words = PACKED;
     let mut i = 0;
     while i < ROWS {
@@ -175,6 +166,14 @@ fn row_at(i: usize) -> Row
         17 => Row {
             verb: Verb::Poke,
             wants: Wants::Numbers(4),
+        },
+        18 => Row {
+            verb: Verb::ModelLine,
+            wants: Wants::Anything,
+        },
+        19 => Row {
+            verb: Verb::Model,
+            wants: Wants::Texts(2),
         },
         _ => Row {
             verb: Verb::Error,

@@ -14,6 +14,7 @@ use Rattle.refusal.specs.declared.Refusal.the-variants.{Malformed, BadName, Nam
 use Rattle.refusal.specs.declared.Refusal.the-variants.{NotFinite, WrongLevel, BadExsub, BadOctave, OutOfReach}
 use Rattle.refusal.specs.declared.Refusal.the-variants.{NoRoom, Unknown, OutOfRange, SplitCollector, Overload}
 use Rattle.refusal.specs.declared.Refusal.the-variants.{CardInUse, NumbersUsedUp, Injection, NegativeIcss}
+use Rattle.refusal.specs.declared.Refusal.the-variants.{BadKey, BadNumber, KeyMissing, BadLine}
 use Rattle.refusal.specs.Told.{told}
 use Rattle.bytes_le.specs.Buffer.{over}
 use Rattle.sheet.specs.laws.LinesFit.{told-long}
@@ -63,6 +64,10 @@ told-few CardInUse = lit≤ tt
 told-few NumbersUsedUp = lit≤ tt
 told-few (Injection i b) = lit≤ tt
 told-few NegativeIcss = lit≤ tt
+told-few BadKey = lit≤ tt
+told-few BadNumber = lit≤ tt
+told-few KeyMissing = lit≤ tt
+told-few BadLine = lit≤ tt
 
 -- the answer to what is refused
 pub refused-room : (f : Refusal) → length (answerLine (Refused f)) ≤ 71

@@ -9,7 +9,8 @@ use lib.ListN.{length, replicate}
 use Rattle.spelling.specs.Number.{parsedOf, parsedWith, allDigits, decimalFrom}
 use Rattle.hex.specs.Hex.{spells, allPairs, pairsOf}
 use Rattle.verbs.specs.declared.Verb.{Verb}
-use Rattle.verbs.specs.declared.Verb.the-variants.{Record, Place, Moves, Lift, Withdraw, Sheet, Nothing, TooLong, Error}
+use Rattle.verbs.specs.declared.Verb.the-variants.{Record, Place, Moves, Lift, Withdraw, Sheet, ModelLine, Model}
+use Rattle.verbs.specs.declared.Verb.the-variants.{Nothing, TooLong, Error}
 use Rattle.spelling.specs.Bytes.{bytes}
 use Rattle.words.specs.Words.{spansFrom, withWord, withWords, wordsOf, partOf}
 use Rattle.verbs.specs.Table.{placeIn, rowNamed}
@@ -28,7 +29,8 @@ verbOf line = commandOf (bytes line) .verb
 -- blank, a comment, two verbs and what is none of them: a tab parts no words, a minus alone is no number, a word too
 -- many, half a byte; then bytes, no bytes, a line of one word, and a word that only begins like a command's; lists of no
 -- pair and of two, an odd one, and one with a word that is no number;
--- placings on seven nodes and on eleven, on eight, and on eleven of which one is no number
+-- placings on seven nodes and on eleven, on eight, and on eleven of which one is no number; model lines, however many
+-- words they have, and the model of a name, of none and of two
 pub said-verbs : map verbOf
     ("   "
     ∷ "  # lift 1"
@@ -50,9 +52,15 @@ pub said-verbs : map verbOf
     ∷ "place 1 0 1 1 2 2 2 3 4 5 6 7"
     ∷ "place 1 0 1 1 2 2 2 3 4"
     ∷ "place 1 0 1 1 2 2 2 3 4 5 6 x"
+    ∷ " .model a npn octave=1 "
+    ∷ ".model"
+    ∷ "model a"
+    ∷ "model"
+    ∷ "model a b"
     ∷ [])
     ≡ Nothing ∷ Nothing ∷ Lift ∷ Withdraw ∷ Error ∷ Error ∷ Error ∷ Error ∷ Record ∷ Record ∷ Sheet ∷ Error
-    ∷ Moves ∷ Moves ∷ Error ∷ Error ∷ Place ∷ Place ∷ Error ∷ Error ∷ []
+    ∷ Moves ∷ Moves ∷ Error ∷ Error ∷ Place ∷ Place ∷ Error ∷ Error ∷ ModelLine ∷ ModelLine ∷ Model ∷ Error ∷ Error
+    ∷ []
 unfolding spansFrom withWord withWords wordsOf partOf parsedOf parsedWith allDigits decimalFrom spells allPairs pairsOf placeIn rowNamed areNumbers numbersTo allNumbers writtenFrom seriesOf said saidPairs hexOf saidTo commandOf
 said-verbs = refl
 

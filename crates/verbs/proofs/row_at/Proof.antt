@@ -6,7 +6,7 @@ use Rattle.verbs.proofs.Packs.{beyond}
 use Rattle.verbs.proofs.row_at.Tie as tie
 use Rattle.verbs.proofs.row_at.Statement.{statement}
 
-rest : tie.Need-returns-19
+rest : tie.Need-returns-21
 rest c = sym (List·getD-eq-default rowList noRow (beyond rows _ (c .match .rest)))
 
 pub row-at-spec : {M : Type 1} → statement M
@@ -20,4 +20,5 @@ row-at-spec =
     (λ c. sym (ap rowAt (c .match .keys11))) (λ c. sym (ap rowAt (c .match .keys12)))
     (λ c. sym (ap rowAt (c .match .keys13))) (λ c. sym (ap rowAt (c .match .keys14)))
     (λ c. sym (ap rowAt (c .match .keys15))) (λ c. sym (ap rowAt (c .match .keys16)))
-    (λ c. sym (ap rowAt (c .match .keys17))) (λ c. sym (ap rowAt (c .match .keys18))) rest)
+    (λ c. sym (ap rowAt (c .match .keys17))) (λ c. sym (ap rowAt (c .match .keys18)))
+    (λ c. sym (ap rowAt (c .match .keys19))) (λ c. sym (ap rowAt (c .match .keys20))) rest)

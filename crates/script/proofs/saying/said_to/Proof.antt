@@ -1,6 +1,6 @@
 -- Each kind of row as its definition has it.
 use borrow.Author.Needs.{needs}
-use Rattle.script.proofs.Sayings.{said-texts, said-numbers, said-either, said-list}
+use Rattle.script.proofs.Sayings.{said-texts, said-numbers, said-either, said-list, said-any}
 use Rattle.script.proofs.saying.said_to.Tie as tie
 use Rattle.script.proofs.saying.said_to.Statement.{statement}
 
@@ -35,10 +35,14 @@ returns-4 c = said-list _ _ (c .before .enum-told .given .1) (c .said-pairs .ens
 returns-5 : tie.Need-returns-5
 returns-5 c = rw (hex c .before .before .enum-told2 .given .1) (hex c .said-hex .ensures)
 
+returns-6 : tie.Need-returns-6
+returns-6 c = said-any _ _ (c .before .enum-told3 .given .1) (c .said4 .ensures)
+
 pub said-to-spec : {M : Type 1} → statement M
 said-to-spec =
     tie.close
     (tie.spec (λ c. search needs) (λ c κs. search needs) (λ c κs. search needs) (λ c. search needs)
     (λ c κs. search needs) (λ c κs. search needs) (λ c κs. search needs) (λ c. search needs) (λ c κs. search needs)
     (λ c κs. search needs) (λ c κs. search needs) (λ c. search needs) (λ c κs. search needs) (λ c. search needs)
-    (λ c κs. search needs) returns returns-2 returns-3 returns-4 (λ c. search needs) returns-5)
+    (λ c κs. search needs) (λ c. search needs) (λ c κs. search needs) returns returns-2 returns-3 returns-4
+    (λ c. search needs) returns-5 returns-6)

@@ -1,0 +1,2 @@
+* only one return is passed over
+

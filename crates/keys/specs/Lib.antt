@@ -1,0 +1,2 @@
+-- The keys of a model line.
+pub mod Keys

@@ -1,0 +1,2 @@
+-- Words of inner contracts: a line as it is put together.
+pub mod Parts

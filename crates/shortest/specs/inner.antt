@@ -1,0 +1,2 @@
+-- Words of inner contracts: what a search between bounds and from the highest power down has come to.
+pub mod Search

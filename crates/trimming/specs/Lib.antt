@@ -1,0 +1,2 @@
+-- A line without the spaces at its ends.
+pub mod Trimmed

@@ -1,2 +1,0 @@
--- Words of inner contracts: a word as a number.
-pub mod Packing
