@@ -1,6 +1,6 @@
 //! A differential test: random libraries and scripts, good and damaged, through the built programs and through this implementation; every other script may poke.
 
-use crate::protocol;
+use crate::{lines, protocol};
 use std::io::Write;
 use std::process::{Command, Stdio};
 
@@ -196,6 +196,79 @@ fn ticks(d: &mut Dice) -> String {
     }
 }
 
+/// A text that is a number of a model line, or nearly one.
+fn decimal(d: &mut Dice) -> String {
+    let digits = |d: &mut Dice, n: u64| (0..n).map(|_| d.roll(10).to_string()).collect::<String>();
+    let (before, after) = (d.roll(9), d.roll(9));
+    let mut text = String::from(*d.one_of(&["", "", "", "-"]));
+    text += &digits(d, before);
+    text += *d.one_of(&["", ".", "."]);
+    text += &digits(d, after);
+    match d.roll(4) {
+        0 => text += &format!("e{}", d.roll(40)),
+        1 => text += &format!("e-{}", d.roll(40)),
+        2 => text += *d.one_of(&["", "e", "e+5", "e005", "E5", "x"]),
+        _ => {}
+    }
+    text
+}
+
+/// A model line, good or nearly so.
+fn model_line(d: &mut Dice) -> Vec<u8> {
+    let mut line = b".model ".to_vec();
+    line.extend(name(d));
+    line.extend(d.one_of(&[" npn", " npn", " pnp", " PNP"]).bytes());
+    for _ in 0..d.roll(9) {
+        let (key, _) = d.one_of(&lines::KEYS);
+        let value = match (*key, d.roll(3)) {
+            ("octave", 1 | 2) => String::from("17808257"),
+            ("level", 1 | 2) => String::from("504"),
+            (_, 0) => decimal(d),
+            _ => format!("{}e-{}", d.roll(1000), d.roll(16)),
+        };
+        line.extend(format!(" {key}={value}").bytes());
+    }
+    if d.roll(5) > 0 && !line.windows(7).any(|w| w == b"octave=") {
+        line.extend(b" octave=17808257");
+    }
+    if d.roll(6) == 0 {
+        spoil(d, &mut line);
+    }
+    line
+}
+
+/// A byte dropped, doubled or changed.
+fn spoil(d: &mut Dice, line: &mut Vec<u8>) {
+    let at = d.roll(line.len() as u64) as usize;
+    match d.roll(3) {
+        0 => {
+            line.remove(at);
+        }
+        1 => line.insert(at, line[at]),
+        _ => line[at] = d.roll(256) as u8,
+    }
+}
+
+/// A file of model lines as a foundry would send it.
+fn foundry(d: &mut Dice) -> Vec<u8> {
+    let mut file = Vec::new();
+    for _ in 0..d.roll(7) {
+        match d.roll(6) {
+            0 => file.extend(b"* a comment"),
+            1 => {}
+            _ => {
+                let line = model_line(d);
+                let cut = line.iter().rposition(|b| *b == b' ').unwrap_or(0);
+                file.extend(&line[..cut]);
+                file.extend(*d.one_of(&[&b"\n+"[..], b"\n+ ", b"\r\n+", b" "]));
+                file.extend(line[cut..].iter().skip(1));
+            }
+        }
+        file.extend(*d.one_of(&[&b"\n"[..], b"\r\n", b"\n\n"]));
+    }
+    file
+}
+
 fn script(d: &mut Dice) -> Vec<u8> {
     let mut s = Vec::new();
     let hex = |b: &[u8]| b.iter().map(|x| format!("{x:02x}")).collect::<String>();
@@ -210,7 +283,12 @@ fn script(d: &mut Dice) -> Vec<u8> {
         );
     }
     for _ in 0..120 {
-        let line = match d.roll(22) {
+        let line = match d.roll(25) {
+            22 | 23 => {
+                s.extend(model_line(d));
+                String::new()
+            }
+            24 => format!("model {}", String::from_utf8(name(d)).unwrap()),
             0 => format!(
                 "record {} {}",
                 String::from_utf8(name(d)).unwrap(),
@@ -279,24 +357,68 @@ fn piped(program: &[String], input: &[u8]) -> Vec<u8> {
     out
 }
 
-/// `desk` and `listing` are the words that run the two built programs.
-pub fn differ(rounds: u64, desk: &[String], listing: &[String]) {
+/// `run` gives the words that run a built program.
+pub fn differ(rounds: u64, run: impl Fn(&str) -> Vec<String>) {
     let mut bad = 0;
     for round in 1..=rounds {
         let d = &mut Dice::new(round);
         let l = library(d);
-        if piped(listing, &l) != protocol::listing(&l) {
-            bad += 1;
-            println!("listing differs in round {round}");
-        }
         let s = script(d);
+        let f = foundry(d);
         let pokes = round % 2 == 0;
-        let mut words = desk.to_vec();
-        words.extend(pokes.then(|| String::from("--poke")));
-        if piped(&words, &s) != protocol::Desk::new(|_| None, pokes).run(&s) {
+        let mut desk = run("desk");
+        desk.extend(pokes.then(|| String::from("--poke")));
+        let alike = [
+            (
+                "listing",
+                piped(&run("listing"), &l) == protocol::listing(&l),
+            ),
+            ("models", piped(&run("models"), &l) == lines::models(&l)),
+            ("cards", piped(&run("cards"), &f) == lines::cards(&f)),
+            (
+                "desk",
+                piped(&desk, &s) == protocol::Desk::new(|_| None, pokes).run(&s),
+            ),
+        ];
+        for (program, _) in alike.iter().filter(|(_, same)| !same) {
             bad += 1;
-            println!("desk differs in round {round}");
+            println!("{program} differs in round {round}");
         }
     }
     println!("{rounds} rounds, {bad} differences");
+}
+
+/// Every byte of a good line dropped, doubled and changed to every other, through the desk: as many lines to a script as
+/// load no more cards than a board holds.
+pub fn spoiled(desk: &[String]) {
+    const CARDS: usize = 16;
+    let good: &[u8] = b".model n4 npn is=2.2e-17 bf=.5 vlr=-3e-1 re=5. octave=17808257 mult=12";
+    let mut all = Vec::new();
+    for at in 0..good.len() {
+        let with = |put: &[u8]| [&good[..at], put, &good[at + 1..]].concat();
+        all.push(with(b""));
+        all.push(with(&[good[at]; 2]));
+        all.extend((0..=255).filter(|b| *b != b'\n').map(|b| with(&[b])));
+    }
+    let (mut bad, mut script, mut loaded, mut taken) = (0, Vec::new(), 0, 0);
+    let mut judge = |script: &mut Vec<u8>| {
+        bad += u32::from(piped(desk, script) != protocol::Desk::new(|_| None, false).run(script));
+        script.clear();
+    };
+    for line in &all {
+        script.extend(line);
+        script.push(b'\n');
+        let read = usize::from(lines::read(line).is_ok());
+        loaded += read;
+        taken += read;
+        if loaded == CARDS {
+            judge(&mut script);
+            loaded = 0;
+        }
+    }
+    judge(&mut script);
+    println!(
+        "{} spoiled lines, {taken} of them taken; {bad} scripts differ",
+        all.len()
+    );
 }

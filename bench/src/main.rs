@@ -9,7 +9,8 @@
 //!                           move, refused, all, named_0, named_1, named_8, named_32, named_64, singly, together, pair, mend,
 //!                           write, read, find, and the last four with _wide, the last
 //!                           two with _alike and _crowded; write_line, read_line
-//!   bench differ ROUNDS     random inputs through the built programs (`./desk`, `./listing` of the project) and this implementation
+//!   bench differ ROUNDS     random inputs through the built programs (desk, listing, models, cards) and this implementation
+//!   bench spoil             every byte of a model line changed, dropped and doubled, through the desk and this implementation
 
 mod board;
 mod card;
@@ -568,6 +569,12 @@ fn answer(script: &str, pokes: bool) {
     std::io::stdout().write_all(&out).unwrap();
 }
 
+/// The words that run a program of the project, which must have been built.
+fn program(name: &str) -> Vec<String> {
+    let run = concat!(env!("CARGO_MANIFEST_DIR"), "/../tools/run");
+    vec![run.to_string(), name.to_string()]
+}
+
 fn main() {
     let args: Vec<String> = std::env::args().skip(1).collect();
     match args.iter().map(String::as_str).collect::<Vec<_>>()[..] {
@@ -584,17 +591,10 @@ fn main() {
             .unwrap(),
         ["time", name, times] => time(name, times.parse().unwrap()),
         ["vectors", folder] => vectors(&std::fs::canonicalize(folder).unwrap()),
-        ["differ", rounds] => {
-            let top = concat!(env!("CARGO_MANIFEST_DIR"), "/..");
-            let program = |name: &str| vec![format!("{top}/tools/run"), name.to_string()];
-            differ::differ(
-                rounds.parse().unwrap(),
-                &program("desk"),
-                &program("listing"),
-            );
-        }
+        ["differ", rounds] => differ::differ(rounds.parse().unwrap(), program),
+        ["spoil"] => differ::spoiled(&program("desk")),
         _ => {
-            println!("usage: bench vectors FOLDER | desk [--poke] SCRIPT | listing LIBRARY | models FILE | cards FILE | time NAME TIMES | differ ROUNDS")
+            println!("usage: bench vectors FOLDER | desk [--poke] SCRIPT | listing LIBRARY | models FILE | cards FILE | time NAME TIMES | differ ROUNDS | spoil")
         }
     }
 }
