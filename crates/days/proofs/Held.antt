@@ -3,7 +3,6 @@ use mathlib.Core.Path.{_≡_}
 use Prim.Native.Nat.{ℕ}
 use mathlib.Core.List.{List}
 use Rattle.totals.specs.Flow.{ticksAt}
-use Rattle.model.specs.Board.{Board}
 use Rattle.model.specs.Desk.{Call}
 use Rattle.model.specs.Model.{transistorAt, workedOn, voltsOf, boardAfter}
 use Rattle.model.proofs.Invariant.{invariant-after, held-is}

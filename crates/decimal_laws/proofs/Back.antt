@@ -2,14 +2,12 @@
 use mathlib.Core.Path.{_≡_, ap, subst, _∙_}
 use mathlib.Core.Bool.{Bool}
 use Prim.Native.Nat.{ℕ, _^_, _<_}
-use Rattle.decimal.specs.declared.Form.{Form}
 use Rattle.decimal.specs.declared.Form.the-variants.{Number, Nothing}
-use Rattle.decimal.specs.Decimal.{wordOf}
 use Rattle.shortest.specs.Form.{formOf}
 use Rattle.shortest.specs.laws.Least.{ReadsBack, Formed}
 use Rattle.shortest.proofs.Fewest.{formed}
 use Rattle.decimal_read.specs.declared.Reading.the-variants.{Word}
-use Rattle.decimal_read.specs.Text.{readAs, readOf, wordRead}
+use Rattle.decimal_read.specs.Text.{readAs, wordRead}
 use Rattle.decimal_write.specs.Written.{numberText}
 use Rattle.decimal_write.proofs.Back.{number-back}
 

@@ -1,5 +1,5 @@
 -- A text that is read has digits and a power in their ranges, and so its word has a form.
-use mathlib.Core.Path.{_≡_, refl, ap, subst}
+use mathlib.Core.Path.{_≡_, refl, subst}
 use mathlib.Core.Bool.{Bool, true, false, _&&_, not, cond}
 use mathlib.Core.List.{List, [], _∷_}
 use Prim.Native.Nat.{ℕ, _+_, _-_, _*_, _^_, _≤_, _<_}
@@ -9,7 +9,7 @@ use lib.Dec.{leb, ltb, eqb, lit<}
 use Rattle.refusal.specs.Clash.{clash}
 use Rattle.decimal.specs.declared.Form.{Form}
 use Rattle.decimal.specs.declared.Form.the-variants.{Number, Nothing}
-use Rattle.decimal.specs.Decimal.{digitsEnd, powersEnd, signWeight, sizeBits, wordOf}
+use Rattle.decimal.specs.Decimal.{digitsEnd, powersEnd, signWeight, sizeBits}
 use Rattle.decimal.proofs.Order.{size-under, word-is}
 use Rattle.shortest.specs.Form.{formOf}
 use Rattle.shortest.specs.laws.Least.{ReadsBack}

@@ -1,7 +1,5 @@
 -- Worked numbers: the words of some texts, as the definitions compute them.
 use mathlib.Core.Path.{_≡_, refl}
-use mathlib.Core.List.{List}
-use Prim.Native.Nat.{ℕ}
 use lib.Ieee.{round, toBits}
 use Rattle.spelling.specs.Bytes.{bytes}
 use Rattle.decimal.specs.Decimal.{valueOf, wordOf}

@@ -2,11 +2,11 @@
 use mathlib.Core.Path.{_≡_, refl, sym, ap, ap₂, _∙_, subst}
 use mathlib.Core.Bool.{Bool, true, false}
 use mathlib.Core.List.{List, [], _++_, append-nil}
-use Prim.Native.Nat.{ℕ, zero, _+_, _-_, _*_, _≤_, _<_}
+use Prim.Native.Nat.{ℕ, zero, _-_, _*_, _≤_, _<_}
 use native.Mathlib.Nat.{le-of-eq}
 use native.Mathlib.Omega.{arith}
 use borrow.Author.Tests.{lt-ltb, le-ltb, le-leb, lt-leb}
-use lib.Dec.{leb, ltb}
+use lib.Dec.{leb}
 use lib.ListN.{length, take, drop, replicate, length-append, length-take, length-drop, length-replicate, drop-of-length-le}
 use lib.Seq.{take-all}
 use Rattle.refusal.specs.Clash.{clash}
@@ -28,7 +28,7 @@ use Rattle.line_read.specs.Answers.{recordBytes, toldAnswer, answered}
 use Rattle.line_laws.proofs.Sound.{line-good}
 use Rattle.trimming.specs.Trimmed.{trimmed}
 use Rattle.filing.specs.Lines.{longestLine}
-use Rattle.filing.specs.Filed.{namesRoom, filedNames, besides, filingOf, overAt, Leaves, Files}
+use Rattle.filing.specs.Filed.{namesRoom, besides, filingOf, overAt, Leaves, Files}
 use Rattle.filing.specs.inner.Cards.{FilesCard}
 
 -- ---- the names so far

@@ -2,17 +2,16 @@
 use mathlib.Core.Path.{_≡_, refl, sym, ap, subst, _∙_}
 use mathlib.Core.Bool.{Bool, true, false, cond}
 use mathlib.Core.List.{List, [], _∷_, _++_, append-assoc}
-use Prim.Native.Nat.{ℕ, suc, _+_, _-_, _≤_, _<_}
+use Prim.Native.Nat.{ℕ, _+_, _-_, _≤_, _<_}
 use native.Mathlib.Numerals.{add-one}
 use native.Mathlib.Omega.{arith}
 use borrow.Author.Tests.{lt-ltb, le-ltb, eq-eqb, ne-eqb}
 use lib.Dec.{eqb, ltb}
-use lib.ListN.{length, take, drop, getD, set, length-set, length-append, length-take, take-append-drop}
+use lib.ListN.{length, take, drop, getD, set, length-set, length-take, take-append-drop}
 use lib.Seq.{take-all, take-at, take-suc-set, length-take-le}
 use Rattle.decimal_write.proofs.Puts as puts
 use Rattle.decimal_write.proofs.Puts.{Putting}
 use Rattle.trimming.specs.Trimmed.{fromFirst, toLast, trimmed}
-use Rattle.filing.specs.declared.Kind.{Kind}
 use Rattle.filing.specs.declared.Kind.the-variants.{Passed, Model, More}
 use Rattle.filing.specs.Lines.{longestLine, lineRoom, starByte, plusByte, returnByte, marked, keptIf, withByte}
 use Rattle.filing.specs.Lines.{withText, bareOf, firstIf, kindIf, kindOf}

@@ -5,8 +5,7 @@ use Prim.Native.Nat.{ℕ, _*_}
 use lib.Dec.{leb, ltb}
 use lib.ListN.{length, take, drop}
 use Rattle.refusal.specs.declared.Refusal.the-variants.{Malformed, NameTwice, BadLine}
-use Rattle.refusal.specs.Told.{told}
-use Rattle.refusal.specs.Order.{Verdict, no, yes, refuseIf, andThen, Answer, refused, given, tells}
+use Rattle.refusal.specs.Order.{Verdict, no, yes, refuseIf, andThen, tells}
 use Rattle.bytes_le.specs.Buffer.{over}
 use Rattle.name.specs.Name.{nameLength, padded}
 use Rattle.roll.specs.Directory.{namesIn, among}

@@ -1,5 +1,5 @@
 -- A series resistor's row is the rule's own words, turns about when its ends do, and keeps Ohm's law to the tick.
-use mathlib.Core.Path.{_≡_, refl, ap, ap₂, _∙_, subst, sym}
+use mathlib.Core.Path.{_≡_, refl, ap, _∙_, subst, sym}
 use mathlib.Core.Bool.{false, _||_, or-false}
 use mathlib.Core.Logic.{_⊎_, inl, inr}
 use Prim.Native.Nat.{ℕ, zero, suc, _-_, _^_, _≤_, _<_}

@@ -1,7 +1,7 @@
 -- Lent is old: over slices that a board's own fresh call filled and only its calls have written since, with the newest
 -- value, each call answers as the board with voltages and totals inside would, and leaves the state that it would leave.
 use mathlib.Core.Path.{_≡_, refl, sym, ap, _∙_}
-use mathlib.Core.Bool.{Bool, false, _||_}
+use mathlib.Core.Bool.{Bool, false}
 use mathlib.Core.List.{List, [], _∷_}
 use Prim.Native.Nat.{ℕ}
 use lib.ListN.{length}
@@ -12,7 +12,7 @@ use Rattle.refusal.specs.Clash.{clash}
 use Rattle.refusal.specs.Order.{Verdict, no, yes, refuseIf, andThen}
 use Rattle.card.specs.declared.WorkedCard.{WorkedCard}
 use Rattle.given.specs.Pairs.{Shift}
-use Rattle.slices.specs.Slices.{otherLength, offSlices, someOutside}
+use Rattle.slices.specs.Slices.{offSlices, someOutside}
 use Rattle.model.specs.Counts.{nodesMost}
 use Rattle.model.specs.Board.{Board, Answered}
 use Rattle.model.specs.declared.Answer.{Answer}
@@ -26,7 +26,7 @@ use Rattle.model.specs.Model.{showed, showedOf, opened, mayOpen, openedOf, list
 use Rattle.model.specs.Model as old
 use Rattle.model.proofs.Invariant.{Invariant, invariant-after}
 use Rattle.lending.specs.Rest.{State, bare, restOf, stateOf}
-use Rattle.lending.specs.Lending.{Lent, lentAs, refusalIn, lentBy, changing, seeing, beside, freshBy, freshLent}
+use Rattle.lending.specs.Lending.{Lent, lentAs, refusalIn, lentBy, changing, seeing, beside, freshLent}
 use Rattle.lending.specs.Lending.{placedLent, movedLent, liftedLent, showedLent, lentOf}
 use Rattle.lending.specs.Reached.{stateAfter}
 use Rattle.lending_laws.proofs.Slices.{board-again, slices-on, totals-inside}

@@ -1,6 +1,6 @@
 -- A line that was read is written again, whatever it was, and reading that changes nothing.
-use mathlib.Core.Path.{_≡_, refl, sym, ap, ap₂, _∙_, subst}
-use mathlib.Core.Bool.{Bool, true, false, _&&_, _||_}
+use mathlib.Core.Path.{_≡_, refl, sym, ap, ap₂, _∙_}
+use mathlib.Core.Bool.{true, _&&_, _||_}
 use mathlib.Core.List.{List, [], _∷_, _++_}
 use mathlib.Core.Logic.{_⊎_, inl, inr}
 use Prim.Native.Nat.{ℕ, zero, suc, _+_, _*_, _^_, _≤_, _<_}
@@ -10,7 +10,7 @@ use lib.Dec.{eqb, lit<, lit≤}
 use lib.ListN.{length, take, drop, getD}
 use lib.Seq.{take-suc, take-all, drop-drop}
 use Rattle.refusal.specs.Order.{yes}
-use Rattle.bytes_le.specs.Le.{le, bytesOf, le-bytes, Below}
+use Rattle.bytes_le.specs.Le.{le, le-bytes, Below}
 use Rattle.clip.specs.Numbers.{polarity, spare}
 use Rattle.clip.specs.Record.{isWide, wordAt}
 use Rattle.directory.specs.Format.{bytesOfAll}

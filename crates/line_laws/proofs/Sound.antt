@@ -3,15 +3,15 @@ use mathlib.Core.Path.{_≡_, refl, ap, _∙_, subst}
 use mathlib.Core.Bool.{Bool, true, false, not}
 use mathlib.Core.List.{List, [], _∷_, _++_, map}
 use mathlib.Core.Logic.{_⊎_, inl, inr}
-use Prim.Native.Nat.{ℕ, zero, suc, _+_, _≤_, _<_}
+use Prim.Native.Nat.{ℕ, zero, suc, _+_, _<_}
 use native.Mathlib.Omega.{arith}
 use borrow.Author.Tests.{leb-false}
-use lib.Dec.{leb, eqb, lit<}
-use lib.ListN.{length, take, drop, getD, set, length-set}
+use lib.Dec.{leb, lit<}
+use lib.ListN.{length, drop, getD, set, length-set}
 use lib.Seq.{getD-set-same, getD-set-other}
 use Rattle.refusal.specs.Clash.{clash}
 use Rattle.refusal.specs.declared.Refusal.the-variants.{BadName, BadKey, KeyMissing, BadLine}
-use Rattle.refusal.specs.Order.{Verdict, no, yes, refuseIf, andThen, passes-if}
+use Rattle.refusal.specs.Order.{Verdict, no, yes, andThen, passes-if}
 use Rattle.name.specs.Name.{asked, same}
 use Rattle.clip.specs.Numbers.{octave, polarity, spare}
 use Rattle.spelling.specs.Bytes.{bytes}
@@ -22,7 +22,7 @@ use Rattle.decimal_read.specs.Text.{wordRead}
 use Rattle.decimal_laws.proofs.Numbered.{Numbered, read-numbered}
 use lib.Ieee.{round, toBits}
 use Rattle.keys.specs.Keys.{Key, keys, keyCount, wordIn, defaults, plusOne, minusOne}
-use Rattle.line_read.specs.Line.{Head, Taken, Model, taken, noneTaken, equalsAt, keyOf, numberOf, withNumber, takeKey, takeKeys}
+use Rattle.line_read.specs.Line.{Head, Taken, Model, noneTaken, equalsAt, keyOf, numberOf, withNumber, takeKey, takeKeys}
 use Rattle.line_read.specs.Line.{typedIf, typed, named, headed, headOf, startsInSpace, endsInSpace, wordsFrom, modelOf, closed, lineOf}
 
 -- ---- words of which each is a number's; past their end there is 0, which is one

@@ -2,7 +2,6 @@
 use mathlib.Core.Path.{_≡_, refl, sym, ap, ap₂, _∙_}
 use mathlib.Core.Bool.{Bool, true, false, not}
 use mathlib.Core.List.{List, [], _∷_, map}
-use Prim.Native.Nat.{ℕ, zero, suc}
 use lib.ListN.{getD}
 use lib.IntN.{ℤ, pos, negℤ, _-ℤ_, negℤ-negℤ}
 use Rattle.card.specs.declared.WorkedCard.{WorkedCard}

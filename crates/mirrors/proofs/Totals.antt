@@ -9,7 +9,7 @@ use lib.IntN.{ℤ, pos, negℤ, _+ℤ_, _-ℤ_, negℤ-+ℤ}
 use Rattle.card.specs.declared.WorkedCard.{WorkedCard}
 use Rattle.terms.specs.Rows.{Row, roleIndex, rowsFor}
 use Rattle.rows.specs.declared.Outcome.{Outcome}
-use Rattle.polarity.specs.Polarity.{turnedOutcome, outcomeOf}
+use Rattle.polarity.specs.Polarity.{outcomeOf}
 use Rattle.polarity.proofs.Turned.{turned-less}
 use Rattle.totals.specs.Gives.{nodesMost, atNode, rowsGive}
 use Rattle.totals.specs.Flow.{rolesAt, flow, sumOver}

@@ -1,6 +1,6 @@
 -- A name that stands already, one card too many, and room for both.
 use mathlib.Core.Path.{_≡_}
-use mathlib.Core.List.{List, _++_}
+use mathlib.Core.List.{_++_}
 use Rattle.bytes_le.specs.Le.{wordBytes, bytesOf}
 use Rattle.name.proofs.Laws.{words-in}
 use Rattle.filing.proofs.Cards.{card-twice, card-many, card-filed}

@@ -1,6 +1,5 @@
 -- The later byte is a space, or it is not.
 use borrow.Author.Tests.{eq-eqb, ne-eqb}
-use borrow.Author.Needs.{needs}
 use Rattle.filing.proofs.marked.Statement.{statement}
 use Rattle.filing.proofs.marked.Tie as tie
 

@@ -1,6 +1,5 @@
 -- `microvolts` ends: each turn passes one role.
 use Prim.Native.Nat.{_≤_, _-_}
-use native.Mathlib.Omega.{arith}
 use borrow.Author.Needs.{needs}
 use Rattle.terms.specs.Rows.{roles}
 use Rattle.vectors.proofs.microvolts.Statement.{statement}
