@@ -1,4 +1,5 @@
-//! A differential test: random libraries and scripts, good and damaged, through the built programs and through this implementation; every other script may poke.
+//! A differential test: random libraries and scripts, good and damaged, through the built programs and through this
+//! implementation; every other script may poke.
 
 use crate::{lines, protocol};
 use std::io::Write;

@@ -1,4 +1,5 @@
-//! Model lines and the two programs over them, worked from the rules; numbers by Rust's own reading and printing of f64.
+//! Model lines and the two programs over them, worked from the rules; numbers by Rust's own reading and printing of
+//! f64.
 
 use crate::library;
 use crate::protocol::LONGEST;
@@ -63,7 +64,8 @@ pub fn number(text: &[u8]) -> Option<f64> {
     Some(if x == 0.0 { 0.0 } else { x })
 }
 
-/// The shortest text of a number: the digits of the standard library's shortest printing, the power brought into its range.
+/// The shortest text of a number: the digits of the standard library's shortest printing, the power brought into its
+/// range.
 pub fn shortest(x: f64) -> Option<String> {
     if !x.is_finite() || x.to_bits() == 1 << 63 {
         return None;

@@ -5,12 +5,14 @@
 //!   bench listing LIBRARY   what the listing must print of a library
 //!   bench models FILE       the model lines of a library
 //!   bench cards FILE        the library of model lines
-//!   bench time NAME TIMES   one of the timed runs: root, exponential, currents, saturated, wide, reverse, sister, empty, still,
-//!                           move, refused, all, named_0, named_1, named_8, named_32, named_64, singly, together, pair, mend,
-//!                           write, read, find, and the last four with _wide, the last
-//!                           two with _alike and _crowded; write_line, read_line
-//!   bench differ ROUNDS     random inputs through the built programs (desk, listing, models, cards) and this implementation
-//!   bench spoil             every byte of a model line changed, dropped and doubled, through the desk and this implementation
+//!   bench time NAME TIMES   one of the timed runs: root, exponential, currents, saturated, wide, reverse, sister,
+//!                           empty, still, move, refused, all, named_0, named_1, named_8, named_32, named_64, singly,
+//!                           together, pair, mend, write, read, find, and the last four with _wide, the last two with
+//!                           _alike and _crowded; write_line, read_line
+//!   bench differ ROUNDS     random inputs through the built programs (desk, listing, models, cards) and this
+//!                           implementation
+//!   bench spoil             every byte of a model line changed, dropped and doubled, through the desk and this
+//!                           implementation
 
 mod board;
 mod card;
@@ -217,8 +219,8 @@ fn time_exponential(times: u64) {
     println!("{sum}");
 }
 
-/// Eleven voltages of which no two go together, so that no exponential serves two rows by chance; a PNP's have the other
-/// sign.
+/// Eleven voltages of which no two go together, so that no exponential serves two rows by chance; a PNP's have the
+/// other sign.
 fn time_currents(times: u64, record: &[u8], collector: i64, slope: i64, sign: i64) {
     let curve = *numbers::CURVE;
     let c = card::judge(record).unwrap();
@@ -594,7 +596,10 @@ fn main() {
         ["differ", rounds] => differ::differ(rounds.parse().unwrap(), program),
         ["spoil"] => differ::spoiled(&program("desk")),
         _ => {
-            println!("usage: bench vectors FOLDER | desk [--poke] SCRIPT | listing LIBRARY | models FILE | cards FILE | time NAME TIMES | differ ROUNDS | spoil")
+            println!(
+                "usage: bench vectors FOLDER | desk [--poke] SCRIPT | listing LIBRARY | models FILE | \
+                 cards FILE | time NAME TIMES | differ ROUNDS | spoil"
+            )
         }
     }
 }

@@ -1,4 +1,5 @@
-//! Whole-number arithmetic of the desk, written from its rules alone: the octave's table, positions, roots and quotients.
+//! Whole-number arithmetic of the desk, written from its rules alone: the octave's table, positions, roots and
+//! quotients.
 
 const POINTS: usize = 256;
 const STEPS: u64 = 256;
@@ -194,8 +195,8 @@ pub fn highest(values: &[Scaled]) -> i64 {
     low
 }
 
-/// The greatest whole number whose square is at most x, for x below 2^62. The guess is never too low: as an f64 a square
-/// moves its root by less than half of what parts two numbers there, so a square's guess is its root.
+/// The greatest whole number whose square is at most x, for x below 2^62. The guess is never too low: as an f64 a
+/// square moves its root by less than half of what parts two numbers there, so a square's guess is its root.
 #[inline]
 pub fn root(x: u64) -> u64 {
     let r = (x as f64).sqrt() as u64;

@@ -80,7 +80,8 @@ use Rattle.model.specs.Desk.{movedTo}
 use Rattle.model.specs.Model.{shifted, touched, firstOver, settled, workedOn}
 use Rattle.model.proofs.Shifts.{shifted-back}
 use Rattle.days.proofs.Orderly.{Orderly, orderly-after}
-use Rattle.days.proofs.Orders.{seenIn, order-load, order-place, order-move, order-lift, order-withdraw, order-look}
+use Rattle.days.proofs.Orders.{seenIn, order-load, order-place, order-move, order-lift, order-withdraw}
+use Rattle.days.proofs.Orders.{order-look}
 use Rattle.days.proofs.Orders.{order-read, order-open}
 use Rattle.days.proofs.Ordered.{perm-different, perm-largest}
 use Rattle.days.proofs.Rosters.{issues-told, cards-told, sizes-told, issues-same}

@@ -1,6 +1,6 @@
--- From what the methods promise to what the desk says: on a board beside its own slices that stands for a desk, whatever a
--- method may answer is the desk's answer, and the board that it hands back, beside the slices as it left them, stands for the
--- desk's next.
+-- From what the methods promise to what the desk says: on a board beside its own slices that stands for a desk,
+-- whatever a method may answer is the desk's answer, and the board that it hands back, beside the slices as it left
+-- them, stands for the desk's next.
 use mathlib.Core.Path.{_≡_, refl, sym, ap, _∙_, subst}
 use mathlib.Core.Bool.{Bool, true, false, not, _||_}
 use mathlib.Core.List.{List, [], _∷_}
@@ -21,10 +21,12 @@ use Rattle.model.specs.Desk.{freshDesk, after}
 use Rattle.model.specs.Counts.{nodesMost}
 use Rattle.model.specs.declared.Answer.{Answer}
 use Rattle.model.specs.declared.Answer.the-variants.{Done}
-use Rattle.model.specs.Model.{issuesOn, listed, mayList, listedOf, placedOf, movedOf, liftedOf, showedOf, answered, boardAfter}
+use Rattle.model.specs.Model.{issuesOn, listed, mayList, listedOf, placedOf, movedOf, liftedOf, showedOf, answered}
+use Rattle.model.specs.Model.{boardAfter}
 use Rattle.model.proofs.Footing.{showed-stays}
 use Rattle.lending.specs.Rest.{State, boardIn, bare, stateOf}
-use Rattle.lending.specs.Lending.{Lent, lentAs, lentBy, readVerdict, changeVerdict, freshBy, freshLent, placedLent, movedLent, liftedLent, showedLent, lentOf}
+use Rattle.lending.specs.Lending.{Lent, lentAs, lentBy, readVerdict, changeVerdict, freshBy, freshLent, placedLent}
+use Rattle.lending.specs.Lending.{movedLent, liftedLent, showedLent, lentOf}
 use Rattle.lending.specs.Reached.{stateAfter, Own}
 use Rattle.lending.proofs.Stays.{place-volts-stay, lift-volts-stay, show-volts-stay}
 use Rattle.lending_laws.proofs.Slices.{board-again}

@@ -22,7 +22,8 @@ use Rattle.given.specs.Pairs.{arePairs, somePairOff, Shift, shiftsOf}
 use Rattle.model.specs.Counts.{transistorsMost}
 use Rattle.model.specs.Faults.{Kind, ticks, ratio, Fault, first, refusalBy, refusalFor, refuseFirst, faultsOf}
 use Rattle.model.specs.Faults.{faultsAmong}
-use Rattle.model.specs.Desk.{Held, Standing, Desk, Call, place, move, refused, lookedBy, movedTo, faultsAt, heldAs, mayPlace}
+use Rattle.model.specs.Desk.{Held, Standing, Desk, Call, place, move, refused, lookedBy, movedTo, faultsAt, heldAs}
+use Rattle.model.specs.Desk.{mayPlace}
 use Rattle.model.specs.Desk.{mayMove, placed, moved, step, after}
 use Rattle.model.specs.declared.Answer.the-variants.{Refused}
 use Rattle.model.specs.Model.{answered, boardAfter}
@@ -107,7 +108,12 @@ place-as-before d card nodes = go (heldAs (issueOf card) (d .cards))
     go (some h) =
         rw
         (← (fault-over (d .next)
-        (record { issue = d .next; card = h .issue; worked = h .worked; nodes = map natAbs (lookedBy h nodes) }) (d .volts)))
+        (record {
+          issue = d .next;
+          card = h .issue;
+          worked = h .worked;
+          nodes = map natAbs (lookedBy h nodes);
+        }) (d .volts)))
         (simp (bare-if, bare-first))
 
 pub move-as-before : (d : Desk) (pairs : List ℤ) → bare (mayMove d pairs) ≡ moveBefore d pairs

@@ -59,8 +59,9 @@ toldIn Currents buffer = []
 toldIn (Summed t c s) buffer = []
 toldIn (Refused f) buffer = []
 
--- r is what the method of a call may answer on a board beside two slices; then come what stands in the slices and the list
--- that it tells in a lent buffer. a is what the method is given, the board first, and then the slices where it takes them
+-- r is what the method of a call may answer on a board beside two slices; then come what stands in the slices and the
+-- list that it tells in a lent buffer. a is what the method is given, the board first, and then the slices where it
+-- takes them
 pub data Promised : State → Call → Answered → List ℤ → List ℤ → List ℕ → Type 0 where
   by-load : {volts totals : List ℤ} (κs : Lfts 2) (a : Dens κs load-kinds.ps) {r : Answered}
       (e : Left κs load-kinds.ps load-kinds.r) → load-reads.Learnt κs a r e →
@@ -79,7 +80,8 @@ pub data Promised : State → Call → Answered → List ℤ → List ℤ → Li
       (e .1 .0 .now) (e .1 .1 .0 .now) []
   by-lift : (κs : Lfts 2) (a : Dens κs lift-kinds.ps) {r : Answered} (e : Left κs lift-kinds.ps lift-kinds.r) →
       lift-reads.Learnt κs a r e →
-      Promised (stateIn (a .0) (a .1 .0 .now) (a .1 .1 .0 .now)) (lift (a .1 .1 .1 .0)) r (a .1 .0 .now) (e .1 .1 .0 .now)
+      Promised (stateIn (a .0) (a .1 .0 .now) (a .1 .1 .0 .now)) (lift (a .1 .1 .1 .0)) r (a .1 .0 .now)
+      (e .1 .1 .0 .now)
       []
   by-withdraw : {volts totals : List ℤ} (κs : Lfts 0) (a : Dens κs withdraw-kinds.ps) {r : Answered}
       (e : Left κs withdraw-kinds.ps withdraw-kinds.r) → withdraw-reads.Learnt κs a r e →
@@ -102,8 +104,8 @@ pub data Promised : State → Call → Answered → List ℤ → List ℤ → Li
       (e : Left κs sum-up-kinds.ps sum-up-kinds.r) → sum-up-reads.Learnt κs a r e →
       Promised (stateIn (a .0) volts totals) (sumUp (a .1 .0)) r volts totals []
 
--- a day of calls, the last one first in the list: a fresh call that was taken, and then each call made on the board that the
--- one before it handed back, over the slices as it left them
+-- a day of calls, the last one first in the list: a fresh call that was taken, and then each call made on the board
+-- that the one before it handed back, over the slices as it left them
 pub data Day : List Call → State → Type 0 where
   begun : {volts totals v t : List ℤ} {r : Answered} → PromisedFresh volts totals r v t → r .answer ≡ Done →
       Day [] (stateIn (r .board) v t)

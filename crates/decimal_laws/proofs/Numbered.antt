@@ -15,7 +15,8 @@ use Rattle.shortest.specs.Form.{formOf}
 use Rattle.shortest.specs.laws.Least.{ReadsBack}
 use Rattle.decimal_read.specs.declared.Reading.the-variants.{Word}
 use Rattle.decimal_read.specs.Text.{mostDigits, figureOf, powerAfter, rangedIf, placedIf, placedOf, endedIf, endedOf}
-use Rattle.decimal_read.specs.Text.{pointByte, minusByte, counted, scannedIf, scanned, readIf, readOf, InRange, readAs, wordRead}
+use Rattle.decimal_read.specs.Text.{pointByte, minusByte, counted, scannedIf, scanned, readIf, readOf, InRange, readAs}
+use Rattle.decimal_read.specs.Text.{wordRead}
 use Rattle.decimal_read.proofs.Parts.{grown, within}
 use Rattle.decimal_laws.proofs.Back.{none-reads}
 
@@ -99,7 +100,8 @@ numbered-below w v =
     let b = v .back in
     let u = size-under (v .digits) (v .power) (b .digits) (b .power) in
     let e = word-is (v .minus) (v .digits) (v .power) (b .digits) (b .power) in
-    subst (λ (x : ℕ). x < 2 ^ 64) (b .bits) (rw e (sum (v .minus && ltb 0 (v .digits)) (sizeBits (v .digits) (v .power)) u))
+    subst (λ (x : ℕ). x < 2 ^ 64) (b .bits)
+    (rw e (sum (v .minus && ltb 0 (v .digits)) (sizeBits (v .digits) (v .power)) u))
   where
     sum : (t : Bool) (x : ℕ) → x < signWeight → cond t signWeight 0 + x < 2 ^ 64
     sum true x h = omega arith

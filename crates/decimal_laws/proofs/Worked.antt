@@ -4,7 +4,8 @@ use lib.Ieee.{round, toBits}
 use Rattle.spelling.specs.Bytes.{bytes}
 use Rattle.decimal.specs.Decimal.{valueOf, wordOf}
 use Rattle.decimal_read.specs.declared.Reading.the-variants.{Word, Nothing}
-use Rattle.decimal_read.specs.Text.{figureOf, pairOf, signedPower, powerAfter, placedOf, endedOf, scanned, readOf, wordRead}
+use Rattle.decimal_read.specs.Text.{figureOf, pairOf, signedPower, powerAfter, placedOf, endedOf, scanned, readOf}
+use Rattle.decimal_read.specs.Text.{wordRead}
 
 half : wordRead (bytes ".5") ≡ Word 0x3fe0_0000_0000_0000
 unfolding wordRead readOf scanned figureOf endedOf powerAfter placedOf wordOf valueOf round toBits

@@ -1,2 +1,2 @@
-// What reading and writing numbers do together: theorems only, and no code. What is written for a word reads back to it,
-// nothing shorter does, and some worked numbers have the words that they should.
+// What reading and writing numbers do together: theorems only, and no code. What is written for a word reads back to
+// it, nothing shorter does, and some worked numbers have the words that they should.

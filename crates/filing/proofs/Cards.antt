@@ -7,7 +7,8 @@ use native.Mathlib.Nat.{le-of-eq}
 use native.Mathlib.Omega.{arith}
 use borrow.Author.Tests.{lt-ltb, le-ltb, le-leb, lt-leb}
 use lib.Dec.{leb}
-use lib.ListN.{length, take, drop, replicate, length-append, length-take, length-drop, length-replicate, drop-of-length-le}
+use lib.ListN.{length, take, drop, replicate, length-append, length-take, length-drop, length-replicate}
+use lib.ListN.{drop-of-length-le}
 use lib.Seq.{take-all}
 use Rattle.refusal.specs.Clash.{clash}
 use Rattle.refusal.specs.declared.Refusal.{Refusal}
@@ -51,7 +52,8 @@ refused-leaves {f = f} n names records e =
 -- new bytes written to the start of a part
 part-over : (at : ℕ) (new old y : List ℕ) → y ≡ over new (partFrom at old) → partPut at old y ≡ overAt at new old
 part-over at new old y e =
-    let none : drop (length old - at) (drop at old) ≡ [] = drop-of-length-le (drop at old) (le-of-eq (length-drop at old)) in
+    let none : drop (length old - at) (drop at old) ≡ [] = drop-of-length-le (drop at old)
+    (le-of-eq (length-drop at old)) in
     ap (λ (t : List ℕ). take at old ++ t)
     (ap₂ _++_ (e ∙ ap (over new) (rest old at)) none ∙ append-nil (over new (drop at old)))
 

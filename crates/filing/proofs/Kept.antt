@@ -110,7 +110,8 @@ bare-other l e =
 
 pub kind-blank : (l t : List ℕ) → t ≡ trimmed l → length t ≡ 0 → Passed ≡ kindOf l
 unfolding kindOf
-kind-blank l t e h = sym (ap (λ (b : Bool). kindIf b (getD l 0 0)) (eq-eqb (length (trimmed l)) 0 (ap length (sym e) ∙ h)))
+kind-blank l t e h = sym (ap (λ (b : Bool). kindIf b (getD l 0 0))
+    (eq-eqb (length (trimmed l)) 0 (ap length (sym e) ∙ h)))
 
 pub kind-none : (l : List ℕ) → length l ≡ 0 → Passed ≡ kindOf l
 unfolding kindOf trimmed fromFirst toLast
@@ -121,7 +122,8 @@ module _ (l t : List ℕ) (e : t ≡ trimmed l) (h : length t ≡ 0 → ⊥) whe
   by-first : (p q : Bool) → eqb (getD l 0 0) starByte ≡ p → eqb (getD l 0 0) plusByte ≡ q → firstIf p q ≡ kindOf l
   unfolding kindOf
   by-first p q a b =
-      sym (ap (λ (x : Bool). kindIf x (getD l 0 0)) (ne-eqb (length (trimmed l)) 0 (λ (z : length (trimmed l) ≡ 0). h (ap length e ∙ z)))
+      sym (ap (λ (x : Bool). kindIf x (getD l 0 0))
+      (ne-eqb (length (trimmed l)) 0 (λ (z : length (trimmed l) ≡ 0). h (ap length e ∙ z)))
       ∙ ap (λ (x : Bool). firstIf x (eqb (getD l 0 0) plusByte)) a ∙ ap (firstIf p) b)
 
   pub kind-comment : getD l 0 0 ≡ starByte → Passed ≡ kindOf l

@@ -124,7 +124,8 @@ fn file_card(
     requires { ⌜ length (now rec) ≡ recordBytes ⌝ }
     requires { ⌜ length (now names) ≡ namesRoom ⌝ }
     requires { ⌜ length (now records) ≡ recordsRoom ⌝ }
-    ensures { λ r. ⌜ FilesCard (now (name .entry)) (now (rec .entry)) n (now (names .entry)) (now (records .entry)) r (now (names .exit)) (now (records .exit)) ⌝ }
+    ensures { λ r. ⌜ FilesCard (now (name .entry)) (now (rec .entry)) n (now (names .entry)) (now (records .entry)) r
+        (now (names .exit)) (now (records .exit)) ⌝ }
 {
     let low = bytes_le::u64_at(name, 0);
     let high = bytes_le::u64_at(name, WORD_BYTES);
@@ -140,12 +141,13 @@ fn file_card(
     Answer::Taken
 }
 
-// Files the card of a joined line after n others: its name and its record go after theirs, and a refusal changes neither
-// buffer.
+// Files the card of a joined line after n others: its name and its record go after theirs, and a refusal changes
+// neither buffer.
 pub fn file_line(line: &[u8], n: usize, names: &mut [u8], records: &mut [u8]) -> Answer
     requires { ⌜ length (now names) ≡ namesRoom ⌝ }
     requires { ⌜ length (now records) ≡ recordsRoom ⌝ }
-    ensures { λ r. ⌜ Files (now (line .entry)) n (now (names .entry)) (now (records .entry)) r (now (names .exit)) (now (records .exit)) ⌝ }
+    ensures { λ r. ⌜ Files (now (line .entry)) n (now (names .entry)) (now (records .entry)) r (now (names .exit))
+        (now (records .exit)) ⌝ }
 {
     if LONGEST_LINE < line.len() {
         return Answer::Refused(Refusal::BadLine);

@@ -1,4 +1,5 @@
--- A series resistor in the rule's words: the sign of its voltage times the whole ticks of its conductance times the size.
+-- A series resistor in the rule's words: the sign of its voltage times the whole ticks of its conductance times the
+-- size.
 use Prim.Native.Nat.{ℕ, suc, _*_, _^_, _≤_, _<_}
 use mathlib.Core.Path.{_≡_}
 use lib.IntN.{ℤ, pos, negsuc, natAbs, negℤ, _+ℤ_}

@@ -1,5 +1,6 @@
 -- Lent is old: over slices that a board's own fresh call filled and only its calls have written since, with the newest
--- value, each call answers as the board with voltages and totals inside would, and leaves the state that it would leave.
+-- value, each call answers as the board with voltages and totals inside would, and leaves the state that it would
+-- leave.
 use mathlib.Core.Path.{_≡_, refl, sym, ap, _∙_}
 use mathlib.Core.Bool.{Bool, false}
 use mathlib.Core.List.{List, [], _∷_}
@@ -21,7 +22,8 @@ use Rattle.model.specs.Verdict.{nodeVerdict}
 use Rattle.model.specs.Desk.{Call, load, place, move, lift, withdraw, lookUp, node, currents, who, sumUp}
 use Rattle.model.specs.Model.{cardsOf, transistorsOf, voltsOf, freshBoard, answered, boardAfter}
 use Rattle.model.specs.Model.{loaded, mayLoad, loadedOf, placed, seenOn, mayPlace, placedOf, moved, mayMove, movedOf}
-use Rattle.model.specs.Model.{lifted, mayLift, liftedOf, withdrawn, mayWithdraw, withdrawnOf, looked, mayLookUp, lookedOf}
+use Rattle.model.specs.Model.{lifted, mayLift, liftedOf, withdrawn, mayWithdraw, withdrawnOf, looked, mayLookUp}
+use Rattle.model.specs.Model.{lookedOf}
 use Rattle.model.specs.Model.{showed, showedOf, opened, mayOpen, openedOf, listed, mayList, listedOf, summed, summedOf}
 use Rattle.model.specs.Model as old
 use Rattle.model.proofs.Invariant.{Invariant, invariant-after}
@@ -172,11 +174,13 @@ module _ (b : Board) where
 -- ---- any calls
 
 -- one call more, on the slices of the board that was
-call-old : (calls : List Call) (c : Call) → lentOf (stateOf (boardAfter calls)) c ≡ lentAs (answered (boardAfter calls) c)
+call-old : (calls : List Call) (c : Call) →
+    lentOf (stateOf (boardAfter calls)) c ≡ lentAs (answered (boardAfter calls) c)
 unfolding lentOf answered boardAfter placedLent movedLent liftedLent showedLent
 call-old calls (load name bytes) = load-old (boardAfter calls) name bytes
 call-old calls (place card nodes sized) =
-    changing-old (λ (b : Board). placedOf b card nodes) (invariant-after calls) (fair-place (boardAfter calls) card nodes)
+    changing-old (λ (b : Board). placedOf b card nodes) (invariant-after calls)
+    (fair-place (boardAfter calls) card nodes)
     (invariant-after (place card nodes sized ∷ calls))
 call-old calls (move pairs) =
     changing-old (λ (b : Board). movedOf b pairs) (invariant-after calls) (fair-move (boardAfter calls) pairs)

@@ -1,5 +1,5 @@
--- The voltages and totals of a board that calls have left, as slices: 32 numbers each, every voltage in its range, and no
--- total outside 64 bits. Kept again, they are what the board keeps.
+-- The voltages and totals of a board that calls have left, as slices: 32 numbers each, every voltage in its range, and
+-- no total outside 64 bits. Kept again, they are what the board keeps.
 use mathlib.Core.Path.{_≡_, refl, ap, _∙_}
 use mathlib.Core.Bool.{Bool, false, not, _||_}
 use mathlib.Core.List.{List, [], _∷_, map}
@@ -64,7 +64,8 @@ near-on x n = split (below-or-not x voltsMost)
     split : (x < voltsMost) ⊎ (voltsMost ≤ x) → offVolts (givenBack x) ≡ false
     split (inl h) = ap offVolts (sub-down x voltsMost h) ∙ le-ltb (voltsMost - 1) (voltsMost - suc x) (omega arith)
     split (inr h) =
-        ap offVolts (sub-up x voltsMost h) ∙ ap (λ (t : Bool). t || false) (le-ltb voltsMost (x - voltsMost) (omega arith))
+        ap offVolts (sub-up x voltsMost h)
+        ∙ ap (λ (t : Bool). t || false) (le-ltb voltsMost (x - voltsMost) (omega arith))
 
 none-off : (l : List ℕ) → ((i : ℕ) → getD l i 0 ≤ span) → anyOf offVolts (map givenBack l) ≡ false
 unfolding anyOf

@@ -223,7 +223,8 @@ module _ {s : List ℕ} (g : SoundLibrary s) (b : Below byteValues s) where
       let g₁ : bytesOf 2 (version s) ++ bytesOf 2 (count s) ≡ take 4 s = ap₂ _++_ f₀ f₁ ∙ sym (take-add 2 2 s) in
       let g₂ : bytesOf 2 (version s) ++ bytesOf 2 (count s) ++ bytesOf 4 headerBytes ≡ take 8 s =
       ap₂ _++_ g₁ f₂ ∙ sym (take-add 4 4 s) in
-      let g₃ : bytesOf 2 (version s) ++ bytesOf 2 (count s) ++ bytesOf 4 headerBytes ++ bytesOf 4 (recordsAt (count s)) ≡ take 12 s =
+      let g₃ : bytesOf 2 (version s) ++ bytesOf 2 (count s) ++ bytesOf 4 headerBytes ++ bytesOf 4
+      (recordsAt (count s)) ≡ take 12 s =
       ap₂ _++_ g₂ f₃ ∙ sym (take-add 8 4 s) in
       ap₂ _++_ g₃ f₄ ∙ sym (take-add 12 4 s)
 

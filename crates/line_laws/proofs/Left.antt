@@ -74,7 +74,8 @@ module _ (name rec old : List ℕ) {new : List ℕ} {n : ℕ} (w : Writes name r
       by (yes text) e = room text e (ltb (length old) (length text)) refl
 
 -- a text that has room is written
-pub wrote-all : (name rec old : List ℕ) {new text : List ℕ} {r : Written} → textOf name rec ≡ yes text → length text ≤ length old
+pub wrote-all : (name rec old : List ℕ) {new text : List ℕ} {r : Written} → textOf name rec ≡ yes text →
+    length text ≤ length old
     → Writes name rec old r new → r ≡ written.Bytes (length text)
 unfolding writingOf
 wrote-all name rec old {new} {text} {r} e h w =
@@ -123,8 +124,8 @@ line-after-record-left name rec old nb rb {new} {n = n} b w g p q =
     let e : readingOf t nb rb ≡ yes m = has-room t nb rb m (ap lineOf (v .starts) ∙ l .0) p q in
     (taken t nb rb m e g, name-left t nb rb m e g, record-left t nb rb m e g ∙ ap (λ (x : List ℕ). over x rb) (l .1))
 
--- what reading a line left: a name and a record that are written whatever they are, where there is room for their line, and
--- reading that leaves the same again
+-- what reading a line left: a name and a record that are written whatever they are, where there is room for their line,
+-- and reading that leaves the same again
 pub record Again (nb rb nb′ rb′ : List ℕ) : Type 0 where
   pub name : List ℕ
   pub rec : List ℕ

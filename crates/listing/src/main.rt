@@ -1,4 +1,5 @@
-// Lists the cards of the library on standard input; or, given arguments, of each library that one of them names, in turn, where `-` names standard input.
+// Lists the cards of the library on standard input; or, given arguments, of each library that one of them names, in
+// turn, where `-` names standard input.
 use libc::STDIN_FILENO;
 use libc::STDOUT_FILENO;
 use library::Reading;

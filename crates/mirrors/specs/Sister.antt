@@ -1,4 +1,5 @@
--- Sisters: what is of the other polarity and otherwise the same, of a card, a transistor that stands, and a whole board.
+-- Sisters: what is of the other polarity and otherwise the same, of a card, a transistor that stands, and a whole
+-- board.
 use mathlib.Core.Path.{_≡_}
 use mathlib.Core.Bool.{not}
 use mathlib.Core.List.{map}

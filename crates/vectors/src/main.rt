@@ -1,4 +1,5 @@
-// Outside vectors for the currents: rows on standard input, each a record, the kept voltages of its roles and what they must give (the script `pack` says how).
+// Outside vectors for the currents: rows on standard input, each a record, the kept voltages of its roles and what they
+// must give (the script `pack` says how).
 // Prints how many agree and how many differ.
 use branch::Admission;
 use branch::BRANCHES;
@@ -7,7 +8,8 @@ use libc::STDIN_FILENO;
 use libc::STDOUT_FILENO;
 use refusal::Refusal;
 
-// Where a row has its record, after how many bytes it has; the most that there are; where after them the row has its voltages, what overloads first and its currents; the row's bytes.
+// Where a row has its record, after how many bytes it has; the most that there are; where after them the row has its
+// voltages, what overloads first and its currents; the row's bytes.
 const RECORD_AT: usize = 4;
 
 const RECORD_MOST: usize = 8 * card::WIDTH;
@@ -64,7 +66,8 @@ fn same_ticks(row: &[u8], got: [i64; BRANCHES]) -> bool {
     true
 }
 
-// The branch is that of the row, and so is the kind: 0 for a T, 1 for a ratio. The number is 0, as there is no transistor.
+// The branch is that of the row, and so is the kind: 0 for a T, 1 for a ratio. The number is 0, as there is no
+// transistor.
 fn same_values(row: &[u8], issue: u32, branch: u32, kind: u32) -> bool {
     if issue != 0 {
         return false;

@@ -16,5 +16,6 @@ returns-3 c = bare-other _ (search needs)
 pub bare-spec : {M : Type 1} → statement M
 bare-spec =
     tie.close
-    (tie.spec returns (λ c. search needs) (λ c. search needs) (λ c. search needs) (λ c. search needs) (λ c. search needs)
+    (tie.spec returns (λ c. search needs) (λ c. search needs) (λ c. search needs) (λ c. search needs)
+    (λ c. search needs)
     (λ c. search needs) returns-2 returns-3)

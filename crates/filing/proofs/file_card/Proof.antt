@@ -14,7 +14,8 @@ start c = c .before .before .before .before .before .before .before .before .bef
 -- the name is what its two words spell
 spelled : (c : tie.After-holds)
     → let u = c .before .before .before in
-    start c .args .name .now ≡ bytesOf wordBytes (u .before .before .u64-at .result) ++ bytesOf wordBytes (u .u64-at2 .result)
+    start c .args .name .now ≡ bytesOf wordBytes (u .before .before .u64-at .result) ++ bytesOf wordBytes
+    (u .u64-at2 .result)
 spelled c =
     let u = c .before .before .before in
     words-in (start c .args .name .now) (search needs) (u .before .before .u64-at .ensures) (u .u64-at2 .ensures) .bytes
@@ -52,7 +53,9 @@ returns-3 c =
 pub file-card-spec : {M : Type 1} → statement M
 file-card-spec =
     tie.close
-    (tie.spec (λ c κs. search needs) (λ c κs. search needs) (λ c κs. search needs) (λ c κs. search needs) (λ c. search needs) returns
+    (tie.spec (λ c κs. search needs) (λ c κs. search needs) (λ c κs. search needs) (λ c κs. search needs)
+    (λ c. search needs) returns
     (λ c. search needs) returns-2 (λ c. search needs) (λ c. search needs) (λ c. search needs) (λ c. search needs)
-    (λ c κs. search needs) (λ c. search needs) (λ c. search needs) (λ c. search needs) (λ c. search needs) (λ c κs. search needs)
+    (λ c κs. search needs) (λ c. search needs) (λ c. search needs) (λ c. search needs) (λ c. search needs)
+    (λ c κs. search needs)
     (λ c. search needs) (λ c. search needs) returns-3)
