@@ -1,4 +1,4 @@
--- `move_all` turns away slices, what is no list and what is out of range, settles the places that name a node of a pair,
+-- `move_once` turns away slices, what is no list and what is out of range, settles the places that name a node of a pair,
 -- and writes what comes out unless that is refused.
 use mathlib.Core.Path.{_≡_, refl, sym, ap, _∙_}
 use mathlib.Core.Bool.{Bool, true, false, not}
@@ -19,8 +19,8 @@ use Rattle.model.specs.Counts.{nodesMost}
 use Rattle.model.specs.Model.{shifted}
 use Rattle.moving.proofs.Moving.{lent-turned, lent-malformed, lent-off, lent-settling, lent-taken, lent-left, next-long}
 use Rattle.moving.proofs.Moving.{levels-as}
-use Rattle.moving.proofs.move_all.Statement.{statement}
-use Rattle.moving.proofs.move_all.Tie as tie
+use Rattle.moving.proofs.move_once.Statement.{statement}
+use Rattle.moving.proofs.move_once.Tie as tie
 
 -- earlier places, from later ones
 abbrev start : tie.After-struct-known → tie.Start
@@ -173,8 +173,8 @@ returns-4 c =
     (none-off e) _ (will-is e) _ (named (t .before) .naming-any .ensures) (t .settle .ensures) (w .0)))
     (stand-then (c .before))
 
-pub move-all-spec : {M : Type 1} → statement M
-move-all-spec =
+pub move-once-spec : {M : Type 1} → statement M
+move-once-spec =
     tie.close
     (tie.spec (λ c κs. search needs) (λ c. search needs) (λ c. search needs) returns (λ c κs. search needs)
     (λ c. search needs) (λ c. search needs) returns-2 (λ c κs. search needs) (λ c. search needs) (λ c. search needs)
