@@ -47,7 +47,8 @@ fn place_once(
     match way {
         Way::Stop(f) => Answer::Refused(f),
         Way::Go(at, free) => {
-            let table = octave::table();
+            let mut table = [0u32; octave::ENTRIES];
+            octave::lay_table(&mut table);
             let o = settle::work(
                 &table,
                 numbers,

@@ -132,3 +132,18 @@ module _ {t i o : ℕ} {total coming going : ℤ} (a : Raised t total) (b : Rais
 
   pub down-leaves : i < o → t < o - i → Leaves ≡ standingAt (total +ℤ (coming -ℤ going))
   down-leaves h k = rw (goes-below h) (leaves (subℕ t (signedSpan + (o - i))) (below t (o - i) k))
+
+-- where as much comes in as goes out, the total stands as it is
+pub same-stands : {r total coming going : ℤ} → SFits w64 total → SFits w64 coming → coming ≡ going → r ≡ total →
+    At r ≡ standingAt (total +ℤ (coming -ℤ going))
+same-stands {r} {total} {coming} {going} h k e p =
+    let b : Raised (raisedBy signedSpan coming) coming = raised refl k refl in
+    go (raisedBy signedSpan total) (raisedBy signedSpan coming) (raised refl h refl) b
+    (subst (Raised (raisedBy signedSpan coming)) e b)
+  where
+    go : (t i : ℕ) → Raised t total → Raised i coming → Raised i going →
+        At r ≡ standingAt (total +ℤ (coming -ℤ going))
+    go t i a b c =
+        let l = a .small in
+        let same : t ≡ t + (i - i) = omega arith in
+        up-stands a b c (omega arith) (omega arith) (p ∙ sym (a .is) ∙ ap (λ (n : ℕ). subℕ n signedSpan) same)

@@ -102,10 +102,13 @@ fn lower(x: u64) -> i64
     }
 }
 
-// A total with what comes in and less what goes out, exactly: raised totals have 64 bits, and so has the size of the change, which goes one way or the other.
+// A total with what comes in and less what goes out, exactly: raised totals have 64 bits, and so has the size of the change, which goes one way or the other. Where as much comes in as goes out, as at most nodes, the total stands as it is.
 pub fn stand(total: i64, coming: i64, going: i64) -> Total
     ensures { λ r. ⌜ r ≡ standingAt (total +ℤ (coming -ℤ going)) ⌝ }
 {
+    if coming == going {
+        return Total::At(total);
+    }
     let t = raise(total);
     let i = raise(coming);
     let o = raise(going);
