@@ -8,14 +8,14 @@ ghost use Rattle.branch.specs.Currents.{atVolts, atOutcome};
 ghost use Rattle.branch.specs.inner.Replied.{replyOf, refusedReply, Keeps};
 use crate::Admission;
 use crate::BRANCHES;
-use crate::Over;
 use crate::ROLES;
 use crate::Reply;
-use crate::prepare;
-use crate::work_out;
 use card::WorkedCard;
+use polarity::Over;
+use polarity::work_out;
 use refusal::Refusal;
 use terms::looked_at;
+use terms::prepare;
 use volts::Voltage;
 
 pub(crate) fn turned_away(f: Refusal) -> Reply

@@ -4,14 +4,9 @@ ghost use Rattle.branch.specs.Currents.{Replies};
 mod answering; // answering.rt: from a card and voltages to a reply
 
 use card::Judged;
-pub use polarity::Outcome;
-pub use polarity::Over;
-pub use polarity::work_out;
 use refusal::Refusal;
 pub use terms::BRANCHES;
 pub use terms::ROLES;
-pub use terms::Ready;
-pub use terms::prepare;
 
 pub enum Admission {
     Given,

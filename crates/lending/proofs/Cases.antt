@@ -21,16 +21,10 @@ module _ (call : Board → Answered) (s : State) where
   pub off-slices : offSlices (s .volts) (s .totals) ≡ true → changing call s ≡ refuse s OutOfRange
   off-slices e = rw e
 
-  pub off-slices-seen : offSlices (s .volts) (s .totals) ≡ true → seeing call s ≡ refuse s OutOfRange
-  off-slices-seen e = rw e
-
   module _ (on : offSlices (s .volts) (s .totals) ≡ false) where
     -- then what the board that was refuses
     pub refused-by : {f : Refusal} → call (boardIn s) ≡ old.refuse (boardIn s) f → changing call s ≡ refuse s f
     refused-by e = rw (on, e)
-
-    pub refused-by-seen : {f : Refusal} → call (boardIn s) ≡ old.refuse (boardIn s) f → seeing call s ≡ refuse s f
-    refused-by-seen e = rw (on, e)
 
     -- and 10 last of all
     pub leaves-64 : Taken (call (boardIn s) .answer) → someOutside (call (boardIn s) .board .totals) ≡ true →
@@ -40,6 +34,3 @@ module _ (call : Board → Answered) (s : State) where
     pub taken-so : Taken (call (boardIn s) .answer) → someOutside (call (boardIn s) .board .totals) ≡ false →
         changing call s ≡ lentAs (call (boardIn s))
     taken-so t e = rw (on, t, e)
-
-    pub seen-so : Taken (call (boardIn s) .answer) → seeing call s ≡ lentAs (call (boardIn s))
-    seen-so t = rw (on, t)
