@@ -1,6 +1,5 @@
 -- What a call leaves in the arrays that it was lent is the whole next board: it changes nothing else.
 use mathlib.Core.Path.{_≡_, refl, ap}
-use mathlib.Core.Bool.{Bool}
 use mathlib.Core.List.{List}
 use Prim.Native.Nat.{ℕ}
 use lib.IntN.{ℤ}

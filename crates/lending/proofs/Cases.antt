@@ -10,7 +10,7 @@ use Rattle.model.specs.Board.{Board, Answered}
 use Rattle.model.specs.declared.Answer.{Answer}
 use Rattle.model.specs.Model as old
 use Rattle.lending.specs.Rest.{State, boardIn}
-use Rattle.lending.specs.Lending.{lentAs, refuse, refusalIn, changing, seeing}
+use Rattle.lending.specs.Lending.{lentAs, refuse, refusalIn, changing}
 
 -- an answer that is no refusal
 abbrev pub Taken : Answer → Type 0

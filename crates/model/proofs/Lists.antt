@@ -1,6 +1,6 @@
 -- Lists by their places: what holds of each element, and the first place that passes a test.
 use mathlib.Core.Path.{_≡_, refl, _∙_}
-use mathlib.Core.Bool.{Bool, true, false, cond, _||_}
+use mathlib.Core.Bool.{Bool, true, false, cond}
 use mathlib.Core.List.{List, [], _∷_}
 use Prim.Native.Nat.{ℕ, zero, suc, _-_, _<_}
 use native.Mathlib.Omega.{arith}
@@ -9,7 +9,6 @@ use lib.ListN.{length, getD, set, replicate, take, length-append, length-take, l
 use borrow.Author.Tests.{ltb-true}
 use Rattle.refusal.specs.Clash.{clash}
 use Rattle.name.specs.Name.{nameLength, padded}
-use Rattle.given.specs.Lists.{anyOf}
 use Rattle.given.specs.Arguments.{none, some}
 use Rattle.places.specs.Finding.{first, foundAt}
 

@@ -1,5 +1,5 @@
 -- Where the test of reading a transistor's currents leads.
-use mathlib.Core.Path.{_≡_, refl, ap, _∙_}
+use mathlib.Core.Path.{_≡_, refl, _∙_}
 use mathlib.Core.List.{List}
 use Prim.Native.Nat.{ℕ, _*_, _<_}
 use lib.IntN.{ℤ, pos}
