@@ -1,4 +1,5 @@
-// A line obeyed. Each function that changes the board takes it and gives the next one; voltages and totals stand in two slices that are lent to it.
+// A line obeyed. Each function that changes the board takes it and gives the next one; voltages and totals stand in two
+// slices that are lent to it.
 ghost use Rattle.board.specs.Promise.{Reached};
 use crate::answer::put_answer;
 use crate::answer::put_clipping;

@@ -47,7 +47,8 @@ fn taken(got: isize, bytes: &[u8; READ]) -> &[u8] {
     part(bytes, 0, io::count(got, bytes))
 }
 
-// Obeys the k bytes of a line that has ended, by whether it may poke. `spelled` is room for the bytes that hex digits spell.
+// Obeys the k bytes of a line that has ended, by whether it may poke. `spelled` is room for the bytes that hex digits
+// spell.
 fn obey_line(
     board: Board,
     volts: &mut [i64; NODES],
@@ -144,7 +145,8 @@ fn write_out(got: isize, path: &[u8], out: &mut [u8; ROOM], at: &mut usize) {
     flush(out, at);
 }
 
-// Obeys all that can be read. Nothing says that the input ends: the turns are counted down from a number that no run uses up.
+// Obeys all that can be read. Nothing says that the input ends: the turns are counted down from a number that no run
+// uses up.
 pub fn run(fd: i32, path: &[u8], pokes: bool) {
     let mut bytes = [0u8; READ];
     let mut line = [0u8; LINE];

@@ -1,4 +1,5 @@
-// The desk at work: obeys the commands of standard input or, given arguments, those of each script that an argument names, one script after the other. After `--poke` their lines may poke.
+// The desk at work: obeys the commands of standard input or, given arguments, those of each script that an argument
+// names, one script after the other. After `--poke` their lines may poke.
 mod out; // out.rt: bytes that wait to be written
 mod shelf; // shelf.rt: the library held
 mod answer; // answer.rt: the answers to a line, as `answers` words them

@@ -1,4 +1,5 @@
-// Bytes that wait to be written. `at` is how many wait; they are written when there is no room for another, and when a script has been obeyed as far as it was read.
+// Bytes that wait to be written. `at` is how many wait; they are written when there is no room for another, and when a
+// script has been obeyed as far as it was read.
 use libc::STDOUT_FILENO;
 use sheet::Text;
 

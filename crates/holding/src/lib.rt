@@ -1,4 +1,5 @@
-// The calls that work no transistor, on a board's arrays lent one by one: each tests first and writes last, so that a refusal leaves them as they were.
+// The calls that work no transistor, on a board's arrays lent one by one: each tests first and writes last, so that a
+// refusal leaves them as they were.
 ghost use mathlib.Core.Path.{_≡_};
 ghost use Prim.Native.Nat.{_<_};
 ghost use Rattle.places.specs.Counts.{cardsMost};
@@ -66,7 +67,9 @@ fn hold(
     ready: Ready,
 )
     requires { ⌜ i < cardsMost ⌝ }
-    ensures { λ _. ⌜ Holds i (cardOf issue (now (own .entry)) ready) (now (numbers .entry)) (now (powers .entry)) (now (ticks .entry)) (now (switches .entry)) (now (names .entry)) (now (held .entry)) (now (numbers .exit)) (now (powers .exit)) (now (ticks .exit)) (now (switches .exit)) (now (names .exit)) (now (held .exit)) ⌝ }
+    ensures { λ _. ⌜ Holds i (cardOf issue (now (own .entry)) ready) (now (numbers .entry)) (now (powers .entry))
+        (now (ticks .entry)) (now (switches .entry)) (now (names .entry)) (now (held .entry)) (now (numbers .exit))
+        (now (powers .exit)) (now (ticks .exit)) (now (switches .exit)) (now (names .exit)) (now (held .exit)) ⌝ }
 {
     deck::put_ready(numbers, powers, ticks, switches, i, ready);
     sets::put_name(names, i, own);
@@ -85,7 +88,10 @@ pub fn load(
     name: &[u8],
     bytes: &[u8],
 ) -> Answer
-    ensures { λ r. ⌜ ((b : Board) → CardArrays b (now (numbers .entry)) (now (powers .entry)) (now (ticks .entry)) (now (switches .entry)) (now (names .entry)) (now (held .entry)) → now (next .entry) ≡ b .next → LeavesCards (loadedOf b (now (name .entry)) (now (bytes .entry))) r (now (numbers .exit)) (now (powers .exit)) (now (ticks .exit)) (now (switches .exit)) (now (names .exit)) (now (held .exit)) (now (next .exit))) ⌝ }
+    ensures { λ r. ⌜ ((b : Board) → CardArrays b (now (numbers .entry)) (now (powers .entry)) (now (ticks .entry))
+        (now (switches .entry)) (now (names .entry)) (now (held .entry)) → now (next .entry) ≡ b .next →
+        LeavesCards (loadedOf b (now (name .entry)) (now (bytes .entry))) r (now (numbers .exit)) (now (powers .exit))
+        (now (ticks .exit)) (now (switches .exit)) (now (names .exit)) (now (held .exit)) (now (next .exit))) ⌝ }
 {
     let issue = *next;
     let way = may_load(held, issue, name, bytes);
@@ -124,7 +130,10 @@ pub fn withdraw(
     cards: &[u32; TRANSISTORS],
     card: i64,
 ) -> Answer
-    ensures { λ r. ⌜ ((b : Board) → CardArrays b (now (numbers .entry)) (now (powers .entry)) (now (ticks .entry)) (now (switches .entry)) (now (names .entry)) (now (held .entry)) → now (issues .entry) ≡ b .issues → now (cards .entry) ≡ b .cards → LeavesCards (withdrawnOf b card) r (now (numbers .exit)) (now (powers .exit)) (now (ticks .exit)) (now (switches .exit)) (now (names .exit)) (now (held .exit)) (b .next)) ⌝ }
+    ensures { λ r. ⌜ ((b : Board) → CardArrays b (now (numbers .entry)) (now (powers .entry)) (now (ticks .entry))
+        (now (switches .entry)) (now (names .entry)) (now (held .entry)) → now (issues .entry) ≡ b .issues →
+        now (cards .entry) ≡ b .cards → LeavesCards (withdrawnOf b card) r (now (numbers .exit)) (now (powers .exit))
+        (now (ticks .exit)) (now (switches .exit)) (now (names .exit)) (now (held .exit)) (b .next)) ⌝ }
 {
     let n = given::issue_of(card);
     let i = places::card_at(held, n);
@@ -154,7 +163,8 @@ pub fn withdraw(
 
 // The highest issue number among the cards of a name: 2, 4.
 pub fn look_up(held: &[u32; CARDS], names: &[u8; ALL_NAMES], name: &[u8]) -> Answer
-    ensures { λ r. ⌜ ((b : Board) → now (held .entry) ≡ b .held → now (names .entry) ≡ b .names → r ≡ lookedOf b (now (name .entry)) .answer) ⌝ }
+    ensures { λ r. ⌜ ((b : Board) → now (held .entry) ≡ b .held → now (names .entry) ≡ b .names →
+        r ≡ lookedOf b (now (name .entry)) .answer) ⌝ }
 {
     if !name::is_asked(name) {
         return Answer::Refused(Refusal::BadName);

@@ -1,4 +1,5 @@
--- What judging the totals tells: whether one would leave 64 bits, and where none would, all of them as they would stand.
+-- What judging the totals tells: whether one would leave 64 bits, and where none would, all of them as they would
+-- stand.
 use mathlib.Core.Path.{_≡_, refl, sym, ap, _∙_}
 use mathlib.Core.Bool.{Bool, true, false}
 use mathlib.Core.List.{List}

@@ -98,8 +98,8 @@ freshLent volts totals =
 unfoldable pub placedLent : State → ℤ → List ℤ → Lent
 placedLent s card nodes = changing (λ (b : Board). placedOf b card nodes) s
 
--- only the moved nodes' transistors are worked, and 15 and 18 are judged on these: what they hold goes out, and what they
--- have at the new voltages comes in, whatever the slices held
+-- only the moved nodes' transistors are worked, and 15 and 18 are judged on these: what they hold goes out, and what
+-- they have at the new voltages comes in, whatever the slices held
 unfoldable pub movedLent : State → List ℤ → Lent
 movedLent s pairs = changing (λ (b : Board). movedOf b pairs) s
 

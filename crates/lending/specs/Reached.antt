@@ -1,5 +1,5 @@
--- Boards as calls leave them, whatever the slices held at each call; and states as a fresh call and only the calls of one
--- board leave them, each with the newest value.
+-- Boards as calls leave them, whatever the slices held at each call; and states as a fresh call and only the calls of
+-- one board leave them, each with the newest value.
 use mathlib.Core.Path.{_≡_}
 use mathlib.Core.List.{List, [], _∷_}
 use lib.ListN.{length}
@@ -33,8 +33,8 @@ unfolding lentOf freshLent
 stateAfter volts totals [] = freshLent volts totals .state
 stateAfter volts totals (c ∷ cs) = lentOf (stateAfter volts totals cs) c .state
 
--- a board and slices that are its own: its taken fresh call filled them, and only its calls have written them since, each
--- with the newest board
+-- a board and slices that are its own: its taken fresh call filled them, and only its calls have written them since,
+-- each with the newest board
 pub record Own (s : State) : Type 0 where
   pub volts : List ℤ
   pub totals : List ℤ

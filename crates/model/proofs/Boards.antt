@@ -147,7 +147,8 @@ module _ {b : Board} (z : Sized b) (shifts : List Shift) where
       (z .currents) (λ i. ticks-count _ _ _) transistorsMost 0 j refl zero-le h in
       transistor-there (b .issues) (b .cards) (b .seats) (b .nodes) (heldThen b shifts) j h
       ∙ ap (holds (transistorIn (b .issues) (b .cards) (b .seats) (b .nodes) (b .currents) j)) new
-      ∙ ap (λ (t : Transistor). holds t (cond (touched shifts (transistorAt b j)) (currentThen b shifts j) (t .currents)))
+      ∙ ap (λ (t : Transistor). holds t (cond (touched shifts (transistorAt b j)) (currentThen b shifts j)
+      (t .currents)))
       (sym was)
 
   pub sized-then : Sized then

@@ -1,5 +1,5 @@
--- Placing, lifting and moving change nothing else than they are said to, and tell no numbers beside their answer; reading a
--- node changes nothing.
+-- Placing, lifting and moving change nothing else than they are said to, and tell no numbers beside their answer;
+-- reading a node changes nothing.
 use mathlib.Core.Path.{_≡_, refl}
 use mathlib.Core.List.{List, []}
 use Prim.Native.Nat.{ℕ}
@@ -10,7 +10,8 @@ use Rattle.model.specs.Board.{Board}
 use Rattle.model.specs.declared.Answer.{Answer}
 use Rattle.model.specs.Board.{Answered}
 use Rattle.model.specs.Verdict.{nodeVerdict}
-use Rattle.model.specs.Model.{leveled, noTicks, plain, placed, seenOn, placedOf, mayPlace, moved, movedOf, mayMove}
+use Rattle.model.specs.Model.{leveled, noTicks, plain, placed, seenOn, placedOf, mayPlace, moved, movedOf}
+use Rattle.model.specs.Model.{mayMove}
 use Rattle.model.specs.Model.{lifted, liftedOf, mayLift, showed, showedOf}
 
 -- b with other places of transistors, other sets, other totals and another next number

@@ -134,7 +134,12 @@ placed d nodes (yes h) =
           record {
             cards = d .cards;
             standing =
-                record { issue = d .next; card = h .issue; worked = h .worked; nodes = map natAbs (lookedBy h nodes) } ∷ d .standing;
+                record {
+                  issue = d .next;
+                  card = h .issue;
+                  worked = h .worked;
+                  nodes = map natAbs (lookedBy h nodes);
+                } ∷ d .standing;
             volts = d .volts;
             next = suc (d .next);
           };
@@ -239,7 +244,8 @@ mayLoad d name bytes =
     (λ (c : WorkedCard). refuseIf (leb cardsMost (length (d .cards))) NoRoom
     (refuseIf (usedUp (d .next)) NumbersUsedUp (yes c)))))
 
--- Placing: 12, then on the nodes that the card looks at 13, 14, 11, 17, then 15 or 18 for the first that would overload, with the number to come
+-- Placing: 12, then on the nodes that the card looks at 13, 14, 11, 17, then 15 or 18 for the first that would
+-- overload, with the number to come
 abbrev pub mayPlace : Desk → ℤ → List ℤ → Verdict Held
 mayPlace d card nodes =
     andThen (known (heldAs (issueOf card) (d .cards)))

@@ -61,10 +61,35 @@ abbrev ratio : Split
 ratio = record { a = 1073741824; down = keptPower (negsuc 67) }
 
 abbrev worked : WorkedCard
-worked = record { sn = current; bulk = current; side = none; nonideal = none; ex = current; sub = none; sf = none; rex = ratio; rsub = ratio; reverse = none; ge = none; gbc = none; gcc = none; gblx = none; gbli = none; octave = 16000000; second = 16000000; knee = 5000000; exsub = false; «rcbli_zero» = true; pnp = false; «rcblx_zero» = true; wide = false }
+worked = record {
+  sn = current;
+  bulk = current;
+  side = none;
+  nonideal = none;
+  ex = current;
+  sub = none;
+  sf = none;
+  rex = ratio;
+  rsub = ratio;
+  reverse = none;
+  ge = none;
+  gbc = none;
+  gcc = none;
+  gblx = none;
+  gbli = none;
+  octave = 16000000;
+  second = 16000000;
+  knee = 5000000;
+  exsub = false;
+  «rcbli_zero» = true;
+  pnp = false;
+  «rcblx_zero» = true;
+  wide = false;
+}
 
 card-is : judgeOf (recordOf theCard) ≡ yes worked
-unfolding recordOf judgeOf clipOf finiteUp clippedUp clippedAt ofBits lt eq ne le whole mul div sub toUnsigned toSigned neg size
+unfolding recordOf judgeOf clipOf finiteUp clippedUp clippedAt ofBits lt eq ne le whole mul div sub toUnsigned toSigned
+    neg size
 card-is = refl
 
 abbrev a1 : List ℕ
@@ -79,19 +104,24 @@ loadedFrom judged =
 
 runFrom : Board → Board
 runFrom b =
-    movedOf (movedOf (placedOf b (pos 1) (onSeven (pos 0 ∷ pos 1 ∷ pos 1 ∷ pos 2 ∷ pos 2 ∷ pos 2 ∷ pos 3 ∷ [])) .board) (pos 1 ∷ pos 16000 ∷ []) .board) (pos 2 ∷ pos 16000 ∷ []) .board
+    movedOf (movedOf (placedOf b (pos 1) (onSeven (pos 0 ∷ pos 1 ∷ pos 1 ∷ pos 2 ∷ pos 2 ∷ pos 2 ∷ pos 3 ∷ [])) .board)
+    (pos 1 ∷ pos 16000 ∷ []) .board) (pos 2 ∷ pos 16000 ∷ []) .board
 
 board-from : theBoard ≡ runFrom (loadedFrom (judgeOf (recordOf theCard)))
 unfolding theBoard runFrom loadedFrom loadedOf loadVerdict
 board-from = refl
 
 totals-from : take 4 (runFrom (loadedFrom (yes worked)) .totals) ≡ negsuc 2047 ∷ pos 1024 ∷ pos 1024 ∷ pos 0 ∷ []
-unfolding runFrom loadedFrom loadedOf placedOf lookedAt movedOf freshBoard recordOf entryOf entries expOf rootFor rootOf rootBits readyOf outcomeAcross outcomeOf asked padded placeVerdict moveVerdict overAt overloads rowsGive flow sumBelow withMore listUp anyOf first stretch written readyAt cardsIn transistorsIn ticksBack ticksGive ticksAt renewed changeBy changes firstBelow cardsOf transistorsOf somePairOff shiftsOf shiftedIn
+unfolding runFrom loadedFrom loadedOf placedOf lookedAt movedOf freshBoard recordOf entryOf entries expOf rootFor rootOf
+    rootBits readyOf outcomeAcross outcomeOf asked padded placeVerdict moveVerdict overAt overloads rowsGive flow
+    sumBelow withMore listUp anyOf first stretch written readyAt cardsIn transistorsIn ticksBack ticksGive ticksAt
+    renewed changeBy changes firstBelow cardsOf transistorsOf somePairOff shiftsOf shiftedIn
 totals-from = refl
 
 board-row : boardCase .worked ≡ boardCase .paper
 unfolding boardCase
-board-row = ap (λ (b : Board). take 4 (b .totals)) (board-from ∙ ap (λ (j : Verdict WorkedCard). runFrom (loadedFrom j)) card-is) ∙ totals-from
+board-row = ap (λ (b : Board). take 4 (b .totals))
+    (board-from ∙ ap (λ (j : Verdict WorkedCard). runFrom (loadedFrom j)) card-is) ∙ totals-from
 
 -- ---- the stage
 
@@ -108,7 +138,10 @@ unfolding theStage stageFrom loadedFrom loadedOf loadVerdict
 stage-from = refl
 
 stage-lifts : lifts (stageFrom (loadedFrom (yes worked))) ≡ pos 15 ∷ pos 15 ∷ pos 0 ∷ []
-unfolding stageFrom loadedFrom loadedOf placedOf lookedAt movedOf freshBoard recordOf entryOf entries expOf rootFor rootOf rootBits readyOf outcomeAcross outcomeOf asked padded placeVerdict moveVerdict overAt overloads rowsGive flow sumBelow withMore listUp anyOf first stretch written readyAt cardsIn transistorsIn ticksBack ticksGive ticksAt renewed changeBy changes firstBelow cardsOf transistorsOf somePairOff shiftsOf shiftedIn
+unfolding stageFrom loadedFrom loadedOf placedOf lookedAt movedOf freshBoard recordOf entryOf entries expOf rootFor
+    rootOf rootBits readyOf outcomeAcross outcomeOf asked padded placeVerdict moveVerdict overAt overloads rowsGive flow
+    sumBelow withMore listUp anyOf first stretch written readyAt cardsIn transistorsIn ticksBack ticksGive ticksAt
+    renewed changeBy changes firstBelow cardsOf transistorsOf somePairOff shiftsOf shiftedIn
 stage-lifts = refl
 
 -- a stage that cannot be lifted one node after the other can be lifted together
@@ -123,7 +156,8 @@ tail [] = []
 tail (c ∷ rest) = rest
 
 other-rows : map (λ (c : Case). c .worked) (tail (tail cases)) ≡ map (λ (c : Case). c .paper) (tail (tail cases))
-unfolding cases entries finiteUp clippedUp clippedAt maskUp ofBits toBits lt eq ne le whole mul div sub toUnsigned toSigned neg size expOf rootFor rootOf rootBits
+unfolding cases entries finiteUp clippedUp clippedAt maskUp ofBits toBits lt eq ne le whole mul div sub toUnsigned
+    toSigned neg size expOf rootFor rootOf rootBits
 other-rows = refl
 
 abbrev first-then : List ℤ → List (List ℤ) → List (List ℤ)

@@ -76,7 +76,31 @@ withSn s (no f) = []
 withSn s (yes c) =
     overNumbers
     (outcomeOf
-    (record { sn = s; bulk = c .bulk; side = c .side; nonideal = c .nonideal; ex = c .ex; sub = c .sub; sf = c .sf; rex = c .rex; rsub = c .rsub; reverse = c .reverse; ge = c .ge; gbc = c .gbc; gcc = c .gcc; gblx = c .gblx; gbli = c .gbli; octave = c .octave; second = c .second; knee = c .knee; exsub = c .exsub; «rcbli_zero» = c .«rcbli_zero»; pnp = c .pnp; «rcblx_zero» = c .«rcblx_zero»; wide = c .wide })
+    (record {
+      sn = s;
+      bulk = c .bulk;
+      side = c .side;
+      nonideal = c .nonideal;
+      ex = c .ex;
+      sub = c .sub;
+      sf = c .sf;
+      rex = c .rex;
+      rsub = c .rsub;
+      reverse = c .reverse;
+      ge = c .ge;
+      gbc = c .gbc;
+      gcc = c .gcc;
+      gblx = c .gblx;
+      gbli = c .gbli;
+      octave = c .octave;
+      second = c .second;
+      knee = c .knee;
+      exsub = c .exsub;
+      «rcbli_zero» = c .«rcbli_zero»;
+      pnp = c .pnp;
+      «rcblx_zero» = c .«rcblx_zero»;
+      wide = c .wide;
+    })
     (replicate roles (pos 0))
     .over)
 
@@ -93,7 +117,8 @@ unfoldable pub theBoard : Board
 unfolding freshBoard recordOf loadedOf placedOf movedOf
 theBoard =
     let loaded = loadedOf freshBoard (0x61 ∷ 0x31 ∷ []) (recordOf theCard) .board in
-    let placed = placedOf loaded (pos 1) (onSeven (pos 0 ∷ pos 1 ∷ pos 1 ∷ pos 2 ∷ pos 2 ∷ pos 2 ∷ pos 3 ∷ [])) .board in
+    let placed = placedOf loaded (pos 1)
+    (onSeven (pos 0 ∷ pos 1 ∷ pos 1 ∷ pos 2 ∷ pos 2 ∷ pos 2 ∷ pos 3 ∷ [])) .board in
     movedOf (movedOf placed (pos 1 ∷ pos 16000 ∷ []) .board) (pos 2 ∷ pos 16000 ∷ []) .board
 
 -- a stage: two transistors of the card, the base of each on the other's emitter, and their collectors at 2 V
@@ -144,8 +169,14 @@ unfolding entryOf mantissaAt ideal five mainAt recordOf judgeOf outcomeAcross ou
 cases =
     boardCase
     ∷ stageCase
-    ∷ record { worked = pos (entryOf 0) ∷ pos (entryOf 128) ∷ pos (entryOf 256) ∷ []; paper = pos 1073741824 ∷ pos 1518500249 ∷ pos 2147483648 ∷ [] }
-    ∷ record { worked = mantissaAt (negsuc 0) ∷ mantissaAt (pos 1) ∷ mantissaAt (pos 8000) ∷ []; paper = pos 2147370236 ∷ pos 1073787311 ∷ pos 1518500249 ∷ [] }
+    ∷ record {
+      worked = pos (entryOf 0) ∷ pos (entryOf 128) ∷ pos (entryOf 256) ∷ [];
+      paper = pos 1073741824 ∷ pos 1518500249 ∷ pos 2147483648 ∷ [];
+    }
+    ∷ record {
+      worked = mantissaAt (negsuc 0) ∷ mantissaAt (pos 1) ∷ mantissaAt (pos 8000) ∷ [];
+      paper = pos 2147370236 ∷ pos 1073787311 ∷ pos 1518500249 ∷ [];
+    }
     ∷ record { worked = ideal (pos 0); paper = pos 0 ∷ [] }
     ∷ record { worked = ideal (pos 16000); paper = pos 1024 ∷ [] }
     ∷ record { worked = ideal (negsuc 15999); paper = negsuc 511 ∷ [] }
@@ -161,7 +192,10 @@ cases =
     ∷ record { worked = mainAt (pos 16000) (negsuc 15999); paper = pos 2596 ∷ [] }
     ∷ record { worked = mainAt (pos 16000) (pos 16000); paper = pos 0 ∷ [] }
     ∷ record { worked = mainAt (pos 0) (pos 0); paper = pos 0 ∷ [] }
-    ∷ record { worked = withSn (record { a = 1073741825; down = keptPower (negsuc 26) }) (judgeOf (recordOf theCard)); paper = pos 15 ∷ pos 1 ∷ [] }
+    ∷ record {
+      worked = withSn (record { a = 1073741825; down = keptPower (negsuc 26) }) (judgeOf (recordOf theCard));
+      paper = pos 15 ∷ pos 1 ∷ [];
+    }
     ∷ record { worked = clipShows 4 (recordOf (wordsOf two-to-minus-40 one two one)); paper = pos 16 ∷ pos one ∷ [] }
     ∷ record { worked = clipShows 4 (recordOf (wordsOf two-to-minus-40 one one one)); paper = pos 0 ∷ pos one ∷ [] }
     ∷ record { worked = clipShows 1 (recordOf (wordsOf minus-zero one 0 one)); paper = pos 0 ∷ pos 0 ∷ [] }

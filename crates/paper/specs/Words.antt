@@ -25,7 +25,8 @@ two-to-minus-38 = 0x3d90000000000000
 -- a card with this I_s, I_k, XI_B1 and beta_ri. The others, in the order of a record: MULT 1, beta_f 1, I_Bf 0,
 -- m_Lf 1, I_Ss 0, I_CSs 0, I_ks 1, both resistances 0, EXSUB 0, an octave of 16,000,000 nV, LEVEL 504.
 abbrev pub wordsOf : ℕ → ℕ → ℕ → ℕ → List ℕ
-wordsOf is ik xi bri = one ∷ is ∷ ik ∷ one ∷ xi ∷ 0 ∷ one ∷ bri ∷ 0 ∷ 0 ∷ one ∷ 0 ∷ 0 ∷ 0 ∷ 0x416e848000000000 ∷ 0x407f800000000000 ∷ []
+wordsOf is ik xi bri = one ∷ is ∷ ik ∷ one ∷ xi ∷ 0 ∷ one ∷ bri ∷ 0 ∷ 0 ∷ one ∷ 0 ∷ 0 ∷ 0 ∷ 0x416e848000000000
+    ∷ 0x407f800000000000 ∷ []
 
 -- eight bytes to a word
 unfoldable pub recordOf : List ℕ → List ℕ

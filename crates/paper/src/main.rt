@@ -1,4 +1,5 @@
-// Works the cases that the proved table leaves out, and a few that it has. Each line has the case, the value worked and the paper's value.
+// Works the cases that the proved table leaves out, and a few that it has. Each line has the case, the value worked and
+// the paper's value.
 ghost use Rattle.board.specs.Promise.{Reached};
 
 mod records; // records.rt: the cards of the cases, as bytes

@@ -24,7 +24,8 @@ pub fn read_currents(
     currents: &[i64; ALL_CURRENTS],
     transistor: i64,
 ) -> Reading
-    ensures { λ r. ⌜ ((b : Board) → now (issues .entry) ≡ b .issues → now (currents .entry) ≡ b .currents → (r .answer ≡ openedOf b transistor .answer) × (r .ticks ≡ openedOf b transistor .ticks)) ⌝ }
+    ensures { λ r. ⌜ ((b : Board) → now (issues .entry) ≡ b .issues → now (currents .entry) ≡ b .currents →
+        (r .answer ≡ openedOf b transistor .answer) × (r .ticks ≡ openedOf b transistor .ticks)) ⌝ }
 {
     let n = given::issue_of(transistor);
     let i = places::transistor_at(issues, n);
@@ -43,7 +44,8 @@ pub fn read_currents(
 
 // A node's voltage in microvolts and its total in ticks, as the slices have them: 13 for the slices, then for the node.
 pub fn read_node(volts: &[i64], totals: &[i64], node: i64) -> Answer
-    ensures { λ r. ⌜ ((b : Rest) → r ≡ showedLent (stateWith b (now (volts .entry)) (now (totals .entry))) node .answer) ⌝ }
+    ensures { λ r. ⌜ ((b : Rest) → r ≡ showedLent (stateWith b (now (volts .entry)) (now (totals .entry)))
+        node .answer) ⌝ }
 {
     let kept = slices::keep_slices(volts, totals);
     if !kept.good {

@@ -1,4 +1,5 @@
-// A node summed up: how many transistors name it, on how many cards, and the largest size of a branch that starts or ends there.
+// A node summed up: how many transistors name it, on how many cards, and the largest size of a branch that starts or
+// ends there.
 ghost use mathlib.Core.Path.{_≡_};
 ghost use mathlib.Core.Bool.{true, cond, _||_};
 ghost use Prim.Native.Nat.{suc, _<_};
@@ -144,7 +145,8 @@ pub fn sum_up(
     currents: &[i64; ALL_CURRENTS],
     node: i64,
 ) -> Answer
-    ensures { λ r. ⌜ ((b : Board) → LendsNode b (now (cards .entry)) (now (nodes .entry)) (now (naming .entry)) (now (currents .entry)) → r ≡ summedOf b node .answer) ⌝ }
+    ensures { λ r. ⌜ ((b : Board) → LendsNode b (now (cards .entry)) (now (nodes .entry)) (now (naming .entry))
+        (now (currents .entry)) → r ≡ summedOf b node .answer) ⌝ }
 {
     let n = given::node_of(node);
     if NODES <= n as usize {

@@ -1,4 +1,5 @@
--- Arrays of a board, lent one by one beside the two slices to the function that works a call, and what it leaves in them.
+-- Arrays of a board, lent one by one beside the two slices to the function that works a call, and what it leaves in
+-- them.
 use mathlib.Core.Path.{_≡_}
 use mathlib.Core.Bool.{Bool}
 use mathlib.Core.List.{List}

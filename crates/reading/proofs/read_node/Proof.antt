@@ -30,7 +30,8 @@ good c = c .before .before
 
 slices-on : (c : tie.Else1) → offSlices (volts (good c .before)) (totals (good c .before)) ≡ false
 slices-on c =
-    kept-on (volts (good c .before)) (totals (good c .before)) (good c .keep-slices .ensures) (not-false _ (c .if1 .left))
+    kept-on (volts (good c .before)) (totals (good c .before)) (good c .keep-slices .ensures)
+    (not-false _ (c .if1 .left))
 
 number : (c : tie.After-node-of) → c .node-of .result ≡ nodeOf (good (c .before) .before .args .node)
 number c =
@@ -60,7 +61,8 @@ returns-3 c =
     let f = g .before .before in
     let e = f .before .before in
     let levels =
-    kept-volts (volts (good e .before)) (totals (good e .before)) (good e .keep-slices .ensures) (not-false _ (e .if1 .left)) in
+    kept-volts (volts (good e .before)) (totals (good e .before)) (good e .keep-slices .ensures)
+    (not-false _ (e .if1 .left)) in
     λ b. shows-it (stateWith b _ _) _ (slices-on e) _ _ _ (number (f .before)) (f .if2 .left)
     (toZ-ofZ w64 (g .give-back .result) (search needs) ∙ g .give-back .ensures ∙ rw levels) (search needs)
 
