@@ -28,10 +28,6 @@ uncons : (s : List ℕ) → 0 < length s → s ≡ getD s 0 0 ∷ rest s
 uncons s h = drop-cons s 0 0 h
     ∙ ap (λ (t : List ℕ). getD s 0 0 ∷ t) (sym (take-all (length s - 1) (drop 1 s) (rw length-drop (le-refl _))))
 
-empty : (s : List ℕ) → length s ≡ 0 → s ≡ []
-empty [] h = refl
-empty (a ∷ s) h = absurd (omega arith)
-
 -- ---- the power
 
 pub signed-none : (s : List ℕ) → length s ≡ 0 → 200 ≡ signedPower s

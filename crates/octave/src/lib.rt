@@ -25,9 +25,6 @@ const FINE: u64 = NANOVOLTS * PARTS;
 // Positions are raised by BIAS octaves, as voltages are by SPAN, so that none is negative.
 pub const BIAS: u64 = 8192;
 
-// Binary places of a mantissa.
-pub const PLACES: u64 = 30;
-
 // Binary places of the reciprocal: HALF in its lower half, TOP in the other.
 const HALF: u64 = 32;
 

@@ -4,7 +4,6 @@ ghost use Rattle.script.specs.Command.{Says};
 mod saying; // saying.rt: what a line says
 
 pub use numbered::MOST_NUMBERS;
-pub use series::ROOM;
 pub use series::Series;
 pub use verbs::Verb;
 pub use words::MOST_WORDS;

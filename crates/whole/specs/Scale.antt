@@ -46,19 +46,3 @@ scale-up x up down h = ap (floorScale x) (sub-up up down h)
 
 pub scale-down : (x up down : ℕ) → up < down → floorScale x (subℕ up down) ≡ x / 2 ^ (down - up)
 scale-down x up down h = ap (floorScale x) (sub-down up down h) ∙ ap (λ (n : ℕ). x / 2 ^ n) (omega arith)
-
--- a result below `over` is the number itself
-pub is-number : (over t : ℕ) → heldAt over t < over → heldAt over t ≡ t
-is-number over t h = split (below-or-not t over)
-  where
-    split : (t < over) ⊎ (over ≤ t) → heldAt over t ≡ t
-    split (inl l) = stays-below over t l
-    split (inr l) = absurd (omega (arith, reaches over t l))
-
--- and `over` is given only where the number reaches it
-pub is-over : (over t : ℕ) → heldAt over t ≡ over → over ≤ t
-is-over over t e = split (below-or-not t over)
-  where
-    split : (t < over) ⊎ (over ≤ t) → over ≤ t
-    split (inl l) = absurd (omega (arith, stays-below over t l))
-    split (inr l) = l
