@@ -22,7 +22,7 @@ use Rattle.working.specs.declared.Worked.{Worked}
 use Rattle.card.specs.declared.WorkedCard.{WorkedCard}
 use Rattle.clip.specs.Numbers as number
 use Rattle.clip.specs.Limits as limits
-use Rattle.clip.specs.Limits.{one, milli, wide, narrow, ruleOf, clipTo}
+use Rattle.clip.specs.Limits.{milli, wide, narrow, ruleOf, clipTo}
 use Rattle.clip.specs.Record.{isWide, widthOf, numberAt, finiteUp}
 use Rattle.clip.specs.Clip.{clippedAt}
 use Rattle.working.specs.Work.{conductanceOf, workedOf, leadsOf, all, allFinite}

@@ -4,7 +4,7 @@ use mathlib.Core.Logic.{_⊎_, inl, inr}
 use Prim.Native.Nat.{ℕ, suc, _+_, _-_, _≤_, _<_}
 use native.Mathlib.Omega.{arith}
 use native.Mathlib.Decide.{decLt}
-use lib.IntN.{ℤ, pos, negsuc, subℕ, _+ℤ_}
+use lib.IntN.{pos, negsuc, subℕ, _+ℤ_}
 use lib.Ieee.{minus}
 use borrow.Author.Tests.{le-ltb, lt-ltb, le-leb, lt-leb}
 use Rattle.float.specs.Split.{splitBias, keptPower}

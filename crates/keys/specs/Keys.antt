@@ -1,7 +1,7 @@
 -- The keys of a model line: one list, in the order of a record's numbers, with what a key that is not given stands for.
 use mathlib.Core.Path.{_≡_, refl}
 use mathlib.Core.List.{List, [], _∷_, _++_, map}
-use Prim.Native.Nat.{ℕ, zero, suc, _%_, _/_}
+use Prim.Native.Nat.{ℕ, zero, suc}
 use Prim.Native.String.{String}
 use lib.ListN.{length, getD}
 use Rattle.bytes_le.specs.Le.{le}

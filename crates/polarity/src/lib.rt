@@ -1,10 +1,7 @@
 // A transistor's polarity: a PNP's voltages are turned over before the rows see them, and its currents after them.
 ghost use mathlib.Core.Path.{_≡_};
 ghost use mathlib.Core.List.{map};
-ghost use Prim.Native.Nat.{_≤_};
-ghost use lib.ListN.{length};
 ghost use Rattle.volts.specs.Volts.{givenBack, AllNear};
-ghost use Rattle.terms.specs.Rows.{roles, branches};
 ghost use Rattle.terms.specs.inner.Ready.{Askable};
 ghost use Rattle.polarity.specs.Polarity.{turned, outcomeOf};
 ghost use Rattle.polarity.specs.inner.Turning.{keptTurned, Turnable};

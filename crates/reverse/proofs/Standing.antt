@@ -2,19 +2,17 @@
 -- difference is the quotient.
 use mathlib.Core.Path.{_≡_, refl, sym, ap, _∙_}
 use mathlib.Core.Bool.{Bool, true, false, cond, _||_}
-use Prim.Native.Nat.{ℕ, zero, suc, _-_, _^_, _≤_, _<_}
+use Prim.Native.Nat.{ℕ, zero, suc, _-_, _≤_, _<_}
 use native.Mathlib.Omega.{arith}
 use lib.Dec.{eqb, ltb, lit<}
-use lib.IntN.{ℤ, pos, negsuc, negℤ, natAbs, subℕ}
+use lib.IntN.{pos, negsuc, negℤ, natAbs, subℕ}
 use borrow.Author.Tests.{eqb-true, eqb-false, ne-eqb, le-ltb, ltb-true, ltb-false}
 use Rattle.refusal.specs.Clash.{clash}
-use Rattle.whole.specs.Scale.{heldAt}
 use Rattle.whole.specs.Quotient.{shiftedQuotient, quotient-up, quotient-down}
 use Rattle.whole.specs.laws.Biased.{sub-up, sub-down}
 use Rattle.scaling.specs.Scaled.{partPlaces, tickLimit}
 use Rattle.scaling.specs.inner.Shifts.{UpTo}
 use Rattle.scaling.proofs.Scaling.{upto-held}
-use Rattle.reverse.specs.declared.Pair.{Pair}
 use Rattle.reverse.specs.Sum.{sumLimit, overSum, sumOver}
 use Rattle.reverse.specs.inner.Pairs.{overPair, sizeOver, pairOf, eitherOver, Stands}
 

@@ -2,7 +2,7 @@
 -- exact sum.
 use mathlib.Core.Path.{_≡_, sym, ap, ap₂, subst, _∙_}
 use Prim.Native.Nat.{ℕ, _+_, _-_, _*_, _/_, _^_, _≤_, _<_}
-use native.Mathlib.Nat.{mul-comm, mul-add, add-mul, mul-assoc, mul-left-comm, mul-right-comm, mul-div-cancel}
+use native.Mathlib.Nat.{mul-comm, add-mul, mul-assoc, mul-right-comm, mul-div-cancel}
 use native.Mathlib.Nat.{mul-add-div, div-div-eq-div-mul, mul-div-mul-right, mul-le-mul, pow-le-pow-right, add-comm}
 use native.Mathlib.Nat.{le-div-iff-mul-le, div-lt-iff-lt-mul, div-le-self, le-trans, le-of-eq, le-add-right}
 use native.Mathlib.Nat.{mul-le-mul-left}

@@ -1,6 +1,6 @@
 -- What `keep_slices` tells: whether the slices are turned away, and where they are not, their lengths and their voltages as
 -- they are kept.
-use mathlib.Core.Path.{_≡_, refl, ap, sym, _∙_}
+use mathlib.Core.Path.{_≡_, refl, ap, _∙_}
 use mathlib.Core.Bool.{Bool, true, false, not, _||_}
 use mathlib.Core.List.{List, [], _∷_, map}
 use Prim.Native.Nat.{ℕ, zero, suc, _≤_, zero-le}

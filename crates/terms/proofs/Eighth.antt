@@ -1,10 +1,10 @@
 -- Row 8 worked whole: nothing where its value is 0, else its T's over its sum.
 use mathlib.Core.Path.{_≡_, sym, _∙_}
-use Prim.Native.Nat.{ℕ, suc, _*_, _^_}
+use Prim.Native.Nat.{ℕ, suc, _^_}
 use native.Mathlib.Nat.{zero-mul, zero-div}
 use native.Mathlib.Omega.{arith}
 use lib.Dec.{lit<}
-use lib.IntN.{ℤ, pos, negsuc, subℕ, _+ℤ_}
+use lib.IntN.{ℤ, pos, negsuc, _+ℤ_}
 use borrow.Author.Tests.{lt-ltb}
 use Rattle.whole.specs.Scale.{floorScale}
 use Rattle.whole.specs.laws.Biased.{sub-up}

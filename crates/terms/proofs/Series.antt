@@ -1,8 +1,8 @@
 -- A resistor's two numbers: what the kept voltages of its roles say, and that one without a value lets nothing through.
-use mathlib.Core.Path.{_≡_, refl, sym, ap, ap₂, _∙_}
+use mathlib.Core.Path.{_≡_, sym, ap, ap₂, _∙_}
 use mathlib.Core.List.{List, map}
 use mathlib.Core.Logic.{_⊎_, inl, inr}
-use Prim.Native.Nat.{ℕ, _+_, _-_, _*_, _≤_, _<_}
+use Prim.Native.Nat.{ℕ, _-_, _*_, _≤_, _<_}
 use native.Mathlib.Nat.{zero-mul}
 use native.Mathlib.Omega.{arith}
 use lib.Dec.{lit<}
@@ -13,10 +13,9 @@ use Rattle.volts.specs.Volts.{span, givenBack, acrossOf}
 use Rattle.volts.specs.laws.Keeping.{given-back-at}
 use Rattle.volts.specs.laws.Across.{across-is}
 use Rattle.float.specs.declared.Split.{Split}
-use Rattle.reverse.specs.declared.Pair.{Pair}
 use Rattle.scaling.specs.Scaled.{valueAt, times, wholeNumber, tickPlaces, wholeTicks, tickLimit}
 use Rattle.scaling.specs.inner.Shifts.{UpTo, throughOf}
-use Rattle.scaling.proofs.Scaling.{upto-equal, upto-zero, through-upto}
+use Rattle.scaling.proofs.Scaling.{upto-equal, through-upto}
 use Rattle.terms.specs.Values.{rise}
 use Rattle.terms.specs.inner.Terms.{Lead, Led}
 use Rattle.terms.proofs.Eighth.{nothing}

@@ -1,10 +1,7 @@
 -- `signed_digits` meets its contract: digits gathered from nothing on.
-use mathlib.Core.Path.{ap}
-use lib.IntN.{ℤ}
 use borrow.Author.Needs.{needs}
 use mir.Syntax.{w64}
 use mir.ValLaws.{toZ-ofZ}
-use Rattle.sheet.specs.Digits.{signedDigits}
 use Rattle.sheet.proofs.Texts.{gathered}
 use Rattle.sheet.proofs.signed_digits.Tie as tie
 use Rattle.sheet.proofs.signed_digits.Statement.{statement}

@@ -1,5 +1,5 @@
 -- `keep_slices` tests both lengths, then the voltages.
-use mathlib.Core.Path.{_≡_, sym, _∙_}
+use mathlib.Core.Path.{sym, _∙_}
 use borrow.Author.Needs.{needs}
 use borrow.Author.Tests.{not-true, not-false}
 use Rattle.slices.proofs.Passing.{wrong-lengths, RightLengths, right-lengths}

@@ -1,6 +1,5 @@
 -- `fits` meets its contract: no word, a minus sign first, or none.
 use borrow.Author.Needs.{needs}
-use mathlib.Core.Path.{refl}
 use Rattle.spelling.proofs.Numerals.{fits-none, fits-below, fits-above}
 use Rattle.spelling.proofs.fits.Tie as tie
 use Rattle.spelling.proofs.fits.Statement.{statement}

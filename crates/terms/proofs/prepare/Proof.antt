@@ -1,10 +1,7 @@
 -- `terms::prepare` meets its contract: each part of the card made ready is what its callee gives.
 use mathlib.Core.Path.{_≡_, ap, _∙_}
-use lib.IntN.{subℕ}
 use borrow.Author.Needs.{needs}
-use Rattle.volts.specs.Volts.{span}
 use Rattle.octave.specs.Exponential.{exponentialOf}
-use Rattle.octave.specs.declared.Exponential.{Exponential}
 use Rattle.octave.specs.inner.Reciprocal.{equals-reciprocal, reciprocal-octave}
 use Rattle.octave.specs.declared.Reciprocal.{Reciprocal}
 use Prim.Native.Nat.{ℕ}

@@ -5,7 +5,7 @@ use Prim.Native.Nat.{ℕ, zero, suc, _+_, _-_, _≤_, _<_}
 use native.Mathlib.Nat.{not-suc-le-zero}
 use native.Mathlib.Omega.{arith}
 use native.Mathlib.Decide.{decLt}
-use lib.IntN.{ℤ, pos, negsuc, negℤ, subℕ, _+ℤ_}
+use lib.IntN.{pos, negsuc, negℤ, subℕ, _+ℤ_}
 use borrow.Author.Tests.{le-ltb, lt-ltb}
 
 pub sub-up : (a b : ℕ) → b ≤ a → subℕ a b ≡ pos (a - b)

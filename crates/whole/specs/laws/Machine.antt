@@ -1,6 +1,6 @@
 -- What the machine holds of a signed number, and the size of one turned over.
 use mathlib.Core.Path.{_≡_, refl}
-use Prim.Native.Nat.{ℕ, zero, suc, _^_, _<_}
+use Prim.Native.Nat.{zero, suc, _^_, _<_}
 use native.Mathlib.Nat.{le-of-lt}
 use lib.IntN.{ℤ, pos, negsuc, natAbs, negℤ}
 use mir.Syntax.{w64}

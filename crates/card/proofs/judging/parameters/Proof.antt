@@ -5,7 +5,7 @@ use lib.Ieee.{Float}
 use borrow.Author.Needs.{needs}
 use Rattle.clip.specs.Numbers as number
 use Rattle.clip.specs.Limits.{zero}
-use Rattle.card.specs.Judge.{at, hasLeads}
+use Rattle.card.specs.Judge.{at}
 use Rattle.card.proofs.judging.parameters.Statement.{statement}
 use Rattle.card.proofs.judging.parameters.Tie as tie
 

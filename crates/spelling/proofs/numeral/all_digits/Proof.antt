@@ -6,7 +6,6 @@ use borrow.Author.Needs.{needs}
 use Rattle.spelling.proofs.ByteLoops.{Digits, digits-on, digits-not, digits-end}
 use Rattle.spelling.proofs.numeral.all_digits.Tie as tie
 use Rattle.spelling.proofs.numeral.all_digits.Statement.{statement}
-use Rattle.spelling.proofs.Ranges.{within}
 
 abbrev Inv-loop : tie.InvT-loop
 Inv-loop s i₀ i = Digits s i

@@ -6,7 +6,6 @@ use borrow.Author.Needs.{needs}
 use Rattle.spelling.proofs.ByteLoops.{Value, value-on, value-end}
 use Rattle.spelling.proofs.numeral.value.Tie as tie
 use Rattle.spelling.proofs.numeral.value.Statement.{statement}
-use Rattle.spelling.proofs.Ranges.{within}
 
 abbrev Inv-loop : tie.InvT-loop
 Inv-loop s x₀ i₀ x i = Value s i x

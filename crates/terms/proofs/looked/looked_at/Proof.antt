@@ -1,15 +1,10 @@
 -- `looked::looked_at` meets its contract: what is given, or the inner role's for each.
-use mathlib.Core.Path.{_≡_}
 use mathlib.Core.List.{[], _∷_}
-use Prim.Native.Nat.{ℕ, _<_}
-use lib.Dec.{lit<}
 use lib.ListN.{getD}
 use lib.IntN.{pos}
 use mir.Syntax.{w64}
-use mir.Val.{toZ, ofZ}
 use mir.ValLaws.{toZ-ofZ}
 use borrow.Author.Needs.{needs}
-use Rattle.terms.specs.Rows.{roles}
 use Rattle.terms.specs.Looked.{lookedAt}
 use Rattle.terms.proofs.looked.looked_at.Statement.{statement}
 use Rattle.terms.proofs.looked.looked_at.Tie as tie

@@ -1,5 +1,4 @@
 -- `next_word`: beyond the line and past its last word there is none, else the word that begins after the spaces.
-use native.Mathlib.Omega.{arith}
 use borrow.Author.Needs.{needs}
 use Rattle.words.proofs.Parts.{next-beyond, next-none, next-some}
 use Rattle.words.proofs.parting.next_word.Tie as tie
