@@ -1,6 +1,7 @@
 // The line that answers a command, written in a lent buffer.
 ghost use Rattle.answers.specs.Page.{Writes};
-ghost use Rattle.answers.specs.Answers.{answerLine, errorLine, unreadableLine, modelLine, currentsLine, whoLine, sumLine, clipLine};
+ghost use Rattle.answers.specs.Answers.{answerLine, errorLine, unreadableLine, modelLine, currentsLine, whoLine};
+ghost use Rattle.answers.specs.Answers.{sumLine, clipLine};
 
 mod page; // page.rt: bytes written in a lent buffer
 mod parts; // parts.rt: what the answers are made of
@@ -10,7 +11,8 @@ use refusal::Refusal;
 // Room for the longest answer, that to `clip`.
 pub const ANSWER_ROOM: usize = 512;
 
-// An answer; those to `clip`, `currents`, `who`, `sum` and `model`, an unreadable file and a line that is no command are apart.
+// An answer; those to `clip`, `currents`, `who`, `sum` and `model`, an unreadable file and a line that is no command
+// are apart.
 pub enum Answer {
     Library(u32),
     Offset(usize),

@@ -2,7 +2,8 @@
 use mathlib.Core.Path.{_≡_, refl, sym, _∙_, ap, ap₂}
 use mathlib.Core.List.{List, [], _∷_}
 use Prim.Native.Nat.{ℕ, zero, suc, _+_, _*_, _-_, _/_, _%_, _^_, _<_, _≤_}
-use native.Mathlib.Nat.{pow-suc, pow-le-pow-right, one-le-pow, le-refl, lt-of-lt-of-le, le-of-suc-le-suc, not-suc-le-zero}
+use native.Mathlib.Nat.{pow-suc, pow-le-pow-right, one-le-pow, le-refl, lt-of-lt-of-le, le-of-suc-le-suc}
+use native.Mathlib.Nat.{not-suc-le-zero}
 use native.Mathlib.Omega.{arith}
 use lib.ListN.{length, take, drop, getD, length-drop, length-take, drop-of-length-le}
 use lib.Seq.{getD-take, take-all}
@@ -105,7 +106,8 @@ no-word s at h = rw (drop-of-length-le s h) (short-word [] 0 (lit< tt) refl)
 module _ (s : List ℕ) (b₀ b₁ b₂ b₃ b₄ b₅ b₆ b₇ : ℕ)
     (p₀ : (b₀ ≡ getD s 0 0) × (b₀ < 256)) (p₁ : (b₁ ≡ getD s 1 0) × (b₁ < 256)) (p₂ : (b₂ ≡ getD s 2 0) × (b₂ < 256))
     (p₃ : (b₃ ≡ getD s 3 0) × (b₃ < 256))
-    (p₄ : (b₄ ≡ getD s 4 0) × (b₄ < 256)) (p₅ : (b₅ ≡ getD s 5 0) × (b₅ < 256)) (p₆ : (b₆ ≡ getD s 6 0) × (b₆ < 256)) (p₇ : (b₇ ≡ getD s 7 0) × (b₇ < 256)) (h : 8 ≤ length s) where
+    (p₄ : (b₄ ≡ getD s 4 0) × (b₄ < 256)) (p₅ : (b₅ ≡ getD s 5 0) × (b₅ < 256))
+    (p₆ : (b₆ ≡ getD s 6 0) × (b₆ < 256)) (p₇ : (b₇ ≡ getD s 7 0) × (b₇ < 256)) (h : 8 ≤ length s) where
   eight : List ℕ
   eight = b₀ ∷ b₁ ∷ b₂ ∷ b₃ ∷ b₄ ∷ b₅ ∷ b₆ ∷ b₇ ∷ []
 
@@ -114,7 +116,8 @@ module _ (s : List ℕ) (b₀ b₁ b₂ b₃ b₄ b₅ b₆ b₇ : ℕ)
   are-eight = take-firsts 8 s h ∙ rw (← p₀ .0, ← p₁ .0, ← p₂ .0, ← p₃ .0, ← p₄ .0, ← p₅ .0, ← p₆ .0, ← p₇ .0)
 
   pub whole-word : (x : ℕ)
-      → x ≡ b₀ + 0x100 * b₁ + 0x10000 * b₂ + 0x1000000 * b₃ + 0x100000000 * (b₄ + 0x100 * b₅ + 0x10000 * b₆ + 0x1000000 * b₇)
+      → x ≡ b₀ + 0x100 * b₁ + 0x10000 * b₂ + 0x1000000 * b₃
+      + 0x100000000 * (b₄ + 0x100 * b₅ + 0x10000 * b₆ + 0x1000000 * b₇)
       → Word s x
   unfolding eight
   whole-word x e =
@@ -130,5 +133,13 @@ module _ (s : List ℕ) (b₀ b₁ b₂ b₃ b₄ b₅ b₆ b₇ : ℕ)
         value = nested ∙ sym (ap le are-eight);
         bytes =
             λ l. rw nested
-            (front 7 b₀ n₁ (p₀ .1) ∙ rw (front 6 b₁ n₂ (p₁ .1), front 5 b₂ n₃ (p₂ .1), front 4 b₃ n₄ (p₃ .1), front 3 b₄ n₅ (p₄ .1), front 2 b₅ n₆ (p₅ .1), front 1 b₆ n₇ (p₆ .1), front 0 b₇ 0 (p₇ .1)) (sym are-eight));
+            (front 7 b₀ n₁ (p₀ .1) ∙ rw (
+              front 6 b₁ n₂ (p₁ .1),
+              front 5 b₂ n₃ (p₂ .1),
+              front 4 b₃ n₄ (p₃ .1),
+              front 3 b₄ n₅ (p₄ .1),
+              front 2 b₅ n₆ (p₅ .1),
+              front 1 b₆ n₇ (p₆ .1),
+              front 0 b₇ 0 (p₇ .1),
+            ) (sym are-eight));
       }

@@ -1,4 +1,5 @@
-// Little-endian numbers at a place of a slice of bytes. Bytes past the slice's end count as 0, so every function is total.
+// Little-endian numbers at a place of a slice of bytes. Bytes past the slice's end count as 0, so every function is
+// total.
 ghost use mathlib.Core.Path.{_≡_};
 ghost use Prim.Native.Nat.{_<_, _≤_, _^_};
 ghost use lib.ListN.{getD, drop};

@@ -28,7 +28,8 @@ use Rattle.card.proofs.Signs.{plus, plus-unsigned, zero-plus, kept-plus
 use Rattle.card.proofs.Signs.{cond-unsigned, div-unsigned, sub-unsigned}
 
 -- ---- the limits
-limits-plus : T (plus one) × T (plus four) × T (plus pico) × T (plus tenth-milli) × T (plus tenth-nano) × T (plus million)
+limits-plus : T (plus one) × T (plus four) × T (plus pico) × T (plus tenth-milli) × T (plus tenth-nano) ×
+    T (plus million)
 unfolding ofBits
 limits-plus = (tt, tt, tt, tt, tt, tt)
 

@@ -1,5 +1,5 @@
--- A record of version 2 that says no more than one of version 1 is judged alike, and its card is the same but for V_Lr and
--- the series resistors, which version 2 alone has.
+-- A record of version 2 that says no more than one of version 1 is judged alike, and its card is the same but for V_Lr
+-- and the series resistors, which version 2 alone has.
 use mathlib.Core.Path.{_≡_, refl, sym, ap, ap₂, _∙_}
 use mathlib.Core.Bool.{Bool, true, false, not, cond, _&&_}
 use mathlib.Core.List.{List, [], _∷_}
@@ -28,7 +28,8 @@ use Rattle.clip.specs.Clip.{clippedAt}
 use Rattle.working.specs.Work.{conductanceOf, workedOf, leadsOf, all, allFinite}
 use Rattle.card.specs.Octave.{octaveGood, secondGood}
 use Rattle.card.specs.Knee.{kneeGood}
-use Rattle.card.specs.Judge.{numbersFor, judgedNumbers, at, hasLeads, resistanceOf, parametersOf, level, level504, octave, vlr, polarity, sparesGood}
+use Rattle.card.specs.Judge.{numbersFor, judgedNumbers, at, hasLeads, resistanceOf, parametersOf, level, level504}
+use Rattle.card.specs.Judge.{octave, vlr, polarity, sparesGood}
 use Rattle.card.specs.Judge.{settingsGood, icssBelow, withinReach, cardOf, judgeNumbers, judgeOf}
 use Rattle.card.specs.laws.Tells.{judge-order}
 use Rattle.card.specs.laws.Version.{SaysNoMore, withLeads, judgedWithLeads}

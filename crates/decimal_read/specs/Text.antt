@@ -1,5 +1,5 @@
--- The text of a number: a minus or none, digits with at most one point among them, fifteen at most, then nothing or an `e`
--- and a power, itself a minus or none and one or two digits. Read from its first byte to its last.
+-- The text of a number: a minus or none, digits with at most one point among them, fifteen at most, then nothing or an
+-- `e` and a power, itself a minus or none and one or two digits. Read from its first byte to its last.
 use mathlib.Core.Bool.{Bool, true, false, _&&_, not, cond}
 use mathlib.Core.List.{List, [], _∷_}
 use Prim.Native.Nat.{ℕ, _+_, _-_, _*_, _<_}

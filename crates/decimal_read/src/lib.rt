@@ -4,7 +4,8 @@ ghost use mathlib.Core.Bool.{false};
 ghost use mathlib.Core.Path.{_≡_};
 ghost use Prim.Native.Nat.{_+_, _<_, _≤_};
 ghost use Rattle.decimal.specs.Decimal.{digitsEnd, powersOfTen};
-ghost use Rattle.decimal_read.specs.Text.{mostDigits, figureOf, pairOf, signedPower, powerAfter, placedOf, endedOf, counted};
+ghost use Rattle.decimal_read.specs.Text.{mostDigits, figureOf, pairOf, signedPower, powerAfter, placedOf};
+ghost use Rattle.decimal_read.specs.Text.{endedOf, counted};
 ghost use Rattle.decimal_read.specs.Text.{scanned, readOf, InRange, wordRead};
 use decimal::Form;
 

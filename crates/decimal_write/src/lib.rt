@@ -28,7 +28,8 @@ fn put(line: &mut [u8; LINE_ROOM], at: usize, b: u8) -> usize
 pub fn put_bytes(line: &mut [u8; LINE_ROOM], at: usize, text: &[u8]) -> usize
     requires { ⌜ length (now line) ≡ lineRoom ⌝ }
     requires { ⌜ at + length (now text) ≤ lineRoom ⌝ }
-    ensures { λ r. ⌜ (r ≡ at + length (now (text .entry))) × Added (now (line .entry)) at (now (line .exit)) r (now (text .entry)) ⌝ }
+    ensures { λ r. ⌜ (r ≡ at + length (now (text .entry))) ×
+        Added (now (line .entry)) at (now (line .exit)) r (now (text .entry)) ⌝ }
 {
     let mut i = 0;
     while i < text.len() {

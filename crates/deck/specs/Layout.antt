@@ -33,7 +33,8 @@ abbrev pub numbersOf : Ready → List ℕ
 numbersOf r =
     r .card .sn .a ∷ r .card .bulk .a ∷ r .card .side .a ∷ r .card .nonideal .a ∷ r .card .ex .a ∷ r .card .sub .a
     ∷ r .card .sf .a ∷ r .card .rex .a ∷ r .card .rsub .a ∷ r .card .reverse .a ∷ r .card .ge .a ∷ r .card .gbc .a
-    ∷ r .card .gcc .a ∷ r .card .gblx .a ∷ r .card .gbli .a ∷ r .card .octave ∷ r .card .second ∷ r .card .knee ∷ r .plain .w ∷ r .plain .high ∷ r .plain .low ∷ r .plain .base ∷ r .second .w ∷ r .second .high
+    ∷ r .card .gcc .a ∷ r .card .gblx .a ∷ r .card .gbli .a ∷ r .card .octave ∷ r .card .second ∷ r .card .knee
+    ∷ r .plain .w ∷ r .plain .high ∷ r .plain .low ∷ r .plain .base ∷ r .second .w ∷ r .second .high
     ∷ r .second .low ∷ r .second .base ∷ r .doubled .w ∷ r .doubled .high ∷ r .doubled .low ∷ r .doubled .base ∷ []
 
 abbrev pub powersOf : WorkedCard → List ℕ

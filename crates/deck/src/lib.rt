@@ -1,4 +1,5 @@
-// The cards' numbers as flat arrays: each place has a stretch of every array, and a card made ready is laid out in them.
+// The cards' numbers as flat arrays: each place has a stretch of every array, and a card made ready is laid out in
+// them.
 ghost use mathlib.Core.Path.{_≡_};
 ghost use mathlib.Core.Bool.{false};
 ghost use Prim.Native.Nat.{_+_, _*_, _<_};
@@ -82,7 +83,8 @@ fn worked_at(
     i: usize,
 ) -> WorkedCard
     requires { ⌜ i < cardsMost ⌝ }
-    ensures { λ r. ⌜ r ≡ workedFrom (numbersAt (now (numbers .entry)) i) (powersAt (now (powers .entry)) i) (switchesAt (now (switches .entry)) i) ⌝ }
+    ensures { λ r. ⌜ r ≡ workedFrom (numbersAt (now (numbers .entry)) i) (powersAt (now (powers .entry)) i)
+        (switchesAt (now (switches .entry)) i) ⌝ }
 {
     WorkedCard {
         sn: split_at(numbers, powers, i, 0),
@@ -119,7 +121,8 @@ pub fn ready_at(
     i: usize,
 ) -> Ready
     requires { ⌜ i < cardsMost ⌝ }
-    ensures { λ r. ⌜ r ≡ readyAt (now (numbers .entry)) (now (powers .entry)) (now (ticks .entry)) (now (switches .entry)) i ⌝ }
+    ensures { λ r. ⌜ r ≡ readyAt (now (numbers .entry)) (now (powers .entry)) (now (ticks .entry))
+        (now (switches .entry)) i ⌝ }
 {
     let l = TICKS * i;
     Ready {
@@ -173,7 +176,8 @@ fn lay_ticks(all: &mut [u64; ALL_TICKS], i: usize, own: &[u64; TICKS])
 
 fn lay_switches(all: &mut [bool; ALL_SWITCHES], i: usize, own: &[bool; SWITCHES])
     requires { ⌜ i < cardsMost ⌝ }
-    ensures { λ _. ⌜ now (all .exit) ≡ written false (now (all .entry)) (switchesEach * i) (now (own .entry)) switchesEach ⌝ }
+    ensures { λ _. ⌜ now (all .exit) ≡ written false (now (all .entry)) (switchesEach * i) (now (own .entry))
+        switchesEach ⌝ }
 {
     let at = SWITCHES * i;
     for k in 0..SWITCHES {
@@ -282,7 +286,8 @@ pub fn put_ready(
     r: Ready,
 )
     requires { ⌜ i < cardsMost ⌝ }
-    ensures { λ _. ⌜ Laid i r (now (numbers .entry)) (now (powers .entry)) (now (ticks .entry)) (now (switches .entry)) (now (numbers .exit)) (now (powers .exit)) (now (ticks .exit)) (now (switches .exit)) ⌝ }
+    ensures { λ _. ⌜ Laid i r (now (numbers .entry)) (now (powers .entry)) (now (ticks .entry)) (now (switches .entry))
+        (now (numbers .exit)) (now (powers .exit)) (now (ticks .exit)) (now (switches .exit)) ⌝ }
 {
     let card = r.card;
     let own_numbers = numbers_of(r);

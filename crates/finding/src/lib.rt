@@ -15,7 +15,8 @@ pub enum Located {
     Refused(Refusal),
 }
 
-// The place of a padded name among those of a directory, compared where they stand; their count where it is none of them.
+// The place of a padded name among those of a directory, compared where they stand; their count where it is none of
+// them.
 fn search(d: &[u8], x: &[u8; NAME_BYTES]) -> usize
     ensures { λ r. ⌜ r ≡ placeOf (now (x .entry)) (namesIn (now (d .entry))) ⌝ }
 {
@@ -66,7 +67,8 @@ pub fn find<'a>(library: &'a [u8], name: &[u8]) -> &'a [u8]
     }
 }
 
-// The record of card k as a part of the library, by the header alone: in a library that was read it is the record of the k-th name.
+// The record of card k as a part of the library, by the header alone: in a library that was read it is the record of
+// the k-th name.
 // The empty part where k is none of the cards, or the library ends too soon.
 pub fn record_at(library: &[u8], k: usize) -> &[u8]
     ensures { λ r. ⌜ HandsOut (library .entry) k r ⌝ }

@@ -64,7 +64,8 @@ near-enough h = omega arith
 
 module _ (x : Float) (f : T (fits binary64 x)) (g : T (finite x)) where
   same-split : splitOf x ≡ unitsOf (in-units x f g .q) (in-units x f g .k)
-  same-split = let u = in-units x f g in ap splitOf (u .value) ∙ odd-split (u .sign) (u .q) (u .k) (u .few) (near-enough (u .near))
+  same-split = let u = in-units x f g in ap splitOf (u .value)
+      ∙ odd-split (u .sign) (u .q) (u .k) (u .few) (near-enough (u .near))
 
   pub is-split : IsSplit (splitOf x)
   is-split = let u = in-units x f g in subst IsSplit (sym same-split) (bounds (u .q) (u .k) (u .few) (u .near))
@@ -73,4 +74,5 @@ module _ (x : Float) (f : T (fits binary64 x)) (g : T (finite x)) where
   pub power-kept : subℕ splitBias (splitOf x .down) ≡ splitB x
   power-kept =
       let u = in-units x f g in
-      ap (λ v. subℕ splitBias (v .down)) same-split ∙ odd-power (u .sign) (u .q) (u .k) (u .few) (near-enough (u .near)) ∙ ap splitB (sym (u .value))
+      ap (λ v. subℕ splitBias (v .down)) same-split ∙ odd-power (u .sign) (u .q) (u .k) (u .few) (near-enough (u .near))
+      ∙ ap splitB (sym (u .value))

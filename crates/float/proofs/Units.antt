@@ -107,7 +107,8 @@ plain-split zero h = refl
 plain-split (suc n) h =
     let l = size-le (suc n) 53 h in
     ap (λ (y : ℕ). record { a = wholeF (suc n) / 2 ^ 22; down = y })
-    (ap keptPower (power-at 0 (size (suc n))) ∙ kept-difference (0 + size (suc n) + 22) 1127 (omega (arith, l)) ∙ omega arith)
+    (ap keptPower (power-at 0 (size (suc n))) ∙ kept-difference (0 + size (suc n) + 22) 1127 (omega (arith, l))
+    ∙ omega arith)
 
 -- the leading digit is there: all 53 digits are
 led-size : (n : ℕ) → n < 2 ^ 52 → size (2 ^ 52 + n) ≡ 53

@@ -25,8 +25,9 @@ splitB (inf s) = pos 0
 splitB (fin s zero e) = pos 0
 splitB (fin s (suc m) e) = powerK (suc m) e +ℤ pos 22
 
--- how the desk keeps b: taken from a bias, so that it is never negative (`power-kept` in proofs/Kept). The bias is 20 less than that of the exponential's
--- n, so that what is kept, less n as it is kept, is by how many places ticks are shifted down
+-- how the desk keeps b: taken from a bias, so that it is never negative (`power-kept` in proofs/Kept). The bias is 20
+-- less than that of the exponential's n, so that what is kept, less n as it is kept, is by how many places ticks are
+-- shifted down
 abbrev pub splitBias : ℕ
 splitBias = 8172
 

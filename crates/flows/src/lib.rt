@@ -51,8 +51,10 @@ pub fn work(
     on: &[u8; ROLES],
     volts: &[u32; NODES],
 ) -> Outcome
-    requires { ⌜ Workable (now table) (deckOf (now numbers) (now powers) (now ticks) (now switches)) s (now on) (now volts) ⌝ }
-    ensures { λ r. ⌜ Works (cardOf (deckOf (now (numbers .entry)) (now (powers .entry)) (now (ticks .entry)) (now (switches .entry))) s) (now (on .entry)) (map givenBack (now (volts .entry))) r ⌝ }
+    requires { ⌜ Workable (now table) (deckOf (now numbers) (now powers) (now ticks) (now switches)) s (now on)
+        (now volts) ⌝ }
+    ensures { λ r. ⌜ Works (cardOf (deckOf (now (numbers .entry)) (now (powers .entry)) (now (ticks .entry))
+        (now (switches .entry))) s) (now (on .entry)) (map givenBack (now (volts .entry))) r ⌝ }
 {
     let v = role_volts(volts, on);
     let r = deck::ready_at(numbers, powers, ticks, switches, s);
@@ -62,7 +64,8 @@ pub fn work(
 // Gives a transistor's currents to sums at its nodes.
 pub fn put_in(l: &mut [i64; NODES], on: &[u8; ROLES], own: &[i64; BRANCHES])
     requires { ⌜ Givable (now l) (now on) (now own) × (length (now own) ≡ branches) ⌝ }
-    ensures { λ _. ⌜ More nodesMost (now (l .entry)) (now (l .exit)) (ticksGive (now (on .entry)) (now (own .entry))) ⌝ }
+    ensures { λ _. ⌜ More nodesMost (now (l .entry)) (now (l .exit))
+        (ticksGive (now (on .entry)) (now (own .entry))) ⌝ }
 {
     totals::put(l, on, own);
 }

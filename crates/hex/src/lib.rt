@@ -9,7 +9,8 @@ pub enum Hex {
     Bad,
 }
 
-// The bytes that a word's hex digits spell, put at the start of `out`. A word that spells none, or more than `out` holds, leaves it as it was.
+// The bytes that a word's hex digits spell, put at the start of `out`. A word that spells none, or more than `out`
+// holds, leaves it as it was.
 pub fn hex_bytes(word: &[u8], out: &mut [u8]) -> Hex
     ensures { λ r. ⌜ ReadsHex (now (word .entry)) (now (out .entry)) r (now (out .exit)) ⌝ }
 {

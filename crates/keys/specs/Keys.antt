@@ -6,7 +6,8 @@ use Prim.Native.String.{String}
 use lib.ListN.{length, getD}
 use Rattle.bytes_le.specs.Le.{le}
 use Rattle.roll.specs.Directory.{placeOf}
-use Rattle.clip.specs.Numbers.{mult, is, ik, bf, xibi, ibf, mlf, bri, iss, icss, iks, rcblx, rcbli, exsub, octave, level}
+use Rattle.clip.specs.Numbers.{mult, is, ik, bf, xibi, ibf, mlf, bri, iss, icss, iks, rcblx, rcbli, exsub, octave}
+use Rattle.clip.specs.Numbers.{level}
 use Rattle.clip.specs.Numbers.{ibr, vlr, re, rbc, rcc}
 use Rattle.spelling.specs.Bytes.{bytes}
 use Rattle.decimal_read.specs.declared.Reading.{Reading}

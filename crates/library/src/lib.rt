@@ -65,7 +65,8 @@ fn where_room(room: bool, bytes: &[u8]) -> &[u8]
 
 // Reads a library: the names and the words go to the start of the two buffers, and a refusal changes neither.
 pub fn read(library: &[u8], names: &mut [u8], words: &mut [u64]) -> Reading
-    ensures { λ r. ⌜ Reads (now (library .entry)) (now (names .entry)) (now (words .entry)) r (now (names .exit)) (now (words .exit)) ⌝ }
+    ensures { λ r. ⌜ Reads (now (library .entry)) (now (names .entry)) (now (words .entry)) r (now (names .exit))
+        (now (words .exit)) ⌝ }
 {
     match directory::inspect(library) {
         Inspection::Refused(f) => Reading::Refused(f),
@@ -142,7 +143,8 @@ fn header(version: u16, count: usize) -> [u8; HEADER_BYTES]
 
 // Writes names and words as a library of a version: it goes to the start of the buffer, and a refusal changes nothing.
 pub fn write(version: u16, names: &[u8], words: &[u64], library: &mut [u8]) -> Writing
-    ensures { λ r. ⌜ Writes version (now (names .entry)) (now (words .entry)) (now (library .entry)) r (now (library .exit)) ⌝ }
+    ensures { λ r. ⌜ Writes version (now (names .entry)) (now (words .entry)) (now (library .entry)) r
+        (now (library .exit)) ⌝ }
 {
     match directory::offer(version, names, words) {
         Inspection::Refused(f) => Writing::Refused(f),

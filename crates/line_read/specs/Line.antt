@@ -1,5 +1,5 @@
--- A model line: `.model`, a name, a type, then keys with their numbers, in any order. The first fault by its place in the
--- line is told, and a key that is missing last of all.
+-- A model line: `.model`, a name, a type, then keys with their numbers, in any order. The first fault by its place in
+-- the line is told, and a key that is missing last of all.
 use mathlib.Core.Bool.{Bool, true, false, not}
 use mathlib.Core.List.{List, [], _∷_, map}
 use Prim.Native.Nat.{ℕ, suc, _-_}

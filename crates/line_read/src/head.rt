@@ -63,7 +63,9 @@ fn starts_in_space(line: &[u8]) -> bool
 fn type_word(line: &[u8], start: usize, end: usize) -> Head
     requires { ⌜ start ≤ end ⌝ }
     requires { ⌜ end ≤ length (now line) ⌝ }
-    ensures { λ r. ⌜ (headTold (now (line .entry)) r ≡ typed (take (end - start) (drop start (now (line .entry)))) (wordsFrom (now (line .entry)) end)) × Within (now (line .entry)) r ⌝ }
+    ensures { λ r. ⌜ (headTold (now (line .entry)) r ≡
+        typed (take (end - start) (drop start (now (line .entry)))) (wordsFrom (now (line .entry)) end)) ×
+        Within (now (line .entry)) r ⌝ }
 {
     let span = words::next_word(line, end);
     let s = span.start;
@@ -93,7 +95,8 @@ fn type_word(line: &[u8], start: usize, end: usize) -> Head
 
 // The name, after `.model`, which ends at a place.
 fn name_word(line: &[u8], at: usize) -> Head
-    ensures { λ r. ⌜ (headTold (now (line .entry)) r ≡ named (wordsFrom (now (line .entry)) at)) × Within (now (line .entry)) r ⌝ }
+    ensures { λ r. ⌜ (headTold (now (line .entry)) r ≡ named (wordsFrom (now (line .entry)) at)) ×
+        Within (now (line .entry)) r ⌝ }
 {
     let span = words::next_word(line, at);
     let s = span.start;

@@ -47,7 +47,9 @@ fn leave(
 ) -> Answer
     requires { ⌜ start ≤ end ⌝ }
     requires { ⌜ end ≤ length (now line) ⌝ }
-    ensures { λ r. ⌜ Leaves (roomFor (now (name .entry)) (now (rec .entry)) (modelOf (headAt (now (line .entry)) start end 0 sign) (now (words .entry)))) (now (name .entry)) (now (rec .entry)) r (now (name .exit)) (now (rec .exit)) ⌝ }
+    ensures { λ r. ⌜ Leaves (roomFor (now (name .entry)) (now (rec .entry))
+        (modelOf (headAt (now (line .entry)) start end 0 sign) (now (words .entry))))
+        (now (name .entry)) (now (rec .entry)) r (now (name .exit)) (now (rec .exit)) ⌝ }
 {
     if name.len() < name::LENGTH {
         return Answer::Refused(Refusal::ShortOutput);
@@ -85,7 +87,9 @@ fn finish(
 ) -> Answer
     requires { ⌜ start ≤ end ⌝ }
     requires { ⌜ end ≤ length (now line) ⌝ }
-    ensures { λ r. ⌜ Leaves (fromKeys (now (line .entry)) (headAt (now (line .entry)) start end 0 sign) (keysTold went (now (words .entry)) (now (given .entry))) (now (name .entry)) (now (rec .entry))) (now (name .entry)) (now (rec .entry)) r (now (name .exit)) (now (rec .exit)) ⌝ }
+    ensures { λ r. ⌜ Leaves (fromKeys (now (line .entry)) (headAt (now (line .entry)) start end 0 sign)
+        (keysTold went (now (words .entry)) (now (given .entry))) (now (name .entry)) (now (rec .entry)))
+        (now (name .entry)) (now (rec .entry)) r (now (name .exit)) (now (rec .exit)) ⌝ }
 {
     let refused = is_refused(went);
     let spaced = ends_in_space(line);
@@ -105,7 +109,8 @@ fn finish(
 // Reads a line: the name with its padding and the record go to the start of the two buffers, and a refusal changes
 // neither.
 pub fn read_line(line: &[u8], name: &mut [u8], rec: &mut [u8]) -> Answer
-    ensures { λ r. ⌜ Reads (now (line .entry)) (now (name .entry)) (now (rec .entry)) r (now (name .exit)) (now (rec .exit)) ⌝ }
+    ensures { λ r. ⌜ Reads (now (line .entry)) (now (name .entry)) (now (rec .entry)) r (now (name .exit))
+        (now (rec .exit)) ⌝ }
 {
     match head::judge_head(line) {
         Head::Refused(f) => Answer::Refused(f),

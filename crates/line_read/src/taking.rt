@@ -36,7 +36,8 @@ fn take_key(
 ) -> Answer
     requires { ⌜ now tens ≡ powersOfTen ⌝ }
     requires { ⌜ now packed ≡ packedKeys ⌝ }
-    ensures { λ r. ⌜ keysTold r (now (words .exit)) (now (given .exit)) ≡ takeKey (taken (now (words .entry)) (now (given .entry))) (now (w .entry)) ⌝ }
+    ensures { λ r. ⌜ keysTold r (now (words .exit)) (now (given .exit)) ≡
+        takeKey (taken (now (words .entry)) (now (given .entry))) (now (w .entry)) ⌝ }
 {
     let m = equals(w);
     if w.len() <= m {
@@ -71,7 +72,8 @@ pub(crate) fn take_keys(
 ) -> Answer
     requires { ⌜ now tens ≡ powersOfTen ⌝ }
     requires { ⌜ now packed ≡ packedKeys ⌝ }
-    ensures { λ r. ⌜ keysTold r (now (words .exit)) (now (given .exit)) ≡ takeKeys (taken (now (words .entry)) (now (given .entry))) (wordsFrom (now (line .entry)) from) ⌝ }
+    ensures { λ r. ⌜ keysTold r (now (words .exit)) (now (given .exit)) ≡
+        takeKeys (taken (now (words .entry)) (now (given .entry))) (wordsFrom (now (line .entry)) from) ⌝ }
 {
     let mut at = from;
     while at < line.len() {

@@ -157,7 +157,8 @@ fn put_head(room: &mut [u8; LINE_ROOM], name: &[u8], sign: u64) -> usize
 fn leave(room: &[u8; LINE_ROOM], n: usize, line: &mut [u8]) -> Written
     requires { ⌜ length (now room) ≡ lineRoom ⌝ }
     requires { ⌜ n ≤ lineRoom ⌝ }
-    ensures { λ r. ⌜ Leaves (roomFor (now (line .entry)) (take n (now (room .entry)))) (now (line .entry)) r (now (line .exit)) ⌝ }
+    ensures { λ r. ⌜ Leaves (roomFor (now (line .entry)) (take n (now (room .entry)))) (now (line .entry)) r
+        (now (line .exit)) ⌝ }
 {
     if line.len() < n {
         return Written::Refused(Refusal::ShortOutput);
@@ -170,7 +171,8 @@ fn leave(room: &[u8; LINE_ROOM], n: usize, line: &mut [u8]) -> Written
 // The line of a name and a record that are good.
 fn write_good(name: &[u8], rec: &[u8], line: &mut [u8]) -> Written
     requires { ⌜ length (now name) ≤ nameLength ⌝ }
-    ensures { λ r. ⌜ Leaves (goodText (now (name .entry)) (now (rec .entry)) (now (line .entry))) (now (line .entry)) r (now (line .exit)) ⌝ }
+    ensures { λ r. ⌜ Leaves (goodText (now (name .entry)) (now (rec .entry)) (now (line .entry))) (now (line .entry)) r
+        (now (line .exit)) ⌝ }
 {
     let sign = word(rec, clip::numbers::POLARITY);
     let mut room = [0u8; LINE_ROOM];

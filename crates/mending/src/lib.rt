@@ -70,7 +70,8 @@ fn put_records(records: &[u8], size: usize, dst: &mut [u8]) -> usize
     n
 }
 
-// Copies a library to the start of a buffer, with +0 for each finite I_CSs below zero: the names, the header and all other words stay.
+// Copies a library to the start of a buffer, with +0 for each finite I_CSs below zero: the names, the header and all
+// other words stay.
 // A refusal, one of reading's, changes nothing.
 pub fn mend(library: &[u8], output: &mut [u8]) -> Mending
     ensures { λ r. ⌜ Mends (now (library .entry)) (now (output .entry)) r (now (output .exit)) ⌝ }

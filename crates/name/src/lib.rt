@@ -1,4 +1,5 @@
-// Names of cards: sixteen bytes with their padding, or as they are asked for, without it. Every function takes any slice.
+// Names of cards: sixteen bytes with their padding, or as they are asked for, without it. Every function takes any
+// slice.
 ghost use mathlib.Core.Path.{_≡_};
 ghost use mathlib.Core.List.{_++_};
 ghost use lib.ListN.{length, take, drop};
@@ -98,7 +99,8 @@ pub fn pad(x: &[u8]) -> [u8; LENGTH]
 
 // Whether the name with these two words stands at a place: its bytes are compared there, a word at a time.
 pub fn stands_at(s: &[u8], at: usize, low: u64, high: u64) -> bool
-    ensures { λ r. ⌜ r ≡ same (bytesOf wordBytes low ++ bytesOf wordBytes high) (take nameLength (drop at (now (s .entry)))) ⌝ }
+    ensures { λ r. ⌜ r ≡ same (bytesOf wordBytes low ++ bytesOf wordBytes high)
+        (take nameLength (drop at (now (s .entry)))) ⌝ }
 {
     if s.len() < LENGTH {
         return false;

@@ -324,7 +324,8 @@ pub struct Exponential {
     pub n: u64,
 }
 
-// Lays the table out, and its last point once more. A function that calls itself is never written into its callers, so that 257 stores do not stand between a board and its copy there.
+// Lays the table out, and its last point once more. A function that calls itself is never written into its callers, so
+// that 257 stores do not stand between a board and its copy there.
 fn lay(t: &mut Table, turns: u64)
     ensures { λ _. ⌜ now (t .exit) ≡ entries ⌝ }
 {
@@ -336,7 +337,8 @@ fn lay(t: &mut Table, turns: u64)
     t[ENTRIES - 1] = 2147483648;
 }
 
-// Lays the table out where it will stand, once for a call, to be lent from there: a copy of it costs as much as laying it out.
+// Lays the table out where it will stand, once for a call, to be lent from there: a copy of it costs as much as laying
+// it out.
 pub fn lay_table(t: &mut Table)
     ensures { λ _. ⌜ now (t .exit) ≡ entries ⌝ }
 {

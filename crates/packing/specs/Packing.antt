@@ -1,5 +1,5 @@
--- A word of one to eight bytes as a number, its first byte the lowest; 0 where it is no such word. No two words have one
--- number (`packed-same` in proofs/Packs).
+-- A word of one to eight bytes as a number, its first byte the lowest; 0 where it is no such word. No two words have
+-- one number (`packed-same` in proofs/Packs).
 use mathlib.Core.Bool.{cond, _&&_}
 use mathlib.Core.List.{List}
 use Prim.Native.Nat.{ℕ}

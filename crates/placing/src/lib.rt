@@ -79,7 +79,9 @@ pub fn may_place(
     n: u32,
     on: &[u8; ROLES],
 ) -> Way
-    ensures { λ r. ⌜ r ≡ wayOf (freePlace (now (issues .entry))) (placing (numberPlace cardsMost n (now (held .entry))) (tiesAt (now (switches .entry))) (now (on .entry)) (leb transistorsMost (freePlace (now (issues .entry)))) (usedUp next)) ⌝ }
+    ensures { λ r. ⌜ r ≡ wayOf (freePlace (now (issues .entry)))
+        (placing (numberPlace cardsMost n (now (held .entry))) (tiesAt (now (switches .entry))) (now (on .entry))
+        (leb transistorsMost (freePlace (now (issues .entry)))) (usedUp next)) ⌝ }
 {
     let i = places::card_at(held, n);
     if CARDS <= i {

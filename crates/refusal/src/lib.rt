@@ -1,4 +1,5 @@
-// The ways in which the desk turns a call away. `told`, in specs/, gives each its number and the values that go with it.
+// The ways in which the desk turns a call away. `told`, in specs/, gives each its number and the values that go with
+// it.
 ghost use mathlib.Core.Path.{_≡_};
 ghost use Rattle.refusal.specs.Told.{numberOf};
 

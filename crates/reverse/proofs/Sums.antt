@@ -89,7 +89,8 @@ module _ {g h : Exponential} (high : Sized g) (low : Sized h) (order : h .n ≤ 
 
   small : (x k : ℕ) → x ≤ 2 ^ 62 → 2 ^ 17 ≤ k → x / k < 2 ^ 62
   small x k a b =
-      let q = mul-le-mul-left (2 ^ 62) b in div-lt-iff-lt-mul {k = k} {x = x} {y = 2 ^ 62} (omega arith) .1 (omega arith)
+      let q = mul-le-mul-left (2 ^ 62) b in div-lt-iff-lt-mul {k = k} {x = x} {y = 2 ^ 62} (omega arith) .1
+      (omega arith)
 
   pub within-top : g .n ≤ 8215 → {r : ℕ} →
       r ≡ (g .m * 2 ^ 30 + h .m * 2 ^ 30 / 2 ^ (g .n - h .n)) / 2 ^ (8232 - g .n) →

@@ -1,4 +1,5 @@
-// The sum of two exponentials, and a difference of T's over it: what the reverse non-ideal current has and no other branch.
+// The sum of two exponentials, and a difference of T's over it: what the reverse non-ideal current has and no other
+// branch.
 ghost use mathlib.Core.Path.{_≡_};
 ghost use Prim.Native.Nat.{_≤_};
 ghost use Rattle.scaling.specs.inner.Shifts.{expAt, UpTo, Sized};
@@ -31,7 +32,8 @@ pub struct Pair {
     pub minus: u64,
 }
 
-// 2^20 times the sum of two exponentials, the one of the higher power first. Above its limit it need not be right, but only above it.
+// 2^20 times the sum of two exponentials, the one of the higher power first. Above its limit it need not be right, but
+// only above it.
 fn summed(high: Exponential, low: Exponential) -> u64
     requires { ⌜ Sized high × Sized low × (low .n ≤ high .n) ⌝ }
     ensures { λ r. ⌜ UpTo sumLimit r (sumParts (expAt high) (expAt low)) ⌝ }
@@ -55,7 +57,8 @@ pub fn sum_of(g: Exponential, h: Exponential) -> u64
     }
 }
 
-// A difference of T's times 2^20 over the sum, toward zero: 15 for a T, for a sum of 0 or above its limit, and for a result above a T's limit.
+// A difference of T's times 2^20 over the sum, toward zero: 15 for a T, for a sum of 0 or above its limit, and for a
+// result above a T's limit.
 pub fn over_sum(plus: u64, minus: u64, sum: u64) -> Pair
     ensures { λ r. ⌜ r ≡ pairOf plus minus sum ⌝ }
 {

@@ -60,7 +60,8 @@ fn make(marks: &mut [u64; MARK_WORDS], k: usize)
 
 // Whether a name stands in the directory, which is looked through only where its mark has been made.
 fn again(marked: bool, d: &[u8], low: u64, high: u64) -> bool
-    ensures { λ r. ⌜ r ≡ (marked && among (bytesOf wordBytes low ++ bytesOf wordBytes high) (namesIn (now (d .entry)))) ⌝ }
+    ensures { λ r. ⌜ r ≡ (marked && among (bytesOf wordBytes low ++ bytesOf wordBytes high)
+        (namesIn (now (d .entry)))) ⌝ }
 {
     if marked {
         return holds(d, low, high);
@@ -68,7 +69,8 @@ fn again(marked: bool, d: &[u8], low: u64, high: u64) -> bool
     false
 }
 
-// Whether some name of a directory stands twice: from the last name on, each makes its mark, and is compared with those after it where that was made before.
+// Whether some name of a directory stands twice: from the last name on, each makes its mark, and is compared with those
+// after it where that was made before.
 pub fn doubled(d: &[u8]) -> bool
     ensures { λ r. ⌜ r ≡ twice (namesIn (now (d .entry))) ⌝ }
 {

@@ -79,7 +79,8 @@ module _ (c : WorkedCard) (v : Role → Role → ℤ) where
       difference-small _ _ tickLimit (b .first) (b .second)
   row-small r (sumOf s t) e g =
       let b = both-within tickLimit (tickOf c v (r .plus)) (tickOf c v (r .minus)) e in
-      le-trans (over-roots-small s t (subℕ (tickOf c v (r .plus)) (tickOf c v (r .minus))) g) (difference-small _ _ tickLimit (b .first) (b .second))
+      le-trans (over-roots-small s t (subℕ (tickOf c v (r .plus)) (tickOf c v (r .minus))) g)
+      (difference-small _ _ tickLimit (b .first) (b .second))
   row-small r (exps x p q) e g =
       over-sum-small (ltb 0 (valueOf c x .digits)) (subℕ (tickOf c v (r .plus)) (tickOf c v (r .minus))) (sumAt c v p q)
       (neither (someAbove tickLimit (ticksIn c v r)) _ e .1)

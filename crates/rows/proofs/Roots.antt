@@ -34,7 +34,8 @@ root-size x r low high i = record { least = least (below-or-not r (2 ^ 20)); mos
 pub root-sized : (ratio : ℕ) → ratio ≤ ratioLimit → RootSize (rootFor ratio)
 unfolding rootFor
 root-sized ratio h =
-    root-size ((2 ^ 20 + ratio) * 2 ^ 20) (rootFor ratio) (omega arith) (omega arith) (root-is ((2 ^ 20 + ratio) * 2 ^ 20) (omega arith))
+    root-size ((2 ^ 20 + ratio) * 2 ^ 20) (rootFor ratio) (omega arith) (omega arith)
+    (root-is ((2 ^ 20 + ratio) * 2 ^ 20) (omega arith))
 
 -- the root for the floor 0 is the unit
 pub root-unit : rootFor 0 ≡ 2 ^ 20

@@ -103,7 +103,8 @@ module _ (c : WorkedCard) (v : Role → Role → ℤ) where
   small-at : {x : Terms} {k : ℕ} {rows : List Row} → RowsAt c v x k rows → (i : ℕ) → k ≤ i → i < k + length rows →
       (getD (x .plus) i 0 < 2 ^ 62) × (getD (x .minus) i 0 < 2 ^ 62)
   small-at {k = k} none i a b = absurd (omega arith)
-  small-at {x} (more {k = k} {r = r} {rs = rs} t rest) i a b = go (below-or-not k i) (λ h. small-at rest i h (omega arith))
+  small-at {x} (more {k = k} {r = r} {rs = rs} t rest) i a b = go (below-or-not k i)
+      (λ h. small-at rest i h (omega arith))
     where
       go : (k < i) ⊎ (i ≤ k) → (k < i → (getD (x .plus) i 0 < 2 ^ 62) × (getD (x .minus) i 0 < 2 ^ 62)) →
           (getD (x .plus) i 0 < 2 ^ 62) × (getD (x .minus) i 0 < 2 ^ 62)
@@ -136,9 +137,11 @@ module _ (c : WorkedCard) (v : Role → Role → ℤ) where
 
 module _ (x : Terms) where
   passes-row : (n k : ℕ) → overUp x (suc n) k ≡ Within →
-      Passes (someAbove tickLimit (getD (x .plus) k 0 ∷ getD (x .minus) k 0 ∷ [])) (someAbove ratioLimit (getD (x .left) k 0 ∷ getD (x .right) k 0 ∷ [])) (overUp x n (suc k))
+      Passes (someAbove tickLimit (getD (x .plus) k 0 ∷ getD (x .minus) k 0 ∷ [])) (someAbove ratioLimit
+      (getD (x .left) k 0 ∷ getD (x .right) k 0 ∷ [])) (overUp x n (suc k))
   unfolding overUp
-  passes-row n k e = passes (someAbove tickLimit (getD (x .plus) k 0 ∷ getD (x .minus) k 0 ∷ [])) (someAbove ratioLimit (getD (x .left) k 0 ∷ getD (x .right) k 0 ∷ [])) (suc k) (overUp x n (suc k)) e
+  passes-row n k e = passes (someAbove tickLimit (getD (x .plus) k 0 ∷ getD (x .minus) k 0 ∷ [])) (someAbove ratioLimit
+      (getD (x .left) k 0 ∷ getD (x .right) k 0 ∷ [])) (suc k) (overUp x n (suc k)) e
 
   pub not-over : (n k : ℕ) → overUp x n k ≡ Within → (i : ℕ) → k ≤ i → i < k + n → NotOver x i
   not-over zero k e i a b = absurd (omega arith)
@@ -161,7 +164,8 @@ module _ (x : Terms) where
   none-over zero k h = refl
   none-over (suc n) k h =
       let w = h k (omega arith) (omega arith) in
-      rw (none-above _ _ _ (w .plus) (w .minus), none-above _ _ _ (w .left) (w .right)) (none-over n (suc k) (λ i a b. h i (omega arith) (omega arith)))
+      rw (none-above _ _ _ (w .plus) (w .minus), none-above _ _ _ (w .left) (w .right))
+      (none-over n (suc k) (λ i a b. h i (omega arith) (omega arith)))
 
   pub fine : overUp x branches 0 ≡ Within → Fine x
   fine e = record { at = λ k h. not-over branches 0 e k (omega arith) (omega arith) }

@@ -29,7 +29,8 @@ pub struct Outcome {
     pub ticks: [i64; BRANCHES],
 }
 
-// The outcome of a card made ready at the kept voltages of its roles, as an NPN has it. The table is lent, so that a caller makes it once.
+// The outcome of a card made ready at the kept voltages of its roles, as an NPN has it. The table is lent, so that a
+// caller makes it once.
 pub fn work_out(t: &Table, r: Ready, v: &[u32; ROLES]) -> Outcome
     requires { ⌜ Askable (now t) r (now v) ⌝ }
     ensures { λ x. ⌜ x ≡ outcomeAcross (r .card) (biasOf (map givenBack (now (v .entry)))) ⌝ }

@@ -83,7 +83,8 @@ fn first_over(x: Terms) -> Over
     Over::Within
 }
 
-// One more than 2^20 + n/2 - n^2/2^23 for a small floor n: most often one above its root, else the root, and never below it, so that `root_near` need not search. Nothing is promised of it.
+// One more than 2^20 + n/2 - n^2/2^23 for a small floor n: most often one above its root, else the root, and never
+// below it, so that `root_near` need not search. Nothing is promised of it.
 fn near(ratio: u64) -> u32 {
     let n = ratio % NEAR;
     (UNIT + 1 + (n * (4 * UNIT) - n * n) / (8 * UNIT)) as u32
@@ -131,7 +132,8 @@ fn divided(plus: u64, minus: u64, left: u64, right: u64) -> i64
     whole::difference(plus, minus)
 }
 
-// Each row's ticks. Two loops, of the junctions and of the leads, are each short enough to be unrolled; one over all rows is not.
+// Each row's ticks. Two loops, of the junctions and of the leads, are each short enough to be unrolled; one over all
+// rows is not.
 fn all_divided(x: Terms) -> [i64; BRANCHES]
     requires { ⌜ Fine x ⌝ }
     ensures { λ r. ⌜ r ≡ allTicks x ⌝ }
@@ -148,7 +150,8 @@ fn all_divided(x: Terms) -> [i64; BRANCHES]
     ticks
 }
 
-// The first row that overloads. Where the sum of T's is low and no floor is over its limit, none does, and no row is looked at by itself.
+// The first row that overloads. Where the sum of T's is low and no floor is over its limit, none does, and no row is
+// looked at by itself.
 fn judged(x: Terms, most: u64) -> Over
     requires { ⌜ Small x × Most x most ⌝ }
     ensures { λ r. ⌜ r ≡ overUp x branches 0 ⌝ }

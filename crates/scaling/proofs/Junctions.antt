@@ -19,7 +19,8 @@ use Rattle.scaling.specs.Scaled.{Scaled, expOf}
 use Rattle.scaling.specs.inner.Shifts.{expAt, IsExp, Junction}
 use Rattle.scaling.proofs.Scaling.{exponential-is}
 
-module _ {table v : List ℕ} {p q : ℕ} {o : Reciprocal} (j : Junction table v p q o) {u : ℕ} (e : u ≡ acrossOf (getD v p 0) (getD v q 0)) where
+module _ {table v : List ℕ} {p q : ℕ} {o : Reciprocal} (j : Junction table v p q o)
+    {u : ℕ} (e : u ≡ acrossOf (getD v p 0) (getD v q 0)) where
   near : u ≤ 2 * span
   near = rw e (across-near (getD v p 0) (getD v q 0) (j .near .each p))
 
@@ -30,7 +31,8 @@ module _ {table v : List ℕ} {p q : ℕ} {o : Reciprocal} (j : Junction table v
   difference : subℕ u span ≡ getD (map givenBack v) p (pos 0) -ℤ getD (map givenBack v) q (pos 0)
   difference =
       ap (λ (n : ℕ). subℕ n span) e ∙ across-is (getD v p 0) (getD v q 0) (j .near .each q)
-      ∙ ap₂ (λ (a b : ℤ). a -ℤ b) (given-back-at v p (rw (j .long) (j .from))) (given-back-at v q (rw (j .long) (j .to)))
+      ∙ ap₂ (λ (a b : ℤ). a -ℤ b) (given-back-at v p (rw (j .long) (j .from)))
+      (given-back-at v q (rw (j .long) (j .to)))
 
   pub junction-is : {g : Exponential} → g ≡ exponentialOf (subℕ u span) (o .w) →
       IsExp (o .w) (getD (map givenBack v) p (pos 0) -ℤ getD (map givenBack v) q (pos 0)) g

@@ -76,7 +76,8 @@ shifted {limit} {x} n d p h = go (below-or-not n d)
 
     up : d ≤ n → (x ≡ 0) ⊎ (2 ^ 60 ≤ x) → UpTo limit (x / 2 ^ (d - n)) (floorScale x (subℕ n d))
     up k (inl z) =
-        upto-equal (whole k ∙ z ∙ sym (scale-up x n d k ∙ ap (λ (y : ℕ). y * 2 ^ (n - d)) z ∙ zero-mul (2 ^ (n - d)))) less
+        upto-equal (whole k ∙ z ∙ sym (scale-up x n d k ∙ ap (λ (y : ℕ). y * 2 ^ (n - d)) z ∙ zero-mul (2 ^ (n - d))))
+        less
     up k (inr l) =
         let m = le-mul-of-pos-right {m = 2 ^ (n - d)} x (one-le-pow (n - d) 2 (lit< tt)) in
         let e = whole k in

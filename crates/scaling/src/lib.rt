@@ -1,4 +1,5 @@
-// A worked value times the exponential of a junction's voltage, in ticks or in parts of a ratio's unit. Above its limit a number need not be right, but only above it.
+// A worked value times the exponential of a junction's voltage, in ticks or in parts of a ratio's unit. Above its limit
+// a number need not be right, but only above it.
 ghost use mathlib.Core.Path.{_≡_};
 ghost use mathlib.Core.List.{map};
 ghost use lib.ListN.{getD};
@@ -70,7 +71,8 @@ pub fn faint(x: Split, g: Exponential, more: u64) -> u64
 // The exponential of the voltage from role p to role q.
 pub fn exponential(t: &Table, v: &[u32; ROLES], p: usize, q: usize, o: Reciprocal) -> Exponential
     requires { ⌜ Junction (now t) (now v) p q o ⌝ }
-    ensures { λ r. ⌜ IsExp (o .w) (getD (map givenBack (now (v .entry))) p (pos 0) -ℤ getD (map givenBack (now (v .entry))) q (pos 0)) r ⌝ }
+    ensures { λ r. ⌜ IsExp (o .w)
+        (getD (map givenBack (now (v .entry))) p (pos 0) -ℤ getD (map givenBack (now (v .entry))) q (pos 0)) r ⌝ }
 {
     let a = v[p];
     let b = v[q];

@@ -1,4 +1,5 @@
-// What a line of a script says. The line is lent; what it says comes back by value, its words by their places in the line.
+// What a line of a script says. The line is lent; what it says comes back by value, its words by their places in the
+// line.
 ghost use Rattle.script.specs.Command.{Says};
 
 mod saying; // saying.rt: what a line says
@@ -16,7 +17,8 @@ pub const LONGEST_LINE: usize = 4096;
 // More bytes than a line has hex digits for.
 pub const MOST_BYTES: usize = 2048;
 
-// What a line says: the verb, the words, those after the first as numbers, how many bytes its hex digits spell, and the whole series of its numbers where the command is a list.
+// What a line says: the verb, the words, those after the first as numbers, how many bytes its hex digits spell, and the
+// whole series of its numbers where the command is a list.
 pub struct Command {
     pub verb: Verb,
     pub words: Words,

@@ -2,7 +2,8 @@
 ghost use mathlib.Core.Path.{_≡_};
 ghost use mathlib.Core.Bool.{_||_};
 ghost use lib.ListN.{length};
-ghost use Rattle.script.specs.Command.{mostBytes, passedOver, said, hasNumbers, arePairs, saidPairs, SaysTo, verbIf};
+ghost use Rattle.script.specs.Command.{mostBytes, passedOver, said, hasNumbers, arePairs, saidPairs, SaysTo};
+ghost use Rattle.script.specs.Command.{verbIf};
 use crate::Command;
 use crate::Verb;
 use hex::Hex;
@@ -97,7 +98,8 @@ fn said_pairs(line: &[u8], words: Words, verb: Verb) -> Command
 // A line that has to have a name and hex digits.
 fn said_hex(line: &[u8], words: Words, verb: Verb, bytes: &mut [u8]) -> Command
     requires { ⌜ length (now bytes) ≡ mostBytes ⌝ }
-    ensures { λ r. ⌜ SaysTo (now (line .entry)) words verb Wants.NameAndHex (now (bytes .entry)) r (now (bytes .exit)) ⌝ }
+    ensures { λ r. ⌜ SaysTo (now (line .entry)) words verb Wants.NameAndHex (now (bytes .entry)) r
+        (now (bytes .exit)) ⌝ }
 {
     if words.count != 3 {
         return said(line, words, Verb::Error, 0);

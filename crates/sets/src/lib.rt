@@ -54,7 +54,8 @@ pub fn currents_at(currents: &[i64; ALL_CURRENTS], i: usize) -> [i64; BRANCHES]
 
 pub fn put_currents(currents: &mut [i64; ALL_CURRENTS], i: usize, own: &[i64; BRANCHES])
     requires { ⌜ i < transistorsMost ⌝ }
-    ensures { λ _. ⌜ now (currents .exit) ≡ written (pos 0) (now (currents .entry)) (branches * i) (now (own .entry)) branches ⌝ }
+    ensures { λ _. ⌜ now (currents .exit) ≡ written (pos 0) (now (currents .entry)) (branches * i) (now (own .entry))
+        branches ⌝ }
 {
     let at = BRANCHES * i;
     for k in 0..BRANCHES {
@@ -64,7 +65,8 @@ pub fn put_currents(currents: &mut [i64; ALL_CURRENTS], i: usize, own: &[i64; BR
 
 pub fn put_name(names: &mut [u8; ALL_NAMES], i: usize, own: &[u8; name::LENGTH])
     requires { ⌜ i < cardsMost ⌝ }
-    ensures { λ _. ⌜ now (names .exit) ≡ written 0 (now (names .entry)) (nameLength * i) (now (own .entry)) nameLength ⌝ }
+    ensures { λ _. ⌜ now (names .exit) ≡ written 0 (now (names .entry)) (nameLength * i) (now (own .entry))
+        nameLength ⌝ }
 {
     let at = name::LENGTH * i;
     for k in 0..name::LENGTH {

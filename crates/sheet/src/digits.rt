@@ -2,7 +2,8 @@
 ghost use mathlib.Core.Path.{_≡_};
 ghost use Prim.Native.Nat.{_<_, _≤_};
 ghost use Rattle.sheet.specs.Text.{Adds};
-ghost use Rattle.sheet.specs.Digits.{glyphOf, digitsOf, hexDigits, plainDigits, decimalOf, signOf, signedDigits, ampereDigits};
+ghost use Rattle.sheet.specs.Digits.{glyphOf, digitsOf, hexDigits, plainDigits, decimalOf, signOf, signedDigits};
+ghost use Rattle.sheet.specs.Digits.{ampereDigits};
 use crate::Text;
 use crate::gather;
 

@@ -1,4 +1,5 @@
--- The smallest digits are the shortest form: what `formOf` says is what the rule asks for, and a word has no second one.
+-- The smallest digits are the shortest form: what `formOf` says is what the rule asks for, and a word has no second
+-- one.
 use mathlib.Core.Path.{_≡_, refl, sym, ap, subst, _∙_}
 use mathlib.Core.Logic.{inl, inr}
 use mathlib.Core.Bool.{Bool, true, false, cond, _&&_, true≢false}

@@ -1,4 +1,5 @@
--- From the highest power down: what each tells of the lower ones, and that the first form found has the smallest digits.
+-- From the highest power down: what each tells of the lower ones, and that the first form found has the smallest
+-- digits.
 use mathlib.Core.Path.{_≡_, sym, subst}
 use mathlib.Core.Logic.{_⊎_, inl, inr}
 use mathlib.Core.Bool.{Bool, true, false, not}

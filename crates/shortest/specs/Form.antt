@@ -1,5 +1,5 @@
--- The shortest form of a word: of all digits that read back to it, with whatever power, the smallest. Fewer digits make a
--- smaller number, so that these are the fewest too (`Shortest` in laws/Least).
+-- The shortest form of a word: of all digits that read back to it, with whatever power, the smallest. Fewer digits make
+-- a smaller number, so that these are the fewest too (`Shortest` in laws/Least).
 use mathlib.Core.Bool.{Bool, true, false}
 use Prim.Native.Nat.{ℕ}
 use lib.Dec.{eqb, leb, ltb}

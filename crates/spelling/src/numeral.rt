@@ -1,7 +1,8 @@
 // A decimal numeral of any length.
 ghost use mathlib.Core.Path.{_≡_};
 ghost use Prim.Native.Nat.{_+_, _*_, _≤_, min};
-ghost use Rattle.spelling.specs.Number.{firstPast, withinEnds, isDigit, digitOf, allDigits, decimalValue, nearest, parsedWith};
+ghost use Rattle.spelling.specs.Number.{firstPast, withinEnds, isDigit, digitOf, allDigits, decimalValue};
+ghost use Rattle.spelling.specs.Number.{nearest, parsedWith};
 use crate::Parsed;
 use whole::Int;
 

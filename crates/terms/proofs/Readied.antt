@@ -81,11 +81,13 @@ splits h =
 module _ {r : Ready} (h : IsReady r) where
   pub plain-is : IsReciprocal (r .plain)
   unfolding readyOf
-  plain-is = equals-reciprocal (r .card .octave) (r .plain) (octave-in (h .worked)) (ap (λ (x : Ready). x .plain) (h .is))
+  plain-is = equals-reciprocal (r .card .octave) (r .plain) (octave-in (h .worked))
+      (ap (λ (x : Ready). x .plain) (h .is))
 
   pub second-is : IsReciprocal (r .second)
   unfolding readyOf
-  second-is = equals-reciprocal (r .card .second) (r .second) (second-in (h .worked)) (ap (λ (x : Ready). x .second) (h .is))
+  second-is = equals-reciprocal (r .card .second) (r .second) (second-in (h .worked))
+      (ap (λ (x : Ready). x .second) (h .is))
 
   pub doubled-is : IsReciprocal (r .doubled)
   unfolding readyOf
@@ -158,17 +160,38 @@ module _ {r : Ready} (h : IsReady r) where
 pub plain-junction : {table v : List ℕ} {r : Ready} → Askable table r v → {p q : ℕ} → p < roles → q < roles
     → Junction table v p q (r .plain)
 plain-junction a h k =
-    record { table-is = a .table-is; long = a .long; near = a .near; from = h; to = k; reciprocal = plain-is (a .ready) }
+    record {
+      table-is = a .table-is;
+      long = a .long;
+      near = a .near;
+      from = h;
+      to = k;
+      reciprocal = plain-is (a .ready);
+    }
 
 pub doubled-junction : {table v : List ℕ} {r : Ready} → Askable table r v → {p q : ℕ} → p < roles → q < roles
     → Junction table v p q (r .doubled)
 doubled-junction a h k =
-    record { table-is = a .table-is; long = a .long; near = a .near; from = h; to = k; reciprocal = doubled-is (a .ready) }
+    record {
+      table-is = a .table-is;
+      long = a .long;
+      near = a .near;
+      from = h;
+      to = k;
+      reciprocal = doubled-is (a .ready);
+    }
 
 pub second-junction : {table v : List ℕ} {r : Ready} → Askable table r v → {p q : ℕ} → p < roles → q < roles
     → Junction table v p q (r .second)
 second-junction a h k =
-    record { table-is = a .table-is; long = a .long; near = a .near; from = h; to = k; reciprocal = second-is (a .ready) }
+    record {
+      table-is = a .table-is;
+      long = a .long;
+      near = a .near;
+      from = h;
+      to = k;
+      reciprocal = second-is (a .ready);
+    }
 
 -- what `scaled` asks
 pub scalable : {x : Split} {g : Exponential} {w : ℕ} {v : ℤ} → IsSplit x → IsExp w v g → (more : ℕ) → more ≤ moreParts

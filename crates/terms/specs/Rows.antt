@@ -29,8 +29,8 @@ pub data Span : Type 0 where
   plain : Span
   second : Span
 
--- a value by itself, or times the exponential of a junction's voltage; or times the voltage from one role to another, as
--- far as that is above 0
+-- a value by itself, or times the exponential of a junction's voltage; or times the voltage from one role to another,
+-- as far as that is above 0
 pub data Term : Type 0 where
   alone : Value → Term
   across : Value → Span → Role → Role → Term
@@ -107,9 +107,16 @@ row7 = record { from = S; to = C1; plus = across sf plain S C1; minus = alone sf
 -- the reverse non-ideal base current, (4.61)
 abbrev pub row8 : Row
 row8 =
-    record { from = B1; to = C4; plus = across reverse plain B1 C4; minus = alone reverse; divisor = exps reverse B1 C4 }
+    record {
+      from = B1;
+      to = C4;
+      plus = across reverse plain B1 C4;
+      minus = alone reverse;
+      divisor = exps reverse B1 C4;
+    }
 
--- a series resistor from p to q: what it lets through of the voltage from p to q, less what it does of that from q to p.
+-- a series resistor from p to q: what it lets through of the voltage from p to q, less what it does of that from q to
+-- p.
 -- One of them is nothing, so that this is the sign of the voltage times T of its size (`resistor-is` in leads/proofs)
 abbrev pub resistor : Value → Role → Role → Row
 resistor g p q = record { from = p; to = q; plus = through g p q; minus = through g q p; divisor = undivided }

@@ -27,7 +27,8 @@ pub use values::all_terms;
 
 pub const BRANCHES: usize = 13;
 
-// A card with what depends on it alone: the octaves' reciprocals, the exponential of V_Lr, and each T without an exponential.
+// A card with what depends on it alone: the octaves' reciprocals, the exponential of V_Lr, and each T without an
+// exponential.
 pub struct Ready {
     pub card: WorkedCard,
     pub plain: Reciprocal,
@@ -43,7 +44,8 @@ pub struct Ready {
     pub reverse: u64,
 }
 
-// The T's that each row adds and takes away, and the floors of the two ratios in its divisor: 0 where it has none, whose root is 2^20. Row 8 is worked whole: one of its two numbers is its size, or too much where it overloads.
+// The T's that each row adds and takes away, and the floors of the two ratios in its divisor: 0 where it has none,
+// whose root is 2^20. Row 8 is worked whole: one of its two numbers is its size, or too much where it overloads.
 pub struct Terms {
     pub plus: [u64; BRANCHES],
     pub minus: [u64; BRANCHES],

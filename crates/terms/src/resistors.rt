@@ -26,7 +26,9 @@ use scaling::through;
 // A resistor from role p to role q: what it adds where p is higher, and what it takes away where q is.
 fn lead(g: Split, v: &[u32; ROLES], p: usize, q: usize) -> Pair
     requires { ⌜ Lead g (now v) p q ⌝ }
-    ensures { λ x. ⌜ Led g (getD (map givenBack (now (v .entry))) p (pos 0) -ℤ getD (map givenBack (now (v .entry))) q (pos 0)) (getD (map givenBack (now (v .entry))) q (pos 0) -ℤ getD (map givenBack (now (v .entry))) p (pos 0)) x ⌝ }
+    ensures { λ x. ⌜ Led g
+        (getD (map givenBack (now (v .entry))) p (pos 0) -ℤ getD (map givenBack (now (v .entry))) q (pos 0))
+        (getD (map givenBack (now (v .entry))) q (pos 0) -ℤ getD (map givenBack (now (v .entry))) p (pos 0)) x ⌝ }
 {
     let a = v[p];
     let b = v[q];

@@ -29,7 +29,8 @@ use scaling::scaled;
 // X of row 6: the card's own T, or with EXSUB the T at the voltage from S to C4.
 fn term_x(t: &Table, r: Ready, v: &[u32; ROLES]) -> u64
     requires { ⌜ Askable (now t) r (now v) ⌝ }
-    ensures { λ x. ⌜ UpTo tickLimit x (tickOf (r .card) (biasOf (map givenBack (now (v .entry)))) (termX (r .card .exsub))) ⌝ }
+    ensures { λ x. ⌜ UpTo tickLimit x (tickOf (r .card) (biasOf (map givenBack (now (v .entry))))
+        (termX (r .card .exsub))) ⌝ }
 {
     let c = r.card;
     if c.exsub {
@@ -42,7 +43,8 @@ fn term_x(t: &Table, r: Ready, v: &[u32; ROLES]) -> u64
 // Row 8, worked whole: nothing where its value is 0.
 fn term_8(t: &Table, r: Ready, v: &[u32; ROLES]) -> Pair
     requires { ⌜ Askable (now t) r (now v) ⌝ }
-    ensures { λ x. ⌜ Whole (r .card) (biasOf (map givenBack (now (v .entry)))) row8 reverse rows.B1 rows.C4 (x .plus) (x .minus) ⌝ }
+    ensures { λ x. ⌜ Whole (r .card) (biasOf (map givenBack (now (v .entry)))) row8 reverse rows.B1 rows.C4 (x .plus)
+        (x .minus) ⌝ }
 {
     let c = r.card;
     let s = c.reverse;

@@ -172,7 +172,8 @@ module _ (froms tos : List ℕ) (ticks : List ℤ) where
             (q .at n h
             ∙ ap (λ (z : ℤ). z +ℤ ends (getD froms k 0) (getD tos k 0) x n) (p .at n h)
             ∙ +ℤ-assoc (getD l₀ n (pos 0)) (endsGive froms tos ticks k n) (ends (getD froms k 0) (getD tos k 0) x n)
-            ∙ ap (λ (z : ℤ). getD l₀ n (pos 0) +ℤ (endsGive froms tos ticks k n +ℤ ends (getD froms k 0) (getD tos k 0) z n)) e);
+            ∙ ap (λ (z : ℤ). getD l₀ n (pos 0) +ℤ
+            (endsGive froms tos ticks k n +ℤ ends (getD froms k 0) (getD tos k 0) z n)) e);
       }
 
   -- there is room for one more branch

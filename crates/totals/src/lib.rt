@@ -35,7 +35,8 @@ fn branches(
     ticks: &[i64; BRANCHES],
 )
     requires { ⌜ Wired roles (now from) × Wired roles (now to) × Room roles 0 (now a) × Within tickLimit (now ticks) ⌝ }
-    ensures { λ _. ⌜ More roles (now (a .entry)) (now (a .exit)) (endsGive (now (from .entry)) (now (to .entry)) (now (ticks .entry)) branches) ⌝ }
+    ensures { λ _. ⌜ More roles (now (a .entry)) (now (a .exit))
+        (endsGive (now (from .entry)) (now (to .entry)) (now (ticks .entry)) branches) ⌝ }
 {
     for k in 0..BRANCHES {
         let f = from[k];
@@ -61,7 +62,8 @@ fn add(l: &mut [i64; NODES], n: u8, x: i64)
 // Each role's amount to its node.
 fn hand_out(l: &mut [i64; NODES], nodes: &[u8; ROLES], a: &[i64; ROLES])
     requires { ⌜ Wired nodesMost (now nodes) × Room nodesMost roomMost (now l) × Within flowMost (now a) ⌝ }
-    ensures { λ _. ⌜ More nodesMost (now (l .entry)) (now (l .exit)) (spread (now (nodes .entry)) (λ (k : ℕ). getD (now (a .entry)) k (pos 0)) roles) ⌝ }
+    ensures { λ _. ⌜ More nodesMost (now (l .entry)) (now (l .exit))
+        (spread (now (nodes .entry)) (λ (k : ℕ). getD (now (a .entry)) k (pos 0)) roles) ⌝ }
 {
     for k in 0..ROLES {
         let n = nodes[k];
@@ -73,7 +75,8 @@ fn hand_out(l: &mut [i64; NODES], nodes: &[u8; ROLES], a: &[i64; ROLES])
 // What the branches give to the nodes.
 pub fn put(l: &mut [i64; NODES], nodes: &[u8; ROLES], ticks: &[i64; BRANCHES])
     requires { ⌜ Givable (now l) (now nodes) (now ticks) ⌝ }
-    ensures { λ _. ⌜ More nodesMost (now (l .entry)) (now (l .exit)) (rolesGive (now (nodes .entry)) fromRoles toRoles (now (ticks .entry))) ⌝ }
+    ensures { λ _. ⌜ More nodesMost (now (l .entry)) (now (l .exit))
+        (rolesGive (now (nodes .entry)) fromRoles toRoles (now (ticks .entry))) ⌝ }
 {
     let from = terms::from_roles();
     let to = terms::to_roles();

@@ -25,8 +25,8 @@ row v w = record { verb = v; wants = w }
 abbrev entry : String → Verb → Wants → Entry
 entry word v w = record { word = bytes word; row = row v w }
 
--- each number is how many words a line of the command has, the first counted; a placing has one of two, and a model line
--- however many it likes, since the reader of such lines judges them
+-- each number is how many words a line of the command has, the first counted; a placing has one of two, and a model
+-- line however many it likes, since the reader of such lines judges them
 abbrev pub table : List Entry
 table =
     entry "library" Library (Texts 2)

@@ -15,7 +15,8 @@ four = ofBits binary64 0x4010_0000_0000_0000
 abbrev pub million : Float
 million = ofBits binary64 0x412e_8480_0000_0000
 
--- what a resistor lets through at a microvolt, in two roundings; a resistance of 0 has no such value, and 0 stands there
+-- what a resistor lets through at a microvolt, in two roundings; a resistance of 0 has no such value, and 0 stands
+-- there
 abbrev pub conductanceOf : Float → Float → Float
 conductanceOf mult r = cond (eq r zero) zero (div binary64 mult (mul binary64 r million))
 

@@ -20,7 +20,8 @@ returns c =
     let w = p .before .before .before .args .wide in
     then (m .before .before .before .put .ensures)
     (then
-    (text-written (m .before .before .mask-digits .ensures) (hex-whole (maskDigits w) _ (let k = mask-short w in omega arith))
+    (text-written (m .before .before .mask-digits .ensures)
+    (hex-whole (maskDigits w) _ (let k = mask-short w in omega arith))
     (m .put-text .ensures))
     (c .put-words .ensures))
 

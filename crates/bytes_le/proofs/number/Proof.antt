@@ -29,13 +29,17 @@ loop-holds c = let a = c .before .before .before .args in down-first (drop (a .a
 
 mul-x : tie.Need-mul-x Inv-loop μ-loop
 mul-x c =
-    record
-    { fits = lt-of-le-of-lt (le-add-right _ 0) (down-fits (c .before .loop .inv) (c .loop-test .taken) 0 (search needs) (omega arith)) }
+    record {
+      fits = lt-of-le-of-lt (le-add-right _ 0)
+          (down-fits (c .before .loop .inv) (c .loop-test .taken) 0 (search needs) (omega arith));
+    }
 
 add-x : tie.Need-add-x Inv-loop μ-loop
 add-x c =
-    record
-    { fits = down-fits (c .before .before .loop .inv) (c .before .loop-test .taken) _ (search needs) (c .byte .ensures .1) }
+    record {
+      fits = down-fits (c .before .before .loop .inv) (c .before .loop-test .taken) _ (search needs)
+          (c .byte .ensures .1);
+    }
 
 abbrev start-before-byte : tie.After-byte Inv-loop μ-loop → tie.Start Inv-loop μ-loop
 start-before-byte c = c .before .before .before .before .before .before

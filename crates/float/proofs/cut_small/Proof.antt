@@ -34,7 +34,8 @@ counted : (c : tie.Else1) → leadingZeros 64 (c .before .args .n) + size (c .be
 counted c = count (c .before .args .n) (c .if1 .left) (c .before .pre)
 
 returns : tie.Need-returns
-returns c = ap (λ (n : ℕ). unitsOf n 0) (sym (c .if1 .taken)) ∙ sym (plain-split (c .before .args .n) (let l = c .before .pre in omega arith))
+returns c = ap (λ (n : ℕ). unitsOf n 0) (sym (c .if1 .taken))
+    ∙ sym (plain-split (c .before .args .n) (let l = c .before .pre in omega arith))
 
 sub-size : tie.Need-sub-size
 sub-size c = omega (arith, counted c)

@@ -123,7 +123,8 @@ module _ (issues cards seats nodes : List ℕ) (currents : List ℤ) where
   pub first-transistor : (n : ℕ) → first (isTransistor n) ts ≡ firstAt transistorsMost n issues
   unfolding transistorsIn
   first-transistor n =
-      first-up (isTransistor n) (isAt n issues) (transistorIn issues cards seats nodes currents) (λ (i : ℕ). i) (λ i. refl)
+      first-up (isTransistor n) (isAt n issues) (transistorIn issues cards seats nodes currents)
+      (λ (i : ℕ). i) (λ i. refl)
       transistorsMost 0
 
   pub transistor-place : (n : ℕ) → transistorPlace n ts ≡ numberPlace transistorsMost n issues

@@ -24,7 +24,8 @@ abbrev μ-loop : tie.MeasureT-loop
 
 returns : tie.Need-returns Inv-loop μ-loop
 returns c =
-    map-same _ ∙ ap (λ (b : Bool). map (turned b) (c .before .args .t2)) (sym (not-true (c .before .args .pnp) (c .if1 .taken)))
+    map-same _ ∙ ap (λ (b : Bool). map (turned b) (c .before .args .t2))
+    (sym (not-true (c .before .args .pnp) (c .if1 .taken)))
 
 loop-holds : tie.Need-loop-holds Inv-loop μ-loop
 loop-holds c = (search needs, filled-none (search needs))

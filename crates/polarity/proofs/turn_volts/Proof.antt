@@ -22,7 +22,8 @@ abbrev μ-loop : tie.MeasureT-loop
 
 returns : tie.Need-returns Inv-loop μ-loop
 returns c =
-    map-same _ ∙ ap (λ (b : Bool). map (keptTurned b) (c .before .args .t2)) (sym (not-true (c .before .args .pnp) (c .if1 .taken)))
+    map-same _ ∙ ap (λ (b : Bool). map (keptTurned b) (c .before .args .t2))
+    (sym (not-true (c .before .args .pnp) (c .if1 .taken)))
 
 loop-holds : tie.Need-loop-holds Inv-loop μ-loop
 loop-holds c = (search needs, filled-none (search needs))
@@ -40,7 +41,8 @@ returns-2 : tie.Need-returns-2 Inv-loop μ-loop
 returns-2 c =
     let s = c .before .before in
     filled-map (keptTurned true) 0 (s .before .args .t2) (search needs) (c .loop-test .left) (c .before .loop .inv .1)
-    ∙ ap (λ (b : Bool). map (keptTurned b) (s .before .args .t2)) (sym (not-false (s .before .args .pnp) (s .if1 .left)))
+    ∙ ap (λ (b : Bool). map (keptTurned b) (s .before .args .t2))
+    (sym (not-false (s .before .args .pnp) (s .if1 .left)))
 
 pub turn-volts-spec : {M : Type 1} → statement M
 turn-volts-spec =

@@ -1,4 +1,5 @@
--- A list filled from its start, place by place: what is known once k places are filled, and what stands there at the end.
+-- A list filled from its start, place by place: what is known once k places are filled, and what stands there at the
+-- end.
 use mathlib.Core.Path.{_≡_, refl, ap, _∙_}
 use mathlib.Core.Bool.{Bool, true, false}
 use mathlib.Core.List.{List, [], _∷_, map}

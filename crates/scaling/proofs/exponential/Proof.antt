@@ -12,7 +12,8 @@ exponential-at-requires : tie.Need-exponential-at-requires
 exponential-at-requires c κs = junction-asked (c .before .before .before .pre) (c .across .ensures)
 
 returns : tie.Need-returns
-returns c = let s = c .before .before .before .before in junction-is (s .pre) (c .before .across .ensures) (c .exponential-at .ensures)
+returns c = let s = c .before .before .before .before in junction-is (s .pre) (c .before .across .ensures)
+    (c .exponential-at .ensures)
 
 pub exponential-spec : {M : Type 1} → statement M
 exponential-spec =

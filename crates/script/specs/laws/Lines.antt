@@ -27,10 +27,10 @@ abbrev verbOf : String → Verb
 verbOf line = commandOf (bytes line) .verb
 
 -- blank, a comment, two verbs and what is none of them: a tab parts no words, a minus alone is no number, a word too
--- many, half a byte; then bytes, no bytes, a line of one word, and a word that only begins like a command's; lists of no
--- pair and of two, an odd one, and one with a word that is no number;
--- placings on seven nodes and on eleven, on eight, and on eleven of which one is no number; model lines, however many
--- words they have, and the model of a name, of none and of two
+-- many, half a byte; then bytes, no bytes, a line of one word, and a word that only begins like a command's; lists of
+-- no pair and of two, an odd one, and one with a word that is no number; placings on seven nodes and on eleven, on
+-- eight, and on eleven of which one is no number; model lines, however many words they have, and the model of a name,
+-- of none and of two
 pub said-verbs : map verbOf
     ("   "
     ∷ "  # lift 1"
@@ -61,11 +61,13 @@ pub said-verbs : map verbOf
     ≡ Nothing ∷ Nothing ∷ Lift ∷ Withdraw ∷ Error ∷ Error ∷ Error ∷ Error ∷ Record ∷ Record ∷ Sheet ∷ Error
     ∷ Moves ∷ Moves ∷ Error ∷ Error ∷ Place ∷ Place ∷ Error ∷ Error ∷ ModelLine ∷ ModelLine ∷ Model ∷ Error ∷ Error
     ∷ []
-unfolding spansFrom withWord withWords wordsOf partOf parsedOf parsedWith allDigits decimalFrom spells allPairs pairsOf placeIn rowNamed areNumbers numbersTo allNumbers writtenFrom seriesOf said saidPairs hexOf saidTo commandOf
+unfolding spansFrom withWord withWords wordsOf partOf parsedOf parsedWith allDigits decimalFrom spells allPairs pairsOf
+    placeIn rowNamed areNumbers numbersTo allNumbers writtenFrom seriesOf said saidPairs hexOf saidTo commandOf
 said-verbs = refl
 
 -- numbers, with spaces wherever they may be
 pub said-numbers : commandOf (bytes "  move  3   -250000 ") .numbers
     ≡ pos 3 ∷ negsuc 249999 ∷ replicate 10 (pos 0)
-unfolding spansFrom withWord withWords wordsOf partOf parsedOf parsedWith allDigits decimalFrom placeIn rowNamed areNumbers numbersTo said saidTo commandOf
+unfolding spansFrom withWord withWords wordsOf partOf parsedOf parsedWith allDigits decimalFrom placeIn rowNamed
+    areNumbers numbersTo said saidTo commandOf
 said-numbers = refl

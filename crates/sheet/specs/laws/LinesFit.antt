@@ -17,7 +17,8 @@ use Rattle.spelling.specs.Bytes.{newline}
 use Rattle.sheet.specs.Text.{room, textOf, shown}
 use Rattle.current.specs.Current.{decimals, belowZero, picoOf}
 use Rattle.listed.specs.Listed.{listedMask}
-use Rattle.sheet.specs.Digits.{decimalOf, glyphOf, digitsOf, hexDigits, plainDigits, signOf, signedDigits, ampereDigits}
+use Rattle.sheet.specs.Digits.{decimalOf, glyphOf, digitsOf, hexDigits, plainDigits, signOf, signedDigits}
+use Rattle.sheet.specs.Digits.{ampereDigits}
 use Rattle.sheet.specs.Digits.{maskDigits, mostDigits, wordDigits}
 use Rattle.sheet.specs.Lines.{numbersLine, labelLine, toldLine, listingLine, readingOf, nodeLine, sheetLine}
 

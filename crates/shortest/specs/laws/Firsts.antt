@@ -38,7 +38,11 @@ step test n k false false e f v = record {
 
 first-is : (test : ℕ → Bool) (n : ℕ) → First test n (firstBelow test n)
 unfolding firstBelow
-first-is test zero = record { most = le-refl 0; passes = λ h. absurd (omega arith); before = λ j h. absurd (omega arith) }
+first-is test zero = record {
+  most = le-refl 0;
+  passes = λ h. absurd (omega arith);
+  before = λ j h. absurd (omega arith);
+}
 first-is test (suc n) =
     step test n (firstBelow test n) (ltb (firstBelow test n) n) (test n) refl refl (first-is test n)
 

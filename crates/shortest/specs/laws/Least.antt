@@ -1,4 +1,5 @@
--- What a shortest form is, in the words of the rule: the fewest digits that read back to a word, and of those the smallest.
+-- What a shortest form is, in the words of the rule: the fewest digits that read back to a word, and of those the
+-- smallest.
 use mathlib.Core.Path.{_≡_}
 use mathlib.Core.Bool.{Bool, false}
 use Prim.Native.Nat.{ℕ, _^_, _≤_, _<_}
@@ -12,7 +13,8 @@ pub record ReadsBack (w : ℕ) (minus : Bool) (d q : ℕ) : Type 0 where
   pub power : q < powersEnd
   pub bits : wordOf minus d q ≡ w
 
--- one of them that has no more than k digits wherever another has no more than k, and none with smaller ones; zero is 0e0
+-- one of them that has no more than k digits wherever another has no more than k, and none with smaller ones; zero is
+-- 0e0
 pub record Shortest (w : ℕ) (minus : Bool) (d q : ℕ) : Type 0 where
   pub form : ReadsBack w minus d q
   pub fewest : (m : Bool) (e p k : ℕ) → ReadsBack w m e p → e < 10 ^ k → d < 10 ^ k

@@ -9,7 +9,8 @@ use Rattle.totals.proofs.add.Tie as tie
 
 returns : tie.Need-returns
 returns c =
-    let s = c .before in adds-nothing (s .args .l .now) (s .args .n) (s .args .x) (s .pre) (ap (toZ w64) (c .if1 .taken))
+    let s = c .before in adds-nothing (s .args .l .now) (s .args .n) (s .args .x) (s .pre)
+    (ap (toZ w64) (c .if1 .taken))
 
 add-y : tie.Need-add-y
 add-y c = let s = c .before .before in room-add (s .args .l .now) (s .args .n) (s .args .x) (s .pre)

@@ -35,7 +35,9 @@ loop-less : tie.Need-loop-less Inv-loop μ-loop
 loop-less c = search needs
 
 loop-again : tie.Need-loop-again Inv-loop μ-loop
-loop-again c = record { so-far = first-passed _ (search needs) (search needs) ∙ c .before .before .before .before .loop .inv .so-far }
+loop-again c = record {
+  so-far = first-passed _ (search needs) (search needs) ∙ c .before .before .before .before .loop .inv .so-far;
+}
 
 returns-2 : tie.Need-returns-2 Inv-loop μ-loop
 returns-2 c = none-first _ (search needs) ∙ c .before .loop .inv .so-far

@@ -1,4 +1,5 @@
--- `card::judging::parameters` meets its contract: each is the number of its place, and a resistance only where there are any.
+-- `card::judging::parameters` meets its contract: each is the number of its place, and a resistance only where there
+-- are any.
 use mathlib.Core.Path.{_≡_, ap, _∙_}
 use mathlib.Core.Bool.{Bool, cond}
 use lib.Ieee.{Float}

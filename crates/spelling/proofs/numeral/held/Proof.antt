@@ -32,5 +32,6 @@ returns-5 c = rw (c .before .if1 .left) (near-end _ (c .if4 .left))
 pub held-spec : {M : Type 1} → statement M
 held-spec =
     tie.close
-    (tie.spec (λ c. search needs) (λ c κs. search needs) (λ c. search needs) (λ c κs. search needs) (λ c κs. search needs)
+    (tie.spec (λ c. search needs) (λ c κs. search needs) (λ c. search needs) (λ c κs. search needs)
+    (λ c κs. search needs)
     returns returns-2 returns-3 returns-4 returns-5)

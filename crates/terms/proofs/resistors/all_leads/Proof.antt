@@ -66,5 +66,6 @@ all-leads-spec =
     (λ c κs. let w = start (c .before) .pre in asks w (splits (w .worked) .gbc) (lit< tt) (lit< tt))
     (λ c κs. let w = start (c .before .before) .pre in asks w (splits (w .worked) .gcc) (lit< tt) (lit< tt))
     (λ c κs. let w = start (c .before .before .before) .pre in asks w (splits (w .worked) .gblx) (lit< tt) (lit< tt))
-    (λ c κs. let w = start (c .before .before .before .before) .pre in asks w (splits (w .worked) .gbli) (lit< tt) (lit< tt))
+    (λ c κs. let w = start (c .before .before .before .before) .pre in asks w (splits (w .worked) .gbli) (lit< tt)
+    (lit< tt))
     returns-2)

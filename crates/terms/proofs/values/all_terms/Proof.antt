@@ -91,7 +91,11 @@ faint-requires-2 c κs =
 
 faint-requires-3 : tie.Need-faint-requires-3
 faint-requires-3 c κs =
-    let s = values (emitter (c .before .before)) in record { split = search needs; sized = search needs; near = lit≤ tt }
+    let s = values (emitter (c .before .before)) in record {
+      split = search needs;
+      sized = search needs;
+      near = lit≤ tt;
+    }
 
 faint-requires-4 : tie.Need-faint-requires-4
 faint-requires-4 c κs =
@@ -99,7 +103,11 @@ faint-requires-4 c κs =
 
 faint-requires-5 : tie.Need-faint-requires-5
 faint-requires-5 c κs =
-    let s = values (emitter (three (c .before))) in record { split = search needs; sized = search needs; near = lit≤ tt }
+    let s = values (emitter (three (c .before))) in record {
+      split = search needs;
+      sized = search needs;
+      near = lit≤ tt;
+    }
 
 faint-requires-6 : tie.Need-faint-requires-6
 faint-requires-6 c κs =
@@ -170,7 +178,11 @@ returns c =
           (more {r = row3} (record { counted = (side, own-side h); left = upto-zero; right = upto-zero })
           (more {r = row4} (record { counted = (nonideal, own-nonideal h); left = upto-zero; right = upto-zero })
           (more {r = row5} (record { counted = (ex, own-ex h); left = upto-zero; right = exratio })
-          (more {r = row6 (start at .args .r .card .exsub)} (record { counted = (sub, x .term-x .ensures); left = upto-zero; right = subratio })
+          (more {r = row6 (start at .args .r .card .exsub)} (record {
+            counted = (sub, x .term-x .ensures);
+            left = upto-zero;
+            right = subratio;
+          })
           (more {r = row7} (record { counted = (sf, own-sf h); left = upto-zero; right = upto-zero })
           (more {r = row8} (record { counted = c .before .term-8 .ensures; left = upto-zero; right = upto-zero })
           (more {r = row9} (record { counted = l .ninth; left = upto-zero; right = upto-zero })
