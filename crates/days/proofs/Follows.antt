@@ -14,6 +14,7 @@ use Rattle.refusal.specs.declared.Refusal.{Refusal}
 use Rattle.refusal.specs.declared.Refusal.the-variants.{CardInUse, ShortOutput}
 use Rattle.refusal.specs.Order.{Verdict, no, yes, refuseIf}
 use Rattle.name.specs.Name.{padded, same}
+use Rattle.name.proofs.Laws.{padded-long}
 use Rattle.volts.specs.Volts.{givenBack}
 use Rattle.card.specs.declared.WorkedCard.{WorkedCard}
 use Rattle.terms.specs.inner.Ready.{readyOf}
@@ -61,7 +62,6 @@ use Rattle.model.proofs.Boards.{transistors-count, transistor-then, fresh-cards
 use Rattle.model.proofs.Footing.{Away, unused-away, free-below, free-away, looked-long}
 use Rattle.model.proofs.Invariant.{Invariant, invariant-after, worked-same, aside, still, held-is}
 use Rattle.model.proofs.Gains.{touched-stands}
-use Rattle.model.proofs.Lists.{padded-long}
 use Rattle.rows.specs.declared.Over.{Over}
 use Rattle.rows.specs.Outcome.{isOver}
 use Rattle.refusal.specs.Clash.{clash}

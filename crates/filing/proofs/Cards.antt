@@ -2,13 +2,12 @@
 use mathlib.Core.Path.{_≡_, refl, sym, ap, ap₂, _∙_, subst}
 use mathlib.Core.Bool.{Bool, true, false}
 use mathlib.Core.List.{List, [], _++_, append-nil}
-use Prim.Native.Nat.{ℕ, zero, _-_, _*_, _≤_, _<_}
+use Prim.Native.Nat.{ℕ, _-_, _*_, _≤_, _<_}
 use native.Mathlib.Nat.{le-of-eq}
 use native.Mathlib.Omega.{arith}
 use borrow.Author.Tests.{lt-ltb, le-ltb, le-leb, lt-leb}
 use lib.Dec.{leb}
-use lib.ListN.{length, take, drop, replicate, length-append, length-take, length-drop, length-replicate}
-use lib.ListN.{drop-of-length-le}
+use lib.ListN.{length, take, drop, length-drop, drop-of-length-le}
 use lib.Seq.{take-all}
 use Rattle.refusal.specs.Clash.{clash}
 use Rattle.refusal.specs.declared.Refusal.{Refusal}
@@ -18,6 +17,7 @@ use Rattle.bytes_le.specs.Le.{wordBytes}
 use Rattle.bytes_le.specs.Buffer.{over}
 use Rattle.bytes_le.proofs.Laws.{rest}
 use Rattle.name.specs.Name.{nameLength, padded}
+use Rattle.name.proofs.Laws.{padded-long}
 use Rattle.roll.specs.Directory.{namesIn, among}
 use Rattle.directory.specs.Format.{mostCards, bytesOfAll}
 use Rattle.library.proofs.BytesWritten.{partFrom, partPut, length-all}
@@ -92,12 +92,6 @@ module _ (rec names records : List ℕ) (n : ℕ) {name x d : List ℕ} {b : Boo
         })
 
 -- ---- one line
-
-padded-long : (x : List ℕ) → length (padded x) ≡ nameLength
-unfolding padded
-padded-long x =
-    length-append (take nameLength x) (replicate (nameLength - length x) 0)
-    ∙ rw (length-take nameLength x, length-replicate (nameLength - length x) zero) (omega arith)
 
 -- new bytes that fill a buffer
 over-all : (new old : List ℕ) → length old ≤ length new → over new old ≡ new

@@ -12,6 +12,7 @@ use lib.IntN.{ℤ, pos, natAbs}
 use borrow.Author.Tests.{eqb-true, eqb-false, ne-eqb, leb-false}
 use Rattle.refusal.specs.Order.{Verdict, no, yes}
 use Rattle.name.specs.Name.{nameLength, padded}
+use Rattle.name.proofs.Laws.{padded-long}
 use Rattle.scaling.specs.Scaled.{tickLimit}
 use Rattle.card.specs.declared.WorkedCard.{WorkedCard}
 use Rattle.terms.specs.inner.Ready.{IsReady, readyOf}
@@ -38,7 +39,7 @@ use Rattle.model.specs.Model.{moved, movedOf, mayMove, lifted, liftedOf,
 use Rattle.model.specs.Model.{mayWithdraw, looked, lookedOf, mayLookUp, showed, showedOf, opened, openedOf}
 use Rattle.model.specs.Model.{mayOpen, listed, listedOf, mayList, summed, summedOf}
 use Rattle.model.specs.inner.Sized.{Sized}
-use Rattle.model.proofs.Lists.{each-set, each-replicate, first-passes, stands, padded-long}
+use Rattle.model.proofs.Lists.{each-set, each-replicate, first-passes, stands}
 use Rattle.model.proofs.Named.{scanOf, Scans, at-nodes-long, scans-joined, scans-parted}
 use Rattle.model.proofs.Found.{AtCard, at-card, AtTransistor, at-transistor, on-nodes}
 use Rattle.model.proofs.Boards.{sized-fresh, fresh-cards, fresh-transistors, sized-holding, cards-holding}

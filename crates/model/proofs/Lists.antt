@@ -1,14 +1,13 @@
 -- Lists by their places: what holds of each element, and the first place that passes a test.
-use mathlib.Core.Path.{_≡_, refl, _∙_}
+use mathlib.Core.Path.{_≡_, refl}
 use mathlib.Core.Bool.{Bool, true, false, cond}
 use mathlib.Core.List.{List, [], _∷_}
-use Prim.Native.Nat.{ℕ, zero, suc, _-_, _<_}
+use Prim.Native.Nat.{ℕ, zero, suc, _<_}
 use native.Mathlib.Omega.{arith}
 use lib.Dec.{ltb}
-use lib.ListN.{length, getD, set, replicate, take, length-append, length-take, length-replicate}
+use lib.ListN.{length, getD, set, replicate}
 use borrow.Author.Tests.{ltb-true}
 use Rattle.refusal.specs.Clash.{clash}
-use Rattle.name.specs.Name.{nameLength, padded}
 use Rattle.given.specs.Arguments.{none, some}
 use Rattle.places.specs.Finding.{first, foundAt}
 
@@ -51,10 +50,3 @@ pub stands : {A : Type 0} (key : A → ℕ) (d : A) (l : List A) (i : ℕ) → k
 stands key d [] i z h = absurd (h z)
 stands key d (a ∷ rest) zero z h = omega arith
 stands key d (a ∷ rest) (suc i) z h = let k = stands key d rest i z h in omega arith
-
--- a name padded has sixteen bytes
-pub padded-long : (x : List ℕ) → length (padded x) ≡ nameLength
-unfolding padded
-padded-long x =
-    length-append (take nameLength x) (replicate (nameLength - length x) 0)
-    ∙ rw (length-take nameLength x, length-replicate (nameLength - length x) zero) (omega arith)

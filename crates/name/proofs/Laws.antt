@@ -8,7 +8,8 @@ use native.Mathlib.Numerals.{add-one}
 use native.Mathlib.Omega.{arith}
 use borrow.Author.Tests.{lt-leb, le-leb, eqb-true, eqb-false, eq-eqb, ne-eqb, lt-ltb, le-ltb}
 use lib.Dec.{eqb}
-use lib.ListN.{length, take, drop, getD, set, replicate, length-drop, length-take, length-set, drop-of-length-le}
+use lib.ListN.{length, take, drop, getD, set, replicate, length-append, length-drop, length-take, length-set}
+use lib.ListN.{length-replicate, drop-of-length-le}
 use lib.Seq.{take-add, take-at, drop-at, drop-cons, take-all, take-suc, set-at, append-snoc, length-take-le}
 use Rattle.bytes_le.specs.Le.{le, bytesOf, Word, le-bytes, length-bytes}
 use Rattle.bytes_le.proofs.Laws.{rest}
@@ -146,6 +147,13 @@ module _ {new old cur : List ℕ} {i : ℕ} (v : Filled new old cur i) where
       v .so-far ∙ ap (λ (l : List ℕ). l ++ drop i old) (take-all i new h) ∙ ap (λ (n : ℕ). new ++ drop n old) e
 
 -- ---- padding
+
+-- a name padded has sixteen bytes
+pub padded-long : (x : List ℕ) → length (padded x) ≡ nameLength
+unfolding padded
+padded-long x =
+    length-append (take nameLength x) (replicate (nameLength - length x) 0)
+    ∙ rw (length-take nameLength x, length-replicate (nameLength - length x) zero) (omega arith)
 
 drop-zeros : (k n : ℕ) → drop {A = ℕ} k (replicate n 0) ≡ replicate (n - k) 0
 drop-zeros zero n = ap (λ (m : ℕ). replicate m 0) (sym (sub-zero n))
