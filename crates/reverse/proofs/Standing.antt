@@ -14,7 +14,7 @@ use Rattle.scaling.specs.Scaled.{partPlaces, tickLimit}
 use Rattle.scaling.specs.inner.Shifts.{UpTo}
 use Rattle.scaling.proofs.Scaling.{upto-held}
 use Rattle.reverse.specs.Sum.{sumLimit, overSum, sumOver}
-use Rattle.reverse.specs.inner.Pairs.{overPair, sizeOver, pairOf, eitherOver, Stands}
+use Rattle.reverse.specs.inner.Pairs.{overPair, sizeOver, differenceOver, pairOf, eitherOver, Stands}
 
 -- more than a branch may have, where it overloads
 too-much : {p m y : ℕ} → eitherOver p m || sumOver (subℕ p m) y ≡ true → Stands p m y overPair
@@ -79,6 +79,16 @@ module _ (p m y : ℕ) (a : p ≤ tickLimit) (b : m ≤ tickLimit) (there : 0 < 
         minus-small = lit< tt;
       }
 
+  -- so whichever is larger
+  difference-stands : Stands p m y (differenceOver p m y)
+  difference-stands = go (ltb p m) refl
+    where
+      go : (t : Bool) → ltb p m ≡ t →
+          Stands p m y
+          (cond t (record { plus = 0; minus = sizeOver (m - p) y }) (record { plus = sizeOver (p - m) y; minus = 0 }))
+      go true e = down-stands (ltb-true p m e)
+      go false e = up-stands (ltb-false p m e)
+
 -- whatever stands above its limit is above it in the code too
 module _ {p m y p′ m′ y′ : ℕ} (a : UpTo tickLimit p′ p) (b : UpTo tickLimit m′ m) (s : UpTo sumLimit y′ y) where
   over-plus : ltb tickLimit p′ ≡ true → eitherOver p m || sumOver (subℕ p m) y ≡ true
@@ -106,37 +116,22 @@ module _ {p m y p′ m′ y′ : ℕ} (a : UpTo tickLimit p′ p) (b : UpTo tick
 
   pub stands : Stands p m y (pairOf p′ m′ y′)
   unfolding pairOf
-  stands =
-      first (ltb tickLimit p′) refl (ltb tickLimit m′) refl (eqb y′ 0) refl (ltb sumLimit y′) refl (ltb p′ m′) refl
+  stands = first (ltb tickLimit p′) refl (ltb tickLimit m′) refl (eqb y′ 0) refl (ltb sumLimit y′) refl
     where
       first : (t : Bool) → ltb tickLimit p′ ≡ t → (u : Bool) → ltb tickLimit m′ ≡ u → (v : Bool) → eqb y′ 0 ≡ v →
-          (w : Bool) → ltb sumLimit y′ ≡ w → (x : Bool) → ltb p′ m′ ≡ x →
-          Stands p m y
-          (cond t overPair
-          (cond u overPair
-          (cond v overPair
-          (cond w overPair
-          (cond x (record { plus = 0; minus = sizeOver (m′ - p′) y′ })
-          (record { plus = sizeOver (p′ - m′) y′; minus = 0 }))))))
-      first true e u f v g w h x k = too-much (over-plus e)
-      first false e true f v g w h x k = too-much (over-minus f)
-      first false e false f true g w h x k = too-much (no-sum g)
-      first false e false f false g true h x k = too-much (over-sum h)
-      first false e false f false g false h true k =
-          let pe = a .same (ltb-false tickLimit p′ e) in
-          let me = b .same (ltb-false tickLimit m′ f) in
-          let ye = s .same (ltb-false sumLimit y′ h) in
-          let n = eqb-false y′ 0 g in
+          (w : Bool) → ltb sumLimit y′ ≡ w →
+          Stands p m y (cond t overPair (cond u overPair (cond v overPair (cond w overPair (differenceOver p′ m′ y′)))))
+      first true e u f v g w h = too-much (over-plus e)
+      first false e true f v g w h = too-much (over-minus f)
+      first false e false f true g w h = too-much (no-sum g)
+      first false e false f false g true h = too-much (over-sum h)
+      first false e false f false g false h =
+          let k = ltb-false tickLimit p′ e in
+          let l = ltb-false tickLimit m′ f in
+          let n = ltb-false sumLimit y′ h in
+          let z = eqb-false y′ 0 g in
+          let pe = a .same k in
+          let me = b .same l in
+          let ye = s .same n in
           rw (pe, me, ye)
-          (down-stands p m y (let c = ltb-false tickLimit p′ e in omega arith)
-          (let c = ltb-false tickLimit m′ f in omega arith) (omega arith)
-          (let c = ltb-false sumLimit y′ h in omega arith) (let c = ltb-true p′ m′ k in omega arith))
-      first false e false f false g false h false k =
-          let pe = a .same (ltb-false tickLimit p′ e) in
-          let me = b .same (ltb-false tickLimit m′ f) in
-          let ye = s .same (ltb-false sumLimit y′ h) in
-          let n = eqb-false y′ 0 g in
-          rw (pe, me, ye)
-          (up-stands p m y (let c = ltb-false tickLimit p′ e in omega arith)
-          (let c = ltb-false tickLimit m′ f in omega arith) (omega arith)
-          (let c = ltb-false sumLimit y′ h in omega arith) (let c = ltb-false p′ m′ k in omega arith))
+          (difference-stands p m y (omega arith) (omega arith) (omega arith) (omega arith))

@@ -17,15 +17,19 @@ overPair = record { plus = suc tickLimit; minus = 0 }
 abbrev pub sizeOver : ℕ → ℕ → ℕ
 sizeOver n sum = heldAt (suc tickLimit) (shiftedQuotient n partPlaces sum)
 
+-- the larger less the smaller over the sum, on the side of the larger
+abbrev pub differenceOver : ℕ → ℕ → ℕ → Pair
+differenceOver plus minus sum =
+    cond (ltb plus minus) (record { plus = 0; minus = sizeOver (minus - plus) sum })
+    (record { plus = sizeOver (plus - minus) sum; minus = 0 })
+
 -- the code's way
 unfoldable pub pairOf : ℕ → ℕ → ℕ → Pair
 pairOf plus minus sum =
     cond (ltb tickLimit plus) overPair
     (cond (ltb tickLimit minus) overPair
     (cond (eqb sum 0) overPair
-    (cond (ltb sumLimit sum) overPair
-    (cond (ltb plus minus) (record { plus = 0; minus = sizeOver (minus - plus) sum })
-    (record { plus = sizeOver (plus - minus) sum; minus = 0 })))))
+    (cond (ltb sumLimit sum) overPair (differenceOver plus minus sum))))
 
 -- one of two T's is above the limit
 abbrev pub eitherOver : ℕ → ℕ → Bool
