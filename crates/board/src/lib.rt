@@ -151,7 +151,7 @@ impl Board {
         let mut on = self.nodes;
         let mut naming = self.naming;
         let mut currents = self.currents;
-        let answer = seating::place(
+        let answer = apart::place(
             &mut issues,
             &mut cards,
             &mut seats,
@@ -201,7 +201,7 @@ impl Board {
         let naming = self.naming;
         let number = self.next;
         let mut held = self.currents;
-        let answer = moving::move_all(
+        let answer = apart::move_all(
             volts,
             totals,
             &mut held,
@@ -255,7 +255,7 @@ impl Board {
         let mut nodes = self.nodes;
         let mut sets = self.naming;
         let mut left = self.currents;
-        let answer = seating::lift(
+        let answer = apart::lift(
             &mut issues,
             &mut cards,
             &mut seats,
