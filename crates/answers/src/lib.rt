@@ -3,7 +3,7 @@ ghost use Rattle.answers.specs.Page.{Writes};
 ghost use Rattle.answers.specs.Answers.{answerLine, errorLine, unreadableLine, modelLine, currentsLine, whoLine};
 ghost use Rattle.answers.specs.Answers.{sumLine, clipLine};
 
-mod page; // page.rt: bytes written in a lent buffer
+pub mod page; // page.rt: bytes written in a lent buffer
 mod parts; // parts.rt: what the answers are made of
 
 use refusal::Refusal;

@@ -4,7 +4,7 @@ ghost use Rattle.sheet.specs.Text.{shown, room};
 ghost use Rattle.answers.specs.Page.{Writes};
 use sheet::Text;
 
-pub(crate) fn put(s: &[u8], out: &mut [u8], at: usize) -> usize
+pub fn put(s: &[u8], out: &mut [u8], at: usize) -> usize
     ensures { λ r. ⌜ Writes (now (s .entry)) (now (out .entry)) at (now (out .exit)) r ⌝ }
 {
     let mut used = at;
@@ -20,7 +20,7 @@ pub(crate) fn put(s: &[u8], out: &mut [u8], at: usize) -> usize
     used
 }
 
-pub(crate) fn put_text(t: Text, out: &mut [u8], at: usize) -> usize
+pub fn put_text(t: Text, out: &mut [u8], at: usize) -> usize
     requires { ⌜ t .len ≤ room ⌝ }
     ensures { λ r. ⌜ Writes (shown t) (now (out .entry)) at (now (out .exit)) r ⌝ }
 {

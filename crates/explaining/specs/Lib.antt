@@ -1,0 +1,2 @@
+-- What a refusal means, in words.
+pub mod Explanation
