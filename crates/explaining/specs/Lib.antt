@@ -1,2 +1,3 @@
--- What a refusal means, in words.
+-- The sentence for each refusal, and the line that explains an answer.
+pub mod Sentences
 pub mod Explanation
