@@ -5,6 +5,7 @@ ghost use Rattle.spelling.specs.Number.{parsedOf};
 ghost use Rattle.explaining.specs.Explanation.{naturalOf, whereTold, explanation};
 
 mod sentences; // sentences.rt: the sentence for each refusal
+mod table; // table.rt: a line of a text
 
 use page::put;
 use spelling::Parsed;
