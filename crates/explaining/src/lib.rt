@@ -13,8 +13,8 @@ use whole::Int;
 use words::Words;
 use words::word;
 
-// Room for the longest of them, with two numbers of 32 bits.
-pub const EXPLANATION_ROOM: usize = 192;
+// Room for every one of them.
+pub const EXPLANATION_ROOM: usize = 320;
 
 // `refused` as a number: the first byte is the lowest.
 const REFUSED: u64 = 0x64657375666572;
