@@ -1,5 +1,5 @@
-// A line repeated before its answer, and a refusal explained after it. For these the answer stands alone among the bytes
-// that wait: what waited before is written first, and no answer fills their room.
+// A line repeated before its answer, and a refusal explained after it. For these the answer stands alone among the
+// bytes that wait: what waited before is written first, and no answer fills their room.
 use crate::options::Options;
 use crate::out::ROOM;
 use crate::out::flush;

@@ -23,15 +23,15 @@ the octave is not a whole number of nanovolts from 10,000,000 to 50,000,000; cor
 a value worked from the card, its V_Lr or a node's total would be out of reach; correct the number\n\
 no place is free, of 16 for cards and 64 for transistors; withdraw a card or lift a transistor\n\
 there is no such card or transistor; look at the numbers that loading and placing answered\n\
-a node is not one of 0 to 31, is missing, or has a voltage beyond 2,500,000; correct the number\n\
-C4 is not where C1 is, or C3 not where C4 is, and the card has no resistor there; place them on one node\n\
+a node is not one of 0 to 31, is missing, or goes beyond 2,500,000 microvolts; correct the number\n\
+C4 is not where C1 is, or C3 not where C4 is, with no resistor between; place the two on one node\n\
 a T would pass 8 amperes, or branch 8 its range; lower its drive or share the load\n\
 a transistor stands on this card; lift it first\n\
 all 65,535 numbers have been given; begin a fresh board\n\
 an injection term would pass 2^20; lower its drive, or look at the knee current\n\
 I_CSs is below 0, as older libraries had it; mend the library, or give I_CSs its value\n\
-a key of the model line is none, or stands twice; look at its spelling\n\
-a number has not the form of model lines, or cannot; write up to 15 digits and a power of -22 to 22\n\
+a key of the model line is none, or stands twice; look at its spelling, or leave one out\n\
+a number is not written as in model lines, or cannot be; use up to 15 digits, a power of -22 to 22\n\
 the model line does not give its octave; add octave= and a whole number of nanovolts\n\
 this is no model line; write .model, a name, npn or pnp, and KEY=NUMBER words\n\
 ",

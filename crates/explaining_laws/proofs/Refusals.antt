@@ -1,6 +1,6 @@
 -- The answer to a refusal is explained by the sentence of its number, with the values that it tells; and the line has
 -- room.
-use mathlib.Core.Path.{_≡_, refl, ap, _∙_}
+use mathlib.Core.Path.{_≡_, refl, ap}
 use mathlib.Core.List.{List, [], _∷_, _++_, map, append-assoc, append-nil}
 use Prim.Native.Nat.{ℕ, zero, suc, _^_, _≤_, _<_}
 use Prim.Native.String.{String}
@@ -26,7 +26,7 @@ use Rattle.answers.specs.Answers.{answerLine}
 use Rattle.explaining.specs.Lines.{lineLength, lineAt}
 use Rattle.explaining.specs.Sentences.{sentenceOf, branchEnds, endsOf}
 use Rattle.explaining.specs.Explanation.{refusedWord, whereTold, explanation}
-use Rattle.explaining_laws.proofs.FourWords.{lineOf, four-words}
+use Rattle.explaining_laws.proofs.FourWords.{four-words}
 use Rattle.explaining_laws.proofs.Digits.{decimal-word, decimal-parsed, plain-short}
 
 -- what is said of a refusal: its sentence, then the transistor and the branch where it tells them

@@ -21,14 +21,17 @@ returns c =
     let t = begun .before .before .before in
     let p = t .before in
     let number = n .natural .ensures ∙ ap (λ (b : List ℕ). naturalOf (parsedOf b)) (w .word2 .ensures) in
-    explains _ (p .before .before .words-of .ensures) (is-refused (p .packed .ensures) (p .before .word .ensures) (t .if1 .taken))
+    let refused = is-refused (p .packed .ensures) (p .before .word .ensures) (t .if1 .taken) in
+    explains _ (p .before .before .words-of .ensures) refused
     (then (begun .put .ensures)
-    (then (as-sentence (sym number) (said .put-sentence .ensures)) (then (placed .put-where .ensures) (c .put2 .ensures))))
+    (then (as-sentence (sym number) (said .put-sentence .ensures))
+    (then (placed .put-where .ensures) (c .put2 .ensures))))
 
 returns-2 : tie.Need-returns-2
 returns-2 c =
     let p = c .before in
-    explains-not _ (p .before .before .words-of .ensures) (is-another (p .packed .ensures) (p .before .word .ensures) (c .if1 .left))
+    let another = is-another (p .packed .ensures) (p .before .word .ensures) (c .if1 .left) in
+    explains-not _ (p .before .before .words-of .ensures) another
 
 pub explain-line-spec : {M : Type 1} → statement M
 explain-line-spec =

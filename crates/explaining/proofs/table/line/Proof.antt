@@ -13,7 +13,8 @@ abbrev μ-loop : tie.MeasureT-loop
 returns : tie.Need-returns Inv-loop μ-loop
 returns c =
     let l = c .before .before in
-    left-end (l .before .before .loop .inv) (l .line-length .ensures) (l .before .loop-test .taken) (c .before .if1 .taken)
+    left-end (l .before .before .loop .inv) (l .line-length .ensures) (l .before .loop-test .taken)
+    (c .before .if1 .taken)
 
 loop-again : tie.Need-loop-again Inv-loop μ-loop
 loop-again c =
