@@ -3,7 +3,7 @@ use mathlib.Core.Path.{_≡_, ap}
 use mathlib.Core.List.{List}
 use Prim.Native.Nat.{ℕ}
 use Rattle.refusal.specs.Unique.{unique-by-equation}
-use Rattle.answers.specs.Page.{Page, Writes}
+use Rattle.page.specs.Page.{Page, Writes}
 
 -- every byte of the buffer in which a line is written, and how many it has
 pub unique-writes : {l old : List ℕ} {at : ℕ} {new new′ : List ℕ} {end end′ : ℕ}

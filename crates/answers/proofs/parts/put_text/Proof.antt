@@ -5,8 +5,8 @@ use lib.ListN.{length}
 use borrow.Author.Needs.{needs}
 use Rattle.sheet.specs.Text.{room}
 use Rattle.answers.proofs.Written.{first-written}
-use Rattle.answers.proofs.page.put_text.Tie as tie
-use Rattle.answers.proofs.page.put_text.Statement.{statement}
+use Rattle.answers.proofs.parts.put_text.Tie as tie
+use Rattle.answers.proofs.parts.put_text.Statement.{statement}
 
 part-put-end : tie.Need-part-put-end
 part-put-end c =

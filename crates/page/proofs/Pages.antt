@@ -8,7 +8,7 @@ use borrow.Author.Tests.{lt-ltb, le-ltb}
 use lib.Dec.{ltb}
 use lib.ListN.{length, drop, getD, set, length-set, drop-of-length-le}
 use lib.Seq.{drop-cons}
-use Rattle.answers.specs.Page.{Page, page, byteIf, withByte, withBytes, Writes}
+use Rattle.page.specs.Page.{Page, page, byteIf, withByte, withBytes, Writes}
 
 pub write-two : (p : Page) (a b : List ℕ) → withBytes p (a ++ b) ≡ withBytes (withBytes p a) b
 unfolding withBytes

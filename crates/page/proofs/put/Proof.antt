@@ -2,9 +2,9 @@
 use Prim.Native.Nat.{_-_}
 use lib.ListN.{length}
 use borrow.Author.Needs.{needs}
-use Rattle.answers.proofs.Pages.{Left, left-all, left-on, left-full, left-none}
-use Rattle.answers.proofs.page.put.Tie as tie
-use Rattle.answers.proofs.page.put.Statement.{statement}
+use Rattle.page.proofs.Pages.{Left, left-all, left-on, left-full, left-none}
+use Rattle.page.proofs.put.Tie as tie
+use Rattle.page.proofs.put.Statement.{statement}
 
 abbrev Inv-loop : tie.InvT-loop
 Inv-loop s out₀ at used₀ i₀ out used i = Left s out₀ used₀ out used i
