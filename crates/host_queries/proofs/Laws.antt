@@ -17,8 +17,8 @@ use Rattle.board.specs.declared.Board.{Board}
 use Rattle.board.specs.declared.Answered.{Answered}
 use Rattle.board.specs.Promise.{modelOf, givenAs, handedAs}
 use Rattle.board.specs.Unique.{Allows, AllowsLent, AllowsList}
-use Rattle.host_words.specs.Words.{resultOf, issueOver, voltageOver, totalOver, countOver}
-use Rattle.host_words.specs.Words.{transistorsOver, cardsOver, largestOver}
+use Rattle.host_words.specs.Words.{resultOf, issueOver}
+use Rattle.host_values.specs.Values.{voltageOver, totalOver, countOver, transistorsOver, cardsOver, largestOver}
 use Rattle.host_queries.specs.Queries.{LookedUp, Shown, openingOf, filledIf, Opened, Listed, SummedUp}
 
 module _ {a : Answered} where

@@ -1,3 +1,1 @@
 pub mod Queries
-pub mod Unique
-pub mod Refused

@@ -11,8 +11,8 @@ use Rattle.refusal.specs.Told.{numberOf}
 use Rattle.bytes_le.specs.Buffer.{over}
 use Rattle.model.specs.Board as model
 use Rattle.lending.specs.Lending.{Lent}
-use Rattle.host_words.specs.Words.{resultOf, issueOver, voltageOver, totalOver, countOver}
-use Rattle.host_words.specs.Words.{transistorsOver, cardsOver, largestOver}
+use Rattle.host_words.specs.Words.{resultOf, issueOver}
+use Rattle.host_values.specs.Values.{voltageOver, totalOver, countOver, transistorsOver, cardsOver, largestOver}
 
 -- a card's number in the place i
 pub record LookedUp (a : model.Answered) (i i′ r : ℕ) : Type 0 where

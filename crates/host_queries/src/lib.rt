@@ -34,7 +34,7 @@ pub fn read_node(
 {
     let asked = board.read_node(volts, totals, node);
     let answer = asked.answer;
-    host_words::tell_node(answer, microvolts, ticks)
+    host_values::tell_node(answer, microvolts, ticks)
 }
 
 // Numbers put at the start of a buffer, where it has room for all of them; tells whether it has.
@@ -78,7 +78,7 @@ pub fn list_node(board: Board, node: i64, list: &mut [u32], count: &mut u32) -> 
 {
     let asked = board.list_node(node, list);
     let answer = asked.answer;
-    host_words::tell_count(answer, count)
+    host_values::tell_count(answer, count)
 }
 
 // A node summed up, in the lent places.
@@ -94,5 +94,5 @@ pub fn sum_up(
 {
     let asked = board.sum_up(node);
     let answer = asked.answer;
-    host_words::tell_sum(answer, transistors, cards, largest)
+    host_values::tell_sum(answer, transistors, cards, largest)
 }

@@ -1,2 +1,1 @@
 pub mod Shelf
-pub mod Unique

@@ -1,6 +1,6 @@
-// The board's answers in plain numbers, as a host in another language takes them: the result of a call, 0 or a refusal's number, and the values of the answer in lent places, each left as it was where the answer has no such value.
+// The board's answers in plain numbers, as a host in another language takes them: the result of a call, 0 or a refusal's number; and in lent places an issue number and who overloads in which branch, each left as it was where the answer has no such value.
 ghost use mathlib.Core.Path.{_≡_};
-ghost use Rattle.host_words.specs.Words.{resultOf, whoIn, branchIn, whoOver, branchOver, issueOver, voltageOver, totalOver, countOver, transistorsOver, cardsOver, largestOver};
+ghost use Rattle.host_words.specs.Words.{resultOf, whoIn, branchIn, whoOver, branchOver, issueOver};
 use model::Answer;
 use refusal::Refusal;
 
@@ -83,90 +83,6 @@ fn issue_over(a: Answer, was: u32) -> u32
     }
 }
 
-fn voltage_over(a: Answer, was: i64) -> i64
-    ensures { λ r. ⌜ r ≡ voltageOver a was ⌝ }
-{
-    match a {
-        Answer::Issue(_) => was,
-        Answer::Done => was,
-        Answer::Node(v, _) => v,
-        Answer::Currents => was,
-        Answer::Listed(_) => was,
-        Answer::Summed(_, _, _) => was,
-        Answer::Refused(_) => was,
-    }
-}
-
-fn total_over(a: Answer, was: i64) -> i64
-    ensures { λ r. ⌜ r ≡ totalOver a was ⌝ }
-{
-    match a {
-        Answer::Issue(_) => was,
-        Answer::Done => was,
-        Answer::Node(_, t) => t,
-        Answer::Currents => was,
-        Answer::Listed(_) => was,
-        Answer::Summed(_, _, _) => was,
-        Answer::Refused(_) => was,
-    }
-}
-
-fn count_over(a: Answer, was: u32) -> u32
-    ensures { λ r. ⌜ r ≡ countOver a was ⌝ }
-{
-    match a {
-        Answer::Issue(_) => was,
-        Answer::Done => was,
-        Answer::Node(_, _) => was,
-        Answer::Currents => was,
-        Answer::Listed(n) => n,
-        Answer::Summed(_, _, _) => was,
-        Answer::Refused(_) => was,
-    }
-}
-
-fn transistors_over(a: Answer, was: u32) -> u32
-    ensures { λ r. ⌜ r ≡ transistorsOver a was ⌝ }
-{
-    match a {
-        Answer::Issue(_) => was,
-        Answer::Done => was,
-        Answer::Node(_, _) => was,
-        Answer::Currents => was,
-        Answer::Listed(_) => was,
-        Answer::Summed(t, _, _) => t,
-        Answer::Refused(_) => was,
-    }
-}
-
-fn cards_over(a: Answer, was: u32) -> u32
-    ensures { λ r. ⌜ r ≡ cardsOver a was ⌝ }
-{
-    match a {
-        Answer::Issue(_) => was,
-        Answer::Done => was,
-        Answer::Node(_, _) => was,
-        Answer::Currents => was,
-        Answer::Listed(_) => was,
-        Answer::Summed(_, c, _) => c,
-        Answer::Refused(_) => was,
-    }
-}
-
-fn largest_over(a: Answer, was: u64) -> u64
-    ensures { λ r. ⌜ r ≡ largestOver a was ⌝ }
-{
-    match a {
-        Answer::Issue(_) => was,
-        Answer::Done => was,
-        Answer::Node(_, _) => was,
-        Answer::Currents => was,
-        Answer::Listed(_) => was,
-        Answer::Summed(_, _, l) => l,
-        Answer::Refused(_) => was,
-    }
-}
-
 // A card's number.
 pub fn tell_issue(a: Answer, issue: &mut u32) -> u32
     ensures { λ r. ⌜ r ≡ resultOf a ⌝ }
@@ -203,44 +119,5 @@ pub fn tell_placed(a: Answer, number: &mut u32, who: &mut u32, branch: &mut u32)
     *who = who_over(a, who_had);
     let branch_had = *branch;
     *branch = branch_over(a, branch_had);
-    result_of(a)
-}
-
-// A node's numbers.
-pub fn tell_node(a: Answer, microvolts: &mut i64, ticks: &mut i64) -> u32
-    ensures { λ r. ⌜ r ≡ resultOf a ⌝ }
-    ensures { λ _. ⌜ now (microvolts .exit) ≡ voltageOver a (now (microvolts .entry)) ⌝ }
-    ensures { λ _. ⌜ now (ticks .exit) ≡ totalOver a (now (ticks .entry)) ⌝ }
-{
-    let microvolts_was = *microvolts;
-    *microvolts = voltage_over(a, microvolts_was);
-    let ticks_was = *ticks;
-    *ticks = total_over(a, ticks_was);
-    result_of(a)
-}
-
-// How many were listed.
-pub fn tell_count(a: Answer, count: &mut u32) -> u32
-    ensures { λ r. ⌜ r ≡ resultOf a ⌝ }
-    ensures { λ _. ⌜ now (count .exit) ≡ countOver a (now (count .entry)) ⌝ }
-{
-    let count_was = *count;
-    *count = count_over(a, count_was);
-    result_of(a)
-}
-
-// A node summed up.
-pub fn tell_sum(a: Answer, transistors: &mut u32, cards: &mut u32, largest: &mut u64) -> u32
-    ensures { λ r. ⌜ r ≡ resultOf a ⌝ }
-    ensures { λ _. ⌜ now (transistors .exit) ≡ transistorsOver a (now (transistors .entry)) ⌝ }
-    ensures { λ _. ⌜ now (cards .exit) ≡ cardsOver a (now (cards .entry)) ⌝ }
-    ensures { λ _. ⌜ now (largest .exit) ≡ largestOver a (now (largest .entry)) ⌝ }
-{
-    let transistors_was = *transistors;
-    *transistors = transistors_over(a, transistors_was);
-    let cards_was = *cards;
-    *cards = cards_over(a, cards_was);
-    let largest_was = *largest;
-    *largest = largest_over(a, largest_was);
     result_of(a)
 }

@@ -1,12 +1,15 @@
--- A refused query leaves every lent place and buffer as it was.
+-- A refused question, to a board or to a library, leaves every lent place and buffer as it was.
 use mathlib.Core.Path.{_≡_, refl, _∙_}
 use mathlib.Core.List.{List}
 use Prim.Native.Nat.{ℕ}
 use lib.ListN.{length}
 use lib.IntN.{ℤ}
 use borrow.Author.Tests.{ne-eqb}
-use Rattle.refusal.specs.Order.{Verdict, no, yes}
+use Rattle.refusal.specs.Order.{Verdict, no, yes, numberTold}
 use Rattle.bytes_le.specs.Buffer.{over}
+use Rattle.directory.specs.Format.{directory, records, wordsIn}
+use Rattle.finding.specs.Answers.{locating}
+use Rattle.library.specs.Answers.{left, read}
 use Rattle.model.specs.Board as model
 use Rattle.model.specs.declared.Answer.{Answer}
 use Rattle.model.specs.declared.Answer.the-variants.{Issue, Done, Node, Currents, Listed, Summed, Refused}
@@ -15,10 +18,11 @@ use Rattle.lending.specs.Rest.{bare}
 use Rattle.lending.specs.Lending as lending
 use Rattle.board.specs.declared.Board.{Board}
 use Rattle.board.specs.Promise.{modelOf}
-use Rattle.host_words.specs.Words.{resultOf, issueOver, voltageOver, totalOver, countOver}
-use Rattle.host_words.specs.Words.{transistorsOver, cardsOver, largestOver}
+use Rattle.host_words.specs.Words.{resultOf, issueOver}
+use Rattle.host_values.specs.Values.{voltageOver, totalOver, countOver, transistorsOver, cardsOver, largestOver}
 use Rattle.host_queries.specs.Queries as queries
 use Rattle.host_queries.specs.Queries.{LookedUp, Shown, Opened, SummedUp}
+use Rattle.host_shelf.specs.Shelf.{firstOver, secondOver, ReadOut, Found}
 
 -- an answer with a result that is not 0 is a refusal, which has no value
 module _ (a : Answer) (some : resultOf a ≡ 0 → ⊥) where
@@ -102,3 +106,29 @@ module _ (b : Board) (node : ℤ) {old new : List ℕ} {n n′ r : ℕ} where
           over (calls.listed (bare (modelOf b)) v .list) old ≡ old
       go (no f) k = refl
       go (yes i) k = absurd (k refl)
+
+-- ---- a library
+
+-- a verdict whose number is not 0 refuses
+numbers-stay : (d : Verdict (ℕ × ℕ)) → (numberTold d ≡ 0 → ⊥) → (a b : ℕ) → (firstOver d a ≡ a) × (secondOver d b ≡ b)
+numbers-stay (no f) k a b = (refl, refl)
+numbers-stay (yes p) k a b = absurd (k refl)
+
+buffer-stays : (d : Verdict (ℕ × ℕ)) → (numberTold d ≡ 0 → ⊥) → (new old : List ℕ) → left d new old ≡ old
+buffer-stays (no f) k new old = refl
+buffer-stays (yes p) k new old = absurd (k refl)
+
+pub refused-read : {s ns ns′ ws ws′ : List ℕ} {c c′ v v′ r : ℕ} → ReadOut s ns ns′ ws ws′ c c′ v v′ r → (r ≡ 0 → ⊥) →
+    (ns′ ≡ ns) × ((ws′ ≡ ws) × ((c′ ≡ c) × (v′ ≡ v)))
+refused-read {s} {ns} {ns′} {ws} {ws′} {c} {c′} {v} p k =
+    let d = read s (length ns) (length ws) in
+    let some : numberTold (read s (length ns) (length ws)) ≡ 0 → ⊥ = λ z. k (p .result ∙ z) in
+    let numbers = numbers-stay d some c v in (
+      p .names ∙ buffer-stays d some (directory s) ns,
+      (p .words ∙ buffer-stays d some (wordsIn (records s)) ws, (p .cards ∙ numbers .0, p .version ∙ numbers .1)),
+    )
+
+pub refused-find : {s x : List ℕ} {a a′ z z′ r : ℕ} → Found s x a a′ z z′ r → (r ≡ 0 → ⊥) → (a′ ≡ a) × (z′ ≡ z)
+refused-find {s} {x} {a} {a′} {z} p k =
+    let numbers = numbers-stay (locating s x) (λ e. k (p .result ∙ e)) a z in
+    (p .at ∙ numbers .0, p .size ∙ numbers .1)

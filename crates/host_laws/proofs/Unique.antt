@@ -1,4 +1,4 @@
--- One call has one outcome: whatever two results, boards, slices and places a promise allows are the same.
+-- One call has one outcome: whatever two results, boards, slices, buffers and places a promise allows are the same.
 use mathlib.Core.Path.{_≡_, refl, sym, ap, _∙_}
 use mathlib.Core.Bool.{cond}
 use mathlib.Core.List.{List}
@@ -11,7 +11,11 @@ use Rattle.lending.specs.Lending.{Lent, freshLent}
 use Rattle.board.specs.declared.Board.{Board}
 use Rattle.board.specs.declared.Answered.{Answered}
 use Rattle.board.specs.Promise.{handedAs}
 use Rattle.host_changes.specs.Changes.{Leaves, Begun, Loaded, Placed, Moved, Lifted}
+use Rattle.host_queries.specs.Queries.{LookedUp, Shown, filledIf, Opened, Listed, SummedUp}
+use Rattle.host_shelf.specs.Shelf.{ReadOut, Found}
+
+-- ---- calls that change a board
 
 module _ {b′ b″ : Board} {r s : ℕ} where
   pub unique-leaves : {e : Answered} → Leaves e b′ r → Leaves e b″ s → (r ≡ s) × (b′ ≡ b″)
@@ -74,3 +78,61 @@ module _ {b′ b″ : Board} {r s : ℕ} where
   unique-lifted p q =
       let same = unique-leaves (p .leaves) (q .leaves) in
       (same .0, (same .1, unique-by-equation (p .totals) (q .totals)))
+
+-- ---- calls that only read it
+
+pub unique-looked-up : {a : model.Answered} {i i′ i″ r s : ℕ} → LookedUp a i i′ r → LookedUp a i i″ s → (r ≡ s) × (i′ ≡ i″)
+unique-looked-up p q = (unique-by-equation (p .result) (q .result), unique-by-equation (p .issue) (q .issue))
+
+pub unique-shown : {l : Lent} {x x′ x″ y y′ y″ : ℤ} {r s : ℕ} → Shown l x x′ y y′ r → Shown l x x″ y y″ s →
+    (r ≡ s) × ((x′ ≡ x″) × (y′ ≡ y″))
+unique-shown p q = (
+  unique-by-equation (p .result) (q .result),
+  (unique-by-equation (p .microvolts) (q .microvolts), unique-by-equation (p .ticks) (q .ticks)),
+)
+
+pub unique-opened : {a : model.Answered} {old new new′ : List ℤ} {r s : ℕ} → Opened a old new r → Opened a old new′ s →
+    (r ≡ s) × (new ≡ new′)
+unique-opened {a} {old} p q =
+    let same = unique-by-equation (p .result) (q .result) in
+    (same, p .currents ∙ ap (λ (n : ℕ). filledIf (eqb n 0) (a .ticks) old) same ∙ sym (q .currents))
+
+pub unique-listed : {a : model.Answered} {old new new′ : List ℕ} {n n′ n″ r s : ℕ} → Listed a old new n n′ r →
+    Listed a old new′ n n″ s → (r ≡ s) × ((new ≡ new′) × (n′ ≡ n″))
+unique-listed p q = (
+  unique-by-equation (p .result) (q .result),
+  (unique-by-equation (p .list) (q .list), unique-by-equation (p .count) (q .count)),
+)
+
+pub unique-summed-up : {a : model.Answered} {t t′ t″ c c′ c″ l l′ l″ r s : ℕ} → SummedUp a t t′ c c′ l l′ r →
+    SummedUp a t t″ c c″ l l″ s → (r ≡ s) × ((t′ ≡ t″) × ((c′ ≡ c″) × (l′ ≡ l″)))
+unique-summed-up p q = (
+  unique-by-equation (p .result) (q .result),
+  (
+    unique-by-equation (p .transistors) (q .transistors),
+    (unique-by-equation (p .cards) (q .cards), unique-by-equation (p .largest) (q .largest)),
+  ),
+)
+
+-- ---- a library
+
+pub unique-read-out : {s ns ns′ ns″ ws ws′ ws″ : List ℕ} {c c′ c″ v v′ v″ r q : ℕ} →
+    ReadOut s ns ns′ ws ws′ c c′ v v′ r → ReadOut s ns ns″ ws ws″ c c″ v v″ q →
+    (r ≡ q) × ((ns′ ≡ ns″) × ((ws′ ≡ ws″) × ((c′ ≡ c″) × (v′ ≡ v″))))
+unique-read-out p q = (
+  unique-by-equation (p .result) (q .result),
+  (
+    unique-by-equation (p .names) (q .names),
+    (
+      unique-by-equation (p .words) (q .words),
+      (unique-by-equation (p .cards) (q .cards), unique-by-equation (p .version) (q .version)),
+    ),
+  ),
+)
+
+pub unique-found : {s x : List ℕ} {a a′ a″ z z′ z″ r q : ℕ} → Found s x a a′ z z′ r → Found s x a a″ z z″ q →
+    (r ≡ q) × ((a′ ≡ a″) × (z′ ≡ z″))
+unique-found p q = (
+  unique-by-equation (p .result) (q .result),
+  (unique-by-equation (p .at) (q .at), unique-by-equation (p .size) (q .size)),
+)

@@ -3,9 +3,9 @@ use mathlib.Core.Path.{_≡_, ap, _∙_}
 use mir.Syntax.{w64}
 use mir.Val.{toZ, ofZ}
 use borrow.Author.Needs.{needs}
-use Rattle.host_words.specs.Words.{voltageOver, totalOver}
-use Rattle.host_words.proofs.tell_node.Statement.{statement}
-use Rattle.host_words.proofs.tell_node.Tie as tie
+use Rattle.host_values.specs.Values.{voltageOver, totalOver}
+use Rattle.host_values.proofs.tell_node.Statement.{statement}
+use Rattle.host_values.proofs.tell_node.Tie as tie
 
 returns : tie.Need-returns
 returns c =
