@@ -22,18 +22,21 @@ static struct {
     size_t most;
 } calls[16];
 
+static uint8_t *low; /* the first byte that is painted */
+
+/* up to what this function may use itself */
 __attribute__((noinline)) static void paint(void) {
-    volatile uint8_t below[PAINTED];
-    for (size_t i = 0; i < PAINTED; i++) below[i] = 0xa5;
-    (void)below[0];
+    uint8_t *here;
+    __asm__ volatile("mov %%rsp, %0" : "=r"(here));
+    low = here - PAINTED;
+    for (volatile uint8_t *p = low; p < here - 256; p++) *p = 0xa5;
 }
 
 /* the bytes from the first that is not painted any more up to the top */
-__attribute__((noinline)) static size_t painted_over(void) {
-    volatile uint8_t below[PAINTED];
-    size_t i = 0;
-    while (i < PAINTED && below[i] == 0xa5) i++;
-    return PAINTED - i;
+static size_t painted_over(void) {
+    const volatile uint8_t *p = low;
+    while (p < low + PAINTED && *p == 0xa5) p++;
+    return (size_t)(low + PAINTED - p);
 }
 
 static void took(const char *name, size_t bytes) {

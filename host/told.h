@@ -17,25 +17,25 @@ static FILE *lines, *answers;
 static struct desk_board board_was;
 static int64_t volts_were[DESK_NODES], totals_were[DESK_NODES];
 
-static void keep(void) {
+static inline void keep(void) {
     memcpy(&board_was, &board, sizeof board);
     memcpy(volts_were, volts, sizeof volts);
     memcpy(totals_were, totals, sizeof totals);
 }
 
-static void end(const char *why) {
+static inline void end(const char *why) {
     printf("%s\n", why);
     exit(1);
 }
 
-static int changed(void) {
+static inline int changed(void) {
     return memcmp(&board_was, &board, sizeof board) || memcmp(volts_were, volts, sizeof volts) ||
            memcmp(totals_were, totals, sizeof totals);
 }
 
 /* ---- answers in the desk's words */
 
-static void refused(uint32_t r, uint32_t who, uint32_t branch) {
+static inline void refused(uint32_t r, uint32_t who, uint32_t branch) {
     if (changed()) end("a refused call changed something");
     if (r == 15 || r == 18)
         fprintf(answers, "refused %u %u %u\n", r, who, branch);
@@ -43,7 +43,7 @@ static void refused(uint32_t r, uint32_t who, uint32_t branch) {
         fprintf(answers, "refused %u\n", r);
 }
 
-static uint32_t numbered(const char *what, uint32_t r, uint32_t issue, uint32_t was, uint32_t who, uint32_t branch) {
+static inline uint32_t numbered(const char *what, uint32_t r, uint32_t issue, uint32_t was, uint32_t who, uint32_t branch) {
     if (r == 0) {
         fprintf(answers, "%s %u\n", what, issue);
         return issue;
@@ -53,13 +53,13 @@ static uint32_t numbered(const char *what, uint32_t r, uint32_t issue, uint32_t 
     return 0;
 }
 
-static void word(const uint8_t *name, size_t n) {
+static inline void word(const uint8_t *name, size_t n) {
     for (size_t i = 0; i < n; i++) fprintf(lines, "%c", name[i]);
 }
 
 /* ---- the calls */
 
-static void tell_library(const char *path) {
+static inline void tell_library(const char *path) {
     FILE *f = fopen(path, "rb");
     static uint8_t names[4096];
     static uint64_t words[6144];
@@ -76,11 +76,11 @@ static void tell_library(const char *path) {
         refused(r, 0, 0);
 }
 
-static void tell_fresh(void) {
+static inline void tell_fresh(void) {
     if (desk_fresh(&board, volts, DESK_NODES, totals, DESK_NODES)) end("a fresh board was refused");
 }
 
-static uint32_t tell_record(const char *name, const uint8_t *record, size_t n) {
+static inline uint32_t tell_record(const char *name, const uint8_t *record, size_t n) {
     uint32_t issue = 4000000000u;
     keep();
     uint32_t r = desk_load(&board, (const uint8_t *)name, strlen(name), record, n, &issue);
@@ -92,7 +92,7 @@ static uint32_t tell_record(const char *name, const uint8_t *record, size_t n) {
 }
 
 /* found in the library, then loaded under that name */
-static uint32_t tell_load(const char *name) {
+static inline uint32_t tell_load(const char *name) {
     size_t at = 77, size = 77, n = strlen(name);
     uint32_t issue = 4000000000u;
     keep();
@@ -108,7 +108,7 @@ static uint32_t tell_load(const char *name) {
 }
 
 /* a line that begins with `.model` */
-static uint32_t tell_line(const char *line) {
+static inline uint32_t tell_line(const char *line) {
     uint32_t issue = 4000000000u;
     keep();
     uint32_t r = desk_load_line(&board, (const uint8_t *)line, strlen(line), &issue);
@@ -116,7 +116,7 @@ static uint32_t tell_line(const char *line) {
     return numbered("card", r, issue, 4000000000u, 0, 0);
 }
 
-static void tell_find(const uint8_t *name, size_t n) {
+static inline void tell_find(const uint8_t *name, size_t n) {
     size_t at = 77, size = 77;
     keep();
     uint32_t r = desk_find(library, library_n, name, n, &at, &size);
@@ -129,7 +129,7 @@ static void tell_find(const uint8_t *name, size_t n) {
         refused(r, 0, 0);
 }
 
-static uint32_t tell_place(int64_t card, const int64_t *nodes, size_t n) {
+static inline uint32_t tell_place(int64_t card, const int64_t *nodes, size_t n) {
     uint32_t issue = 4000000000u, who = 0, branch = 0;
     keep();
     uint32_t r = desk_place(&board, volts, DESK_NODES, totals, DESK_NODES, card, nodes, n, &issue, &who, &branch);
@@ -139,14 +139,14 @@ static uint32_t tell_place(int64_t card, const int64_t *nodes, size_t n) {
     return numbered("transistor", r, issue, 4000000000u, who, branch);
 }
 
-static void done(const char *what, uint32_t r, uint32_t who, uint32_t branch) {
+static inline void done(const char *what, uint32_t r, uint32_t who, uint32_t branch) {
     if (r == 0)
         fprintf(answers, "%s\n", what);
     else
         refused(r, who, branch);
 }
 
-static uint32_t tell_move(int64_t node, int64_t microvolts) {
+static inline uint32_t tell_move(int64_t node, int64_t microvolts) {
     uint32_t who = 0, branch = 0;
     keep();
     uint32_t r = desk_move(&board, volts, DESK_NODES, totals, DESK_NODES, node, microvolts, &who, &branch);
@@ -155,7 +155,7 @@ static uint32_t tell_move(int64_t node, int64_t microvolts) {
     return r;
 }
 
-static uint32_t tell_moves(const int64_t *pairs, size_t n) {
+static inline uint32_t tell_moves(const int64_t *pairs, size_t n) {
     uint32_t who = 0, branch = 0;
     keep();
     uint32_t r = desk_move_all(&board, volts, DESK_NODES, totals, DESK_NODES, pairs, n, &who, &branch);
@@ -166,21 +166,21 @@ static uint32_t tell_moves(const int64_t *pairs, size_t n) {
     return r;
 }
 
-static void tell_lift(int64_t transistor) {
+static inline void tell_lift(int64_t transistor) {
     keep();
     uint32_t r = desk_lift(&board, volts, DESK_NODES, totals, DESK_NODES, transistor);
     fprintf(lines, "lift %lld\n", (long long)transistor);
     done("lifted", r, 0, 0);
 }
 
-static void tell_withdraw(int64_t card) {
+static inline void tell_withdraw(int64_t card) {
     keep();
     uint32_t r = desk_withdraw(&board, card);
     fprintf(lines, "withdraw %lld\n", (long long)card);
     done("withdrawn", r, 0, 0);
 }
 
-static void tell_lookup(const uint8_t *name, size_t n) {
+static inline void tell_lookup(const uint8_t *name, size_t n) {
     uint32_t issue = 4000000000u;
     keep();
     uint32_t r = desk_look_up(&board, name, n, &issue);
@@ -191,7 +191,7 @@ static void tell_lookup(const uint8_t *name, size_t n) {
     if (changed()) end("a query changed something");
 }
 
-static void tell_node(int64_t node) {
+static inline void tell_node(int64_t node) {
     int64_t v = 1234567, t = 7654321;
     keep();
     uint32_t r = desk_read_node(&board, volts, DESK_NODES, totals, DESK_NODES, node, &v, &t);
@@ -206,7 +206,7 @@ static void tell_node(int64_t node) {
     if (changed()) end("a query changed something");
 }
 
-static void tell_currents(int64_t transistor) {
+static inline void tell_currents(int64_t transistor) {
     int64_t ticks[DESK_BRANCHES];
     memset(ticks, 85, sizeof ticks);
     keep();
@@ -222,7 +222,7 @@ static void tell_currents(int64_t transistor) {
     if (changed()) end("a query changed something");
 }
 
-static void tell_who(int64_t node) {
+static inline void tell_who(int64_t node) {
     uint32_t list[DESK_TRANSISTORS], count = 99;
     keep();
     uint32_t r = desk_list_node(&board, node, list, DESK_TRANSISTORS, &count);
@@ -237,7 +237,7 @@ static void tell_who(int64_t node) {
     if (changed()) end("a query changed something");
 }
 
-static void tell_sum(int64_t node) {
+static inline void tell_sum(int64_t node) {
     uint32_t transistors = 99, cards = 99;
     uint64_t largest = 99;
     keep();
@@ -250,17 +250,17 @@ static void tell_sum(int64_t node) {
     if (changed()) end("a query changed something");
 }
 
-static void tell_all_nodes(void) {
+static inline void tell_all_nodes(void) {
     for (int64_t n = 0; n < DESK_NODES; n++) tell_node(n);
 }
 
-static void open_files(const char *said, const char *answered) {
+static inline void open_files(const char *said, const char *answered) {
     lines = fopen(said, "w");
     answers = fopen(answered, "w");
     if (!lines || !answers) end("a file cannot be opened");
 }
 
-static void close_files(void) {
+static inline void close_files(void) {
     fclose(lines);
     fclose(answers);
 }

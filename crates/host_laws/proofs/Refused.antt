@@ -1,12 +1,18 @@
--- A refused call changes nothing: the board, both slices and a lent issue number are what they were. (Where 15 or 18 is
--- told, who overloads in which branch stands in the two places that are lent for that.)
+-- A refused call changes nothing: the board, both slices and a lent issue number are what they were. Who overloads in
+-- which branch is written where 15 or 18 is told, and nowhere else.
 use mathlib.Core.Path.{_≡_, refl, ap, _∙_}
 use mathlib.Core.Bool.{Bool, true, false, _||_}
 use mathlib.Core.List.{List}
 use Prim.Native.Nat.{ℕ}
 use lib.IntN.{ℤ}
 use borrow.Author.Tests.{ne-eqb}
-use Rattle.refusal.specs.declared.Refusal.the-variants.{OutOfReach, OutOfRange}
+use Rattle.refusal.specs.declared.Refusal.{Refusal}
+use Rattle.refusal.specs.declared.Refusal.the-variants.{Malformed, BadName, NameTwice, NameNotHeld, ShortOutput}
+use Rattle.refusal.specs.declared.Refusal.the-variants.{NotFinite, WrongLevel, BadExsub, BadOctave, OutOfReach}
+use Rattle.refusal.specs.declared.Refusal.the-variants.{NoRoom, Unknown, OutOfRange, SplitCollector, Overload}
+use Rattle.refusal.specs.declared.Refusal.the-variants.{CardInUse, NumbersUsedUp, Injection, NegativeIcss}
+use Rattle.refusal.specs.declared.Refusal.the-variants.{BadKey, BadNumber, KeyMissing, BadLine}
+use Rattle.refusal.specs.Told.{numberOf}
 use Rattle.refusal.specs.Clash.{clash}
 use Rattle.refusal.specs.Order.{Verdict, no, yes, refuseIf, andThen}
 use Rattle.slices.specs.Slices.{otherLength, offSlices, someOutside}
@@ -20,9 +26,13 @@ use Rattle.lending.specs.Lending as lending
 use Rattle.lending.specs.Lending.{refusalIn, changeVerdict, lentBy, changing, freshBy}
 use Rattle.board.specs.declared.Board.{Board}
 use Rattle.board.specs.Promise.{modelOf, boardOf, stateIn, givenAs}
-use Rattle.host_words.specs.Words.{resultOf, issueOver}
+use Rattle.host_words.specs.Words.{resultOf, issueOver, whoIn, branchIn, whoOver, branchOver}
+use Rattle.line_read.specs.Line.{Model}
+use Rattle.line_read.specs.Answers.{readingOf, nameLeft, recordLeft}
+use Rattle.listed.specs.Listed.{unpadded}
 use Rattle.host_changes.specs.Changes as changes
 use Rattle.host_changes.specs.Changes.{Leaves, Begun, Loaded, isList, placingIf, placingOf, Placed, Moved, Lifted}
+use Rattle.host_lines.specs.Lines as lines
 
 -- what passes every test was not refused by the board that was
 passed : (off outside : Bool) (a told : Answer) →
@@ -77,6 +87,16 @@ module _ {b b′ : Board} {r : ℕ} where
       go (no f) k = (refl, refl)
       go (yes c) k = absurd (k refl)
 
+  pub refused-line : (line : List ℕ) {i i′ : ℕ} → Loaded (lines.lineLoadedOf (bare (modelOf b)) line) b′ i i′ r →
+      (r ≡ 0 → ⊥) → (b′ ≡ b) × (i′ ≡ i)
+  unfolding lines.lineLoadedOf
+  refused-line line {i} {i′} p k = go (readingOf line lines.noName lines.noRecord) p
+    where
+      go : (v : Verdict Model) → Loaded (lines.loadedBy (bare (modelOf b)) v) b′ i i′ r → (b′ ≡ b) × (i′ ≡ i)
+      go (no f) q = (q .leaves .board, q .issue)
+      go (yes m) q =
+          refused-load (unpadded (nameLeft (yes m) lines.noName)) (recordLeft (yes m) lines.noRecord) q k
+
   pub refused-withdraw : (n : ℤ) → Leaves (givenAs (calls.withdrawnOf (bare (modelOf b)) n)) b′ r → (r ≡ 0 → ⊥) → b′ ≡ b
   unfolding calls.withdrawnOf
   refused-withdraw n p k = p .board ∙ go (calls.mayWithdraw (bare (modelOf b)) n) (λ z. k (p .result ∙ z))
@@ -122,3 +142,51 @@ module _ {b b′ : Board} {r : ℕ} where
         go true k =
             changing-stays (λ (x : model.Board). calls.placedOf x card (changes.rolesOf nodes)) (stateIn b v t) i k
         go false k = (refl, refl)
+
+-- ---- who overloads in which branch
+
+module _ (w k : ℕ) where
+  alone : (f : Refusal) → (numberOf f ≡ 15 → ⊥) → (numberOf f ≡ 18 → ⊥) → (whoIn f w ≡ w) × (branchIn f k ≡ k)
+  alone Malformed over inject = (refl, refl)
+  alone BadName over inject = (refl, refl)
+  alone NameTwice over inject = (refl, refl)
+  alone NameNotHeld over inject = (refl, refl)
+  alone ShortOutput over inject = (refl, refl)
+  alone NotFinite over inject = (refl, refl)
+  alone WrongLevel over inject = (refl, refl)
+  alone BadExsub over inject = (refl, refl)
+  alone BadOctave over inject = (refl, refl)
+  alone OutOfReach over inject = (refl, refl)
+  alone NoRoom over inject = (refl, refl)
+  alone Unknown over inject = (refl, refl)
+  alone OutOfRange over inject = (refl, refl)
+  alone SplitCollector over inject = (refl, refl)
+  alone (Overload i b) over inject = absurd (over refl)
+  alone CardInUse over inject = (refl, refl)
+  alone NumbersUsedUp over inject = (refl, refl)
+  alone (Injection i b) over inject = absurd (inject refl)
+  alone NegativeIcss over inject = (refl, refl)
+  alone BadKey over inject = (refl, refl)
+  alone BadNumber over inject = (refl, refl)
+  alone KeyMissing over inject = (refl, refl)
+  alone BadLine over inject = (refl, refl)
+
+  untold : (a : Answer) → (resultOf a ≡ 15 → ⊥) → (resultOf a ≡ 18 → ⊥) → (whoOver a w ≡ w) × (branchOver a k ≡ k)
+  untold (Issue n) over inject = (refl, refl)
+  untold Done over inject = (refl, refl)
+  untold (Node v t) over inject = (refl, refl)
+  untold Currents over inject = (refl, refl)
+  untold (Listed n) over inject = (refl, refl)
+  untold (Summed t c l) over inject = (refl, refl)
+  untold (Refused f) over inject = alone f over inject
+
+module _ {l : lending.Lent} {b′ : Board} {t′ : List ℤ} {w w′ k k′ r : ℕ} (over : r ≡ 15 → ⊥) (inject : r ≡ 18 → ⊥) where
+  pub told-by-no-move : {v′ : List ℤ} → Moved l b′ v′ t′ w w′ k k′ r → (w′ ≡ w) × (k′ ≡ k)
+  told-by-no-move p =
+      let same = untold w k (l .answer) (λ z. over (p .leaves .result ∙ z)) (λ z. inject (p .leaves .result ∙ z)) in
+      (p .who ∙ same .0, p .branch ∙ same .1)
+
+  pub told-by-no-place : {i i′ : ℕ} → Placed l b′ t′ i i′ w w′ k k′ r → (w′ ≡ w) × (k′ ≡ k)
+  told-by-no-place p =
+      let same = untold w k (l .answer) (λ z. over (p .leaves .result ∙ z)) (λ z. inject (p .leaves .result ∙ z)) in
+      (p .who ∙ same .0, p .branch ∙ same .1)
