@@ -7,7 +7,9 @@ ghost use Rattle.model.specs.Model.{loadedOf, withdrawnOf, lookedOf, openedOf, 
 ghost use Rattle.lending.specs.Rest.{bare};
 ghost use Rattle.lending.specs.Lending.{movedLent, liftedLent, showedLent};
 ghost use Rattle.board.specs.Promise.{modelOf, stateIn, givenAs, Reached};
-ghost use Rattle.host_changes.specs.Changes.{Leaves, Begun, Loaded, placingOf, Placed, Moved, Lifted};
+ghost use Rattle.host_changes.specs.Changes.{Leaves, Begun, Loaded};
+ghost use Rattle.host_moves.specs.Moves.{Moved, Lifted};
+ghost use Rattle.host_placing.specs.Placing.{placingOf, Placed};
 ghost use Rattle.host_queries.specs.Queries.{LookedUp, Shown, Opened, Listed, SummedUp};
 ghost use Rattle.host_lines.specs.Lines.{lineLoadedOf};
 ghost use Rattle.host_shelf.specs.Shelf.{ReadOut, Found};
@@ -80,7 +82,7 @@ pub extern "C" fn desk_place(
     requires { ⌜ Reached (now board) ⌝ }
     ensures { λ r. ⌜ Placed (placingOf (stateIn (now (board .entry)) (now (volts .entry)) (now (totals .entry))) card (now (nodes .entry))) (now (board .exit)) (now (totals .exit)) (now (issue .entry)) (now (issue .exit)) (now (who .entry)) (now (who .exit)) (now (branch .entry)) (now (branch .exit)) r ⌝ }
 {
-    let o = host_changes::place(*board, volts, totals, card, nodes, issue, who, branch);
+    let o = host_placing::place(*board, volts, totals, card, nodes, issue, who, branch);
     *board = o.board;
     o.code
 }
@@ -98,7 +100,7 @@ pub extern "C" fn desk_move(
     requires { ⌜ Reached (now board) ⌝ }
     ensures { λ r. ⌜ Moved (movedLent (stateIn (now (board .entry)) (now (volts .entry)) (now (totals .entry))) (node ∷ microvolts ∷ [])) (now (board .exit)) (now (volts .exit)) (now (totals .exit)) (now (who .entry)) (now (who .exit)) (now (branch .entry)) (now (branch .exit)) r ⌝ }
 {
-    let o = host_changes::move_to(*board, volts, totals, node, microvolts, who, branch);
+    let o = host_moves::move_to(*board, volts, totals, node, microvolts, who, branch);
     *board = o.board;
     o.code
 }
@@ -115,7 +117,7 @@ pub extern "C" fn desk_move_all(
     requires { ⌜ Reached (now board) ⌝ }
     ensures { λ r. ⌜ Moved (movedLent (stateIn (now (board .entry)) (now (volts .entry)) (now (totals .entry))) (now (pairs .entry))) (now (board .exit)) (now (volts .exit)) (now (totals .exit)) (now (who .entry)) (now (who .exit)) (now (branch .entry)) (now (branch .exit)) r ⌝ }
 {
-    let o = host_changes::move_all(*board, volts, totals, pairs, who, branch);
+    let o = host_moves::move_all(*board, volts, totals, pairs, who, branch);
     *board = o.board;
     o.code
 }
@@ -130,7 +132,7 @@ pub extern "C" fn desk_lift(
     requires { ⌜ Reached (now board) ⌝ }
     ensures { λ r. ⌜ Lifted (liftedLent (stateIn (now (board .entry)) (now (volts .entry)) (now (totals .entry))) transistor) (now (board .exit)) (now (totals .exit)) r ⌝ }
 {
-    let o = host_changes::lift(*board, volts, totals, transistor);
+    let o = host_moves::lift(*board, volts, totals, transistor);
     *board = o.board;
     o.code
 }

@@ -30,8 +30,10 @@ use Rattle.host_words.specs.Words.{resultOf, issueOver, whoIn, branchIn, whoOve
 use Rattle.line_read.specs.Line.{Model}
 use Rattle.line_read.specs.Answers.{readingOf, nameLeft, recordLeft}
 use Rattle.listed.specs.Listed.{unpadded}
-use Rattle.host_changes.specs.Changes as changes
-use Rattle.host_changes.specs.Changes.{Leaves, Begun, Loaded, isList, placingIf, placingOf, Placed, Moved, Lifted}
+use Rattle.host_changes.specs.Changes.{Leaves, Begun, Loaded}
+use Rattle.host_moves.specs.Moves.{Moved, Lifted}
+use Rattle.host_placing.specs.Placing as placing
+use Rattle.host_placing.specs.Placing.{isList, placingIf, placingOf, Placed}
 use Rattle.host_lines.specs.Lines as lines
 
 -- what passes every test was not refused by the board that was
@@ -129,7 +131,7 @@ module _ {b b′ : Board} {r : ℕ} where
     pub refused-place : (card : ℤ) (nodes : List ℤ) {t′ : List ℤ} {i i′ w w′ k k′ : ℕ} →
         Placed (placingOf (stateIn b v t) card nodes) b′ t′ i i′ w w′ k k′ r → (r ≡ 0 → ⊥) →
         (b′ ≡ b) × ((t′ ≡ t) × (i′ ≡ i))
-    unfolding changes.placingOf lending.placedLent
+    unfolding placing.placingOf lending.placedLent
     refused-place card nodes {t′} {i} p k =
         let left = go (isList nodes) (λ z. k (p .leaves .result ∙ z)) in (
           p .leaves .board ∙ ap (λ (s : State). boardOf (s .rest)) (left .0),
@@ -140,7 +142,7 @@ module _ {b b′ : Board} {r : ℕ} where
             (placingIf on (stateIn b v t) card nodes .state ≡ stateIn b v t)
             × (issueOver (placingIf on (stateIn b v t) card nodes .answer) i ≡ i)
         go true k =
-            changing-stays (λ (x : model.Board). calls.placedOf x card (changes.rolesOf nodes)) (stateIn b v t) i k
+            changing-stays (λ (x : model.Board). calls.placedOf x card (placing.rolesOf nodes)) (stateIn b v t) i k
         go false k = (refl, refl)
 
 -- ---- who overloads in which branch

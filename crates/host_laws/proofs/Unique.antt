@@ -11,7 +11,9 @@ use Rattle.lending.specs.Lending.{Lent, freshLent}
 use Rattle.board.specs.declared.Board.{Board}
 use Rattle.board.specs.declared.Answered.{Answered}
 use Rattle.board.specs.Promise.{handedAs}
-use Rattle.host_changes.specs.Changes.{Leaves, Begun, Loaded, Placed, Moved, Lifted}
+use Rattle.host_changes.specs.Changes.{Leaves, Begun, Loaded}
+use Rattle.host_moves.specs.Moves.{Moved, Lifted}
+use Rattle.host_placing.specs.Placing.{Placed}
 use Rattle.host_queries.specs.Queries.{LookedUp, Shown, filledIf, Opened, Listed, SummedUp}
 use Rattle.host_shelf.specs.Shelf.{ReadOut, Found}
 

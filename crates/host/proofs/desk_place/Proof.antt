@@ -1,4 +1,4 @@
--- `desk_place` meets its contract: it hands a copy of the board to `host_changes::place` and writes back the board that it gives.
+-- `desk_place` meets its contract: it hands a copy of the board to `host_placing::place` and writes back the board that it gives.
 -- A walk through its steps, written by tools/walks.
 use mathlib.Core.Path.{_≡_, refl, ap}
 use mathlib.Core.List.{List, [], _∷_}
@@ -45,7 +45,7 @@ use denote.Triple.Walked.{says, needs, Stays, stay-ref, gave-slice, gave-ref, st
 use denote.Triple.Walked.{goes-gave-slice, goes-gave-ref, goes-dropped, Walks, ends-at, walked, walk-meets}
 use denote.Exit.{yes}
 use Rattle.board.specs.Promise.{stateIn, Reached}
-use Rattle.host_changes.specs.Changes.{placingOf, Placed}
+use Rattle.host_placing.specs.Placing.{placingOf, Placed}
 use denote.Struct.Laws as LL
 use Rattle.board.specs.declared.Board.{Board}
 use Rattle.board.proofs.Board as B
@@ -54,10 +54,10 @@ use Rattle.host.proofs.Parts.{mach, parts}
 use Rattle.host_changes.specs.declared.Outcome as outcome
 use Rattle.host_changes.proofs.Outcome as O
 use Rattle.host_changes.proofs.Outcome.Laws as O′
-use Rattle.host_changes.proofs.place as worker
-use Rattle.host_changes.proofs.place.Symbol as worker-def
-use Rattle.host_changes.proofs.place.Symbol.{name as #worker}
-use Rattle.host_changes.proofs.place.Met as worker-met
+use Rattle.host_placing.proofs.place as worker
+use Rattle.host_placing.proofs.place.Symbol as worker-def
+use Rattle.host_placing.proofs.place.Symbol.{name as #worker}
+use Rattle.host_placing.proofs.place.Met as worker-met
 use Rattle.host.proofs.desk_place as own
 use Rattle.host.proofs.desk_place.Key.{name as #own}
 use Rattle.host.proofs.desk_place.Statement as stated
@@ -294,4 +294,4 @@ desk-place-spec 𝓤 H 𝓜 𝓖 𝓡 =
     entered 𝓤 H (tripleOf 𝓤 H (𝓖 .A) own.signature (own.spec 𝓤 H (𝓖 .A) (𝓜 .mem) (𝓡 .run)))
     (tables 𝓤 H 𝓜 𝓡 code.env .C) (tables 𝓤 H 𝓜 𝓡 code.env .Λ) #own code.function (code.unfolded 𝓤 H 𝓜 𝓡)
     (meets 𝓤 H (𝓖 .A) (givenOf 𝓤 H 𝓜 𝓖) (𝓜 .mem) (𝓡 .run) (tablesOf 𝓤 H 𝓜 (tables 𝓤 H 𝓜 𝓡 code.env))
-    (cited 𝓤 H (Worker 𝓤 H (𝓖 .A) (𝓜 .mem) (𝓡 .run)) 𝓜 𝓡 code.env #worker worker-def.routine code.calls-host-changes·place (worker-met.met 𝓤 H 𝓜 𝓖 𝓡)))
+    (cited 𝓤 H (Worker 𝓤 H (𝓖 .A) (𝓜 .mem) (𝓡 .run)) 𝓜 𝓡 code.env #worker worker-def.routine code.calls-host-placing·place (worker-met.met 𝓤 H 𝓜 𝓖 𝓡)))

@@ -1,10 +1,10 @@
 -- The node of each role.
 use mathlib.Core.Path.{_≡_, _∙_}
 use Rattle.whole.specs.laws.Machine.{held}
-use Rattle.host_changes.proofs.Laws.{all-roles}
+use Rattle.host_placing.proofs.Laws.{all-roles}
 use borrow.Author.Needs.{needs}
-use Rattle.host_changes.proofs.roles_of.Statement.{statement}
-use Rattle.host_changes.proofs.roles_of.Tie as tie
+use Rattle.host_placing.proofs.roles_of.Statement.{statement}
+use Rattle.host_placing.proofs.roles_of.Tie as tie
 
 returns : tie.Need-returns
 returns c =

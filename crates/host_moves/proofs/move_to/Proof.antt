@@ -2,10 +2,10 @@
 use mir.Syntax.{w64}
 use mir.ValLaws.{toZ-ofZ}
 use Rattle.board.specs.Promise.{stateIn}
-use Rattle.host_changes.proofs.Laws.{moves-one}
+use Rattle.host_moves.proofs.Laws.{moves-one}
 use borrow.Author.Needs.{needs}
-use Rattle.host_changes.proofs.move_to.Statement.{statement}
-use Rattle.host_changes.proofs.move_to.Tie as tie
+use Rattle.host_moves.proofs.move_to.Statement.{statement}
+use Rattle.host_moves.proofs.move_to.Tie as tie
 
 returns : tie.Need-returns
 returns c =

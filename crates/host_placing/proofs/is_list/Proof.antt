@@ -1,8 +1,8 @@
 -- Seven nodes or eleven.
-use Rattle.host_changes.proofs.Laws.{list-short, list-long}
+use Rattle.host_placing.proofs.Laws.{list-short, list-long}
 use borrow.Author.Needs.{needs}
-use Rattle.host_changes.proofs.is_list.Statement.{statement}
-use Rattle.host_changes.proofs.is_list.Tie as tie
+use Rattle.host_placing.proofs.is_list.Statement.{statement}
+use Rattle.host_placing.proofs.is_list.Tie as tie
 
 returns : tie.Need-returns
 returns c = list-short (c .before .args .nodes .now) (c .if1 .taken)

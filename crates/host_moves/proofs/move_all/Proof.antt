@@ -1,8 +1,8 @@
 -- What moving nodes together leaves.
-use Rattle.host_changes.proofs.Laws.{moves}
+use Rattle.host_moves.proofs.Laws.{moves}
 use borrow.Author.Needs.{needs}
-use Rattle.host_changes.proofs.move_all.Statement.{statement}
-use Rattle.host_changes.proofs.move_all.Tie as tie
+use Rattle.host_moves.proofs.move_all.Statement.{statement}
+use Rattle.host_moves.proofs.move_all.Tie as tie
 
 returns : tie.Need-returns
 returns c = moves (c .before .before .before .before .before .before .move-all .ensures) (c .tell-fault .ensures)

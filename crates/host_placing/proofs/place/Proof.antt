@@ -3,10 +3,10 @@ use mathlib.Core.Path.{sym, _∙_}
 use mir.Syntax.{w64}
 use mir.ValLaws.{toZ-ofZ}
 use Rattle.board.specs.Promise.{stateIn}
-use Rattle.host_changes.proofs.Laws.{places, places-none}
+use Rattle.host_placing.proofs.Laws.{places, places-none}
 use borrow.Author.Needs.{needs}
-use Rattle.host_changes.proofs.place.Statement.{statement}
-use Rattle.host_changes.proofs.place.Tie as tie
+use Rattle.host_placing.proofs.place.Statement.{statement}
+use Rattle.host_placing.proofs.place.Tie as tie
 
 returns : tie.Need-returns
 returns c =

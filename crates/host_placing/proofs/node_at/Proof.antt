@@ -4,10 +4,10 @@ use native.Mathlib.Omega.{arith}
 use lib.ListN.{getD}
 use lib.IntN.{pos}
 use Rattle.whole.specs.laws.Machine.{held}
-use Rattle.host_changes.proofs.Laws.{node-there, node-off}
+use Rattle.host_placing.proofs.Laws.{node-there, node-off}
 use borrow.Author.Needs.{needs}
-use Rattle.host_changes.proofs.node_at.Statement.{statement}
-use Rattle.host_changes.proofs.node_at.Tie as tie
+use Rattle.host_placing.proofs.node_at.Statement.{statement}
+use Rattle.host_placing.proofs.node_at.Tie as tie
 
 returns : tie.Need-returns
 returns c =

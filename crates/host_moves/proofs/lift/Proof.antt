@@ -2,10 +2,10 @@
 use mir.Syntax.{w64}
 use mir.ValLaws.{toZ-ofZ}
 use Rattle.board.specs.Promise.{stateIn}
-use Rattle.host_changes.proofs.Laws.{lifts}
+use Rattle.host_moves.proofs.Laws.{lifts}
 use borrow.Author.Needs.{needs}
-use Rattle.host_changes.proofs.lift.Statement.{statement}
-use Rattle.host_changes.proofs.lift.Tie as tie
+use Rattle.host_moves.proofs.lift.Statement.{statement}
+use Rattle.host_moves.proofs.lift.Tie as tie
 
 returns : tie.Need-returns
 returns c =
