@@ -14,12 +14,16 @@ pub fn load_line(board: Board, line: &[u8], issue: &mut u32) -> Outcome
     let mut name = [0u8; name::LENGTH];
     let mut rec = [0u8; line_read::RECORD_BYTES];
     match line_read::read_line(line, &mut name, &mut rec) {
-        line_read::Answer::Taken => host_changes::load(
-            board,
-            listed::bare_name(&name),
-            &rec,
-            issue,
-        ),
+        line_read::Answer::Taken => {
+            let loaded = board.load(listed::bare_name(&name), &rec);
+            let answer = loaded.answer;
+            let with_card = loaded.board;
+            let code = host_words::tell_issue(answer, issue);
+            Outcome {
+                board: with_card,
+                code,
+            }
+        }
         line_read::Answer::Refused(f) => Outcome {
             board,
             code: refusal::number(f),
