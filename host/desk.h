@@ -20,8 +20,8 @@
    5. No two calls run at once on the same board, slice or place. Different boards may be used by different threads: the
       library has no memory of its own.
 
-   The deepest call takes DESK_STACK bytes of stack at most; the library asks the C library for memcpy, memset and
-   memmove alone. */
+   The deepest call, a move of a node that 64 transistors name, takes DESK_STACK bytes of stack at most (docs/HOST.md
+   has what each was measured to take); the library asks the C library for memcpy and memset alone. */
 #ifndef DESK_H
 #define DESK_H
 #include <stddef.h>
@@ -34,7 +34,7 @@ extern "C" {
 #define DESK_NODES 32       /* numbers in a slice */
 #define DESK_BRANCHES 13    /* currents of a transistor */
 #define DESK_TRANSISTORS 64 /* as many as can stand on a node */
-#define DESK_STACK 65536
+#define DESK_STACK 102400
 
 struct desk_board {
     uint64_t words[1567];

@@ -1,4 +1,4 @@
-/* What the programs here take from the C library. The kit has the library but no headers of it, so they are said here. */
+/* What the programs here take from the C library: the kit has the library but no headers of it. */
 #ifndef DESK_LIBC_H
 #define DESK_LIBC_H
 #include <stddef.h>

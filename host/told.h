@@ -6,6 +6,8 @@
 #include "desk.h"
 #include "libc.h"
 
+_Static_assert(sizeof(struct desk_board) == 12536 && _Alignof(struct desk_board) == 8, "a board is not the prover's");
+
 static struct desk_board board;
 static int64_t volts[DESK_NODES], totals[DESK_NODES];
 static uint8_t library[53264]; /* 16 + 208 * 256: the longest */
@@ -43,7 +45,8 @@ static inline void refused(uint32_t r, uint32_t who, uint32_t branch) {
         fprintf(answers, "refused %u\n", r);
 }
 
-static inline uint32_t numbered(const char *what, uint32_t r, uint32_t issue, uint32_t was, uint32_t who, uint32_t branch) {
+static inline uint32_t numbered(const char *what, uint32_t r, uint32_t issue, uint32_t was, uint32_t who,
+                                uint32_t branch) {
     if (r == 0) {
         fprintf(answers, "%s %u\n", what, issue);
         return issue;
