@@ -15,6 +15,7 @@ use terms::ROLES;
 
 // Flat arrays of numbers, so that each can be lent. The first six hold the cards by their places; then come the transistors, with a set of their places for each node; what a move changes stands last.
 // A method that changes arrays on one side of `next` alone reads it and puts it back: there the compiler parts the struct, and what does not change is not copied.
+#[repr(C)]
 pub struct Board {
     pub numbers: [u32; deck::ALL_NUMBERS],
     pub powers: [u16; deck::ALL_POWERS],
