@@ -16,7 +16,7 @@ use Rattle.model.specs.Model.{loadedOf}
 use Rattle.lending.specs.Rest.{bare}
 use Rattle.board.specs.declared.Board.{Board}
 use Rattle.board.specs.Promise.{modelOf, Reached}
-use Rattle.host_changes.specs.Changes.{Leaves, Loaded}
+use Rattle.host_changes.specs.Changes.{Loaded}
 use Rattle.host_lines.specs.Lines.{noName, noRecord, loadedBy, lineLoadedOf}
 
 module _ (b : Board) (line : List ℕ) {name rec : List ℕ} {a : declared.Answer} (p : Reads line noName noRecord a name rec) where
