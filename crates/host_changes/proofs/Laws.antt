@@ -33,7 +33,8 @@ loads {a} {e} {i} p q =
       issue = q .1 ∙ ap (λ (x : Answered). issueOver (x .answer) i) (p .0);
     }
 
-pub withdraws : {a : Answered} (b : Board) (n : ℤ) {n° : ℤ} {r : ℕ} → n° ≡ n → Allows (withdrawnOf (bare (modelOf b)) n°) a →
+pub withdraws : {a : Answered} (b : Board) (n : ℤ) {n° : ℤ} {r : ℕ} → n° ≡ n →
+    Allows (withdrawnOf (bare (modelOf b)) n°) a →
     r ≡ resultOf (a .answer) → Leaves (givenAs (withdrawnOf (bare (modelOf b)) n)) (a .board) r
 withdraws {a} b n {n°} e p q =
     let f = subst (λ (x : ℤ). Allows (withdrawnOf (bare (modelOf b)) x) a) e p in

@@ -56,7 +56,8 @@ stays-by : (s : State) (a : model.Answered) (i : ℕ) (v : Verdict Answer) →
 stays-by s a i (no f) done k = (refl, refl)
 stays-by s a i (yes told) done k = absurd (k (done told refl))
 
-changing-stays : (call : model.Board → model.Answered) (s : State) (i : ℕ) → (resultOf (changing call s .answer) ≡ 0 → ⊥) →
+changing-stays : (call : model.Board → model.Answered) (s : State) (i : ℕ) →
+    (resultOf (changing call s .answer) ≡ 0 → ⊥) →
     (changing call s .state ≡ s) × (issueOver (changing call s .answer) i ≡ i)
 changing-stays call s i k =
     let a = call (boardIn s) in

@@ -65,7 +65,8 @@ module _ (a : Answer) (some : resultOf a ≡ 0 → ⊥) where
   no-sum : (t c l : ℕ) → (transistorsOver a t ≡ t) × ((cardsOver a c ≡ c) × (largestOver a l ≡ l))
   no-sum t c l = go a some
     where
-      go : (x : Answer) → (resultOf x ≡ 0 → ⊥) → (transistorsOver x t ≡ t) × ((cardsOver x c ≡ c) × (largestOver x l ≡ l))
+      go : (x : Answer) → (resultOf x ≡ 0 → ⊥) →
+          (transistorsOver x t ≡ t) × ((cardsOver x c ≡ c) × (largestOver x l ≡ l))
       go (Issue m) k = (refl, (refl, refl))
       go Done k = (refl, (refl, refl))
       go (Node x y) k = (refl, (refl, refl))

@@ -1,5 +1,5 @@
 -- One call has one outcome: whatever two results, boards, slices, buffers and places a promise allows are the same.
-use mathlib.Core.Path.{_≡_, refl, sym, ap, _∙_}
+use mathlib.Core.Path.{_≡_, sym, ap, _∙_}
 use mathlib.Core.Bool.{cond}
 use mathlib.Core.List.{List}
 use Prim.Native.Nat.{ℕ}
@@ -83,7 +83,8 @@ module _ {b′ b″ : Board} {r s : ℕ} where
 
 -- ---- calls that only read it
 
-pub unique-looked-up : {a : model.Answered} {i i′ i″ r s : ℕ} → LookedUp a i i′ r → LookedUp a i i″ s → (r ≡ s) × (i′ ≡ i″)
+pub unique-looked-up : {a : model.Answered} {i i′ i″ r s : ℕ} → LookedUp a i i′ r → LookedUp a i i″ s →
+    (r ≡ s) × (i′ ≡ i″)
 unique-looked-up p q = (unique-by-equation (p .result) (q .result), unique-by-equation (p .issue) (q .issue))
 
 pub unique-shown : {l : Lent} {x x′ x″ y y′ y″ : ℤ} {r s : ℕ} → Shown l x x′ y y′ r → Shown l x x″ y y″ s →

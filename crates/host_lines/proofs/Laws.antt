@@ -16,10 +16,11 @@ use Rattle.model.specs.Model.{loadedOf}
 use Rattle.lending.specs.Rest.{bare}
 use Rattle.board.specs.declared.Board.{Board}
 use Rattle.board.specs.Promise.{modelOf, Reached}
-use Rattle.host_changes.specs.Changes.{Leaves, Loaded}
+use Rattle.host_changes.specs.Changes.{Loaded}
 use Rattle.host_lines.specs.Lines.{noName, noRecord, loadedBy, lineLoadedOf}
 
-module _ (b : Board) (line : List ℕ) {name rec : List ℕ} {a : declared.Answer} (p : Reads line noName noRecord a name rec) where
+module _ (b : Board) (line : List ℕ) {name rec : List ℕ} {a : declared.Answer}
+    (p : Reads line noName noRecord a name rec) where
   -- a line that was taken is loaded as it stands in the buffers
   pub taken-loads : a ≡ reading.Taken → {n : List ℕ} → n ≡ unpadded name → {b′ : Board} {i i′ r : ℕ} →
       Loaded (loadedOf (bare (modelOf b)) n rec) b′ i i′ r → Loaded (lineLoadedOf (bare (modelOf b)) line) b′ i i′ r

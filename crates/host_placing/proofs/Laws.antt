@@ -63,6 +63,8 @@ module _ (nodes : List ℤ) where
   pub list-long : (length nodes ≡ 7 → ⊥) → eqb (length nodes) 11 ≡ isList nodes
   list-long h = rw (ne-eqb (length nodes) 7 h)
 
-  pub all-roles : {x0 x1 x2 x3 x4 x5 x6 x7 x8 x9 x10 : ℤ} → x0 ≡ nodeAt nodes 0 → x1 ≡ nodeAt nodes 1 → x2 ≡ nodeAt nodes 2 → x3 ≡ nodeAt nodes 3 → x4 ≡ nodeAt nodes 4 → x5 ≡ nodeAt nodes 5 → x6 ≡ nodeAt nodes 6 → x7 ≡ nodeAt nodes 7 → x8 ≡ nodeAt nodes 8 → x9 ≡ nodeAt nodes 9 → x10 ≡ nodeAt nodes 10 →
+  pub all-roles : {x0 x1 x2 x3 x4 x5 x6 x7 x8 x9 x10 : ℤ} → x0 ≡ nodeAt nodes 0 → x1 ≡ nodeAt nodes 1 →
+      x2 ≡ nodeAt nodes 2 → x3 ≡ nodeAt nodes 3 → x4 ≡ nodeAt nodes 4 → x5 ≡ nodeAt nodes 5 → x6 ≡ nodeAt nodes 6 →
+      x7 ≡ nodeAt nodes 7 → x8 ≡ nodeAt nodes 8 → x9 ≡ nodeAt nodes 9 → x10 ≡ nodeAt nodes 10 →
       x0 ∷ x1 ∷ x2 ∷ x3 ∷ x4 ∷ x5 ∷ x6 ∷ x7 ∷ x8 ∷ x9 ∷ x10 ∷ [] ≡ rolesOf nodes
   all-roles e0 e1 e2 e3 e4 e5 e6 e7 e8 e9 e10 = rw (e0, e1, e2, e3, e4, e5, e6, e7, e8, e9, e10)

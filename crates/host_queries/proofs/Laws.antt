@@ -95,7 +95,8 @@ module _ {a : Answered} where
         count = q .1 ∙ ap (λ (x : Answered). countOver (x .answer) m) (f .0);
       }
 
-  pub sums-up : (b : Board) (n : ℤ) {n° : ℤ} {t t′ c c′ l l′ r : ℕ} → n° ≡ n → Allows (summedOf (bare (modelOf b)) n°) a →
+  pub sums-up : (b : Board) (n : ℤ) {n° : ℤ} {t t′ c c′ l l′ r : ℕ} → n° ≡ n →
+      Allows (summedOf (bare (modelOf b)) n°) a →
       (r ≡ resultOf (a .answer)) × ((t′ ≡ transistorsOver (a .answer) t) × ((c′ ≡ cardsOver (a .answer) c) × (l′ ≡ largestOver (a .answer) l))) →
       SummedUp (summedOf (bare (modelOf b)) n) t t′ c c′ l l′ r
   sums-up b n {n°} {t} {t′} {c} {c′} {l} e p q =

@@ -24,7 +24,8 @@ returns-2 c =
     let f = c .before .before in
     let r = read (f .before .before) in
     let s = r .before .before .before .before in
-    refused-loads (s .args .board) (s .args .line .now) (r .read-line .ensures) (f .f .given .1) (s .pre) (c .number .ensures)
+    refused-loads (s .args .board) (s .args .line .now) (r .read-line .ensures) (f .f .given .1) (s .pre)
+    (c .number .ensures)
 
 pub load-line-spec : {M : Type 1} → statement M
 load-line-spec =

@@ -1,6 +1,5 @@
 -- Seven nodes or eleven.
 use Rattle.host_placing.proofs.Laws.{list-short, list-long}
-use borrow.Author.Needs.{needs}
 use Rattle.host_placing.proofs.is_list.Statement.{statement}
 use Rattle.host_placing.proofs.is_list.Tie as tie
 

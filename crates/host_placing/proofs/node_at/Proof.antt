@@ -1,6 +1,5 @@
 -- A node of the list, or one that is off the board.
 use mathlib.Core.Path.{_≡_}
-use native.Mathlib.Omega.{arith}
 use lib.ListN.{getD}
 use lib.IntN.{pos}
 use Rattle.whole.specs.laws.Machine.{held}

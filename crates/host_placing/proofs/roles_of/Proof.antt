@@ -30,9 +30,14 @@ returns c =
     let e9 : held (n9 .result) ≡ n9 .result = search needs in
     let e10 : held (n10 .result) ≡ n10 .result = search needs in
     let e11 : held (n11 .result) ≡ n11 .result = search needs in
-    all-roles (c .before .before .before .before .before .before .before .before .before .before .before .args .nodes .now) (e1 ∙ n1 .ensures) (e2 ∙ n2 .ensures) (e3 ∙ n3 .ensures) (e4 ∙ n4 .ensures) (e5 ∙ n5 .ensures) (e6 ∙ n6 .ensures) (e7 ∙ n7 .ensures) (e8 ∙ n8 .ensures) (e9 ∙ n9 .ensures) (e10 ∙ n10 .ensures) (e11 ∙ n11 .ensures)
+    all-roles
+    (c .before .before .before .before .before .before .before .before .before .before .before .args .nodes .now)
+    (e1 ∙ n1 .ensures) (e2 ∙ n2 .ensures) (e3 ∙ n3 .ensures) (e4 ∙ n4 .ensures) (e5 ∙ n5 .ensures) (e6 ∙ n6 .ensures)
+    (e7 ∙ n7 .ensures) (e8 ∙ n8 .ensures) (e9 ∙ n9 .ensures) (e10 ∙ n10 .ensures) (e11 ∙ n11 .ensures)
 
 pub roles-of-spec : {M : Type 1} → statement M
 roles-of-spec =
     tie.close
-    (tie.spec (λ c κs. search needs) (λ c κs. search needs) (λ c κs. search needs) (λ c κs. search needs) (λ c κs. search needs) (λ c κs. search needs) (λ c κs. search needs) (λ c κs. search needs) (λ c κs. search needs) (λ c κs. search needs) (λ c κs. search needs) returns)
+    (tie.spec (λ c κs. search needs) (λ c κs. search needs) (λ c κs. search needs) (λ c κs. search needs)
+    (λ c κs. search needs) (λ c κs. search needs) (λ c κs. search needs) (λ c κs. search needs)
+    (λ c κs. search needs) (λ c κs. search needs) (λ c κs. search needs) returns)

@@ -10,8 +10,11 @@ returns c =
     let at = size .before .before in
     let a = at .before .before in
     let s = a .before .before .before in
-    finds (s .args .library .now) (s .args .name .now) (a .locate .result) (a .locate .ensures) (at .place-over .ensures)
+    finds (s .args .library .now) (s .args .name .now) (a .locate .result) (a .locate .ensures)
+    (at .place-over .ensures)
     (size .size-over .ensures) (c .find-result .ensures)
 
 pub find-spec : {M : Type 1} → statement M
-find-spec = tie.close (tie.spec (λ c κs. search needs) (λ c κs. search needs) (λ c κs. search needs) (λ c κs. search needs) returns)
+find-spec =
+    tie.close (tie.spec (λ c κs. search needs) (λ c κs. search needs) (λ c κs. search needs) (λ c κs. search needs)
+    returns)

@@ -11,7 +11,8 @@ use Rattle.host_values.proofs.total_over.Statement.{statement}
 use Rattle.host_values.proofs.total_over.Tie as tie
 
 -- an answer that leaves what was there
-left : {a b : Answer} {was : ℤ} → SFits w64 was → a ≡ b → totalOver b was ≡ was → toZ w64 (ofZ w64 was) ≡ totalOver a was
+left : {a b : Answer} {was : ℤ} → SFits w64 was → a ≡ b → totalOver b was ≡ was →
+    toZ w64 (ofZ w64 was) ≡ totalOver a was
 left {a} {b} {was} fits e k = toZ-ofZ w64 was fits ∙ sym (ap (λ (x : Answer). totalOver x was) e ∙ k)
 
 returns : tie.Need-returns

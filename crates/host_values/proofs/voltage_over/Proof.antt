@@ -11,7 +11,8 @@ use Rattle.host_values.proofs.voltage_over.Statement.{statement}
 use Rattle.host_values.proofs.voltage_over.Tie as tie
 
 -- an answer that leaves what was there
-left : {a b : Answer} {was : ℤ} → SFits w64 was → a ≡ b → voltageOver b was ≡ was → toZ w64 (ofZ w64 was) ≡ voltageOver a was
+left : {a b : Answer} {was : ℤ} → SFits w64 was → a ≡ b → voltageOver b was ≡ was →
+    toZ w64 (ofZ w64 was) ≡ voltageOver a was
 left {a} {b} {was} fits e k = toZ-ofZ w64 was fits ∙ sym (ap (λ (x : Answer). voltageOver x was) e ∙ k)
 
 returns : tie.Need-returns
