@@ -40,7 +40,7 @@ fn place_once(
     let kept_volts = kept.volts;
     let n = given::issue_of(card);
     let wide = placing::is_wide(held, switches, n);
-    let seen = terms::looked_at(wide, roles);
+    let seen = ends::looked_at(wide, roles);
     let on = given::nodes_of(seen);
     let issue = *next;
     let way = placing::may_place(held, switches, issues, issue, n, &on);
