@@ -33,7 +33,7 @@ fn place_once(
     requires { ⌜ ((r : Rest) × Reached r × LendsPlaces r (now numbers) (now powers) (now ticks) (now switches) (now held) (now issues) (now cards) (now seats) (now nodes) (now naming) (now currents) (now next)) ⌝ }
     ensures { λ a. ⌜ ((r : Rest) → Reached r → LendsPlaces r (now (numbers .entry)) (now (powers .entry)) (now (ticks .entry)) (now (switches .entry)) (now (held .entry)) (now (issues .entry)) (now (cards .entry)) (now (seats .entry)) (now (nodes .entry)) (now (naming .entry)) (now (currents .entry)) (now (next .entry)) → LeavesPlaces (placedLent (stateWith r (now (volts .entry)) (now (totals .entry))) card roles) a (now (issues .exit)) (now (cards .exit)) (now (seats .exit)) (now (nodes .exit)) (now (naming .exit)) (now (totals .exit)) (now (currents .exit)) (now (next .exit))) ⌝ }
 {
-    let kept = slices::keep_slices(volts, totals);
+    let kept = keeping::keep_slices(volts, totals);
     if !kept.good {
         return Answer::Refused(Refusal::OutOfRange);
     }
@@ -63,7 +63,7 @@ fn place_once(
             let mut coming = [0i64; NODES];
             settle::put_in(&mut coming, &on, &own);
             let going = [0i64; NODES];
-            let stood = slices::stand_all(totals, &coming, &going);
+            let stood = standing::stand_all(totals, &coming, &going);
             let fits = stood.good;
             let over = o.over;
             if settle::is_over(over) {
@@ -73,7 +73,7 @@ fn place_once(
                 return Answer::Refused(Refusal::OutOfReach);
             }
             let all = stood.totals;
-            slices::put_totals(totals, &all);
+            putting::put_totals(totals, &all);
             issues[free] = issue;
             cards[free] = held[at];
             seats[free] = at as u8;
@@ -217,7 +217,7 @@ fn lift_once(
     requires { ⌜ ((r : Rest) × Reached r × LendsStanding r (now issues) (now cards) (now seats) (now nodes) (now naming) (now currents)) ⌝ }
     ensures { λ a. ⌜ ((r : Rest) → Reached r → LendsStanding r (now (issues .entry)) (now (cards .entry)) (now (seats .entry)) (now (nodes .entry)) (now (naming .entry)) (now (currents .entry)) → LeavesPlaces (liftedLent (stateWith r (now (volts .entry)) (now (totals .entry))) transistor) a (now (issues .exit)) (now (cards .exit)) (now (seats .exit)) (now (nodes .exit)) (now (naming .exit)) (now (totals .exit)) (now (currents .exit)) (r .next)) ⌝ }
 {
-    let kept = slices::keep_slices(volts, totals);
+    let kept = keeping::keep_slices(volts, totals);
     if !kept.good {
         return Answer::Refused(Refusal::OutOfRange);
     }
@@ -231,12 +231,12 @@ fn lift_once(
     let coming = [0i64; NODES];
     let mut going = [0i64; NODES];
     settle::put_in(&mut going, &on, &own);
-    let stood = slices::stand_all(totals, &coming, &going);
+    let stood = standing::stand_all(totals, &coming, &going);
     if !stood.good {
         return Answer::Refused(Refusal::OutOfReach);
     }
     let all = stood.totals;
-    slices::put_totals(totals, &all);
+    putting::put_totals(totals, &all);
     issues[i] = 0;
     cards[i] = 0;
     seats[i] = 0;
