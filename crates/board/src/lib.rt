@@ -77,7 +77,7 @@ impl Board {
         ensures { λ _. ⌜ now (totals .exit) ≡ freshLent (now (volts .entry)) (now (totals .entry)) .state .totals ⌝ }
     {
         let board = Board::empty();
-        let answer = if slices::clear(volts, totals) {
+        let answer = if putting::clear(volts, totals) {
             Answer::Done
         } else {
             Answer::Refused(Refusal::OutOfRange)

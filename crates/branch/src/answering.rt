@@ -11,11 +11,11 @@ use crate::BRANCHES;
 use crate::ROLES;
 use crate::Reply;
 use card::WorkedCard;
+use ends::looked_at;
 use polarity::Over;
 use polarity::work_out;
+use ready::prepare;
 use refusal::Refusal;
-use terms::looked_at;
-use terms::prepare;
 use volts::Voltage;
 
 pub(crate) fn turned_away(f: Refusal) -> Reply

@@ -26,7 +26,7 @@ pub fn lift(
     requires { ⌜ ((r : Rest) × Reached r × LendsStanding r (now issues) (now cards) (now seats) (now nodes) (now naming) (now currents)) ⌝ }
     ensures { λ a. ⌜ ((r : Rest) → Reached r → LendsStanding r (now (issues .entry)) (now (cards .entry)) (now (seats .entry)) (now (nodes .entry)) (now (naming .entry)) (now (currents .entry)) → LeavesPlaces (liftedLent (stateWith r (now (volts .entry)) (now (totals .entry))) transistor) a (now (issues .exit)) (now (cards .exit)) (now (seats .exit)) (now (nodes .exit)) (now (naming .exit)) (now (totals .exit)) (now (currents .exit)) (r .next)) ⌝ }
 {
-    let kept = slices::keep_slices(volts, totals);
+    let kept = keeping::keep_slices(volts, totals);
     if !kept.good {
         return Answer::Refused(Refusal::OutOfRange);
     }
@@ -40,12 +40,12 @@ pub fn lift(
     let coming = [0i64; NODES];
     let mut going = [0i64; NODES];
     settle::put_in(&mut going, &on, &own);
-    let stood = slices::stand_all(totals, &coming, &going);
+    let stood = standing::stand_all(totals, &coming, &going);
     if !stood.good {
         return Answer::Refused(Refusal::OutOfReach);
     }
     let all = stood.totals;
-    slices::put_totals(totals, &all);
+    putting::put_totals(totals, &all);
     issues[i] = 0;
     cards[i] = 0;
     seats[i] = 0;

@@ -46,7 +46,7 @@ pub fn move_all(
     requires { ⌜ ((r : Rest) × Reached r × Lends r (now numbers) (now powers) (now ticks) (now switches) (now issues) (now seats) (now nodes) (now naming) (now currents)) ⌝ }
     ensures { λ a. ⌜ ((r : Rest) → Reached r → Lends r (now (numbers .entry)) (now (powers .entry)) (now (ticks .entry)) (now (switches .entry)) (now (issues .entry)) (now (seats .entry)) (now (nodes .entry)) (now (naming .entry)) (now (currents .entry)) → LeavesLevels (movedLent (stateWith r (now (volts .entry)) (now (totals .entry))) (now (pairs .entry))) a (now (volts .exit)) (now (totals .exit)) (now (currents .exit))) ⌝ }
 {
-    let kept = slices::keep_slices(volts, totals);
+    let kept = keeping::keep_slices(volts, totals);
     if !kept.good {
         return Answer::Refused(Refusal::OutOfRange);
     }
@@ -59,7 +59,7 @@ pub fn move_all(
     }
     let set = pairs::naming_any(naming, pairs);
     let mut next = [0i64; NODES];
-    let told = settle::settle(
+    let told = settling::settle(
         currents,
         &mut next,
         totals,
@@ -74,8 +74,8 @@ pub fn move_all(
         set,
     );
     if settle::is_taken(told) {
-        slices::put_volts(volts, &will);
-        slices::put_totals(totals, &next);
+        putting::put_volts(volts, &will);
+        putting::put_totals(totals, &next);
     }
     answer_to(told)
 }

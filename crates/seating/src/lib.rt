@@ -33,14 +33,14 @@ pub fn place(
     requires { ⌜ ((r : Rest) × Reached r × LendsPlaces r (now numbers) (now powers) (now ticks) (now switches) (now held) (now issues) (now cards) (now seats) (now nodes) (now naming) (now currents) (now next)) ⌝ }
     ensures { λ a. ⌜ ((r : Rest) → Reached r → LendsPlaces r (now (numbers .entry)) (now (powers .entry)) (now (ticks .entry)) (now (switches .entry)) (now (held .entry)) (now (issues .entry)) (now (cards .entry)) (now (seats .entry)) (now (nodes .entry)) (now (naming .entry)) (now (currents .entry)) (now (next .entry)) → LeavesPlaces (placedLent (stateWith r (now (volts .entry)) (now (totals .entry))) card roles) a (now (issues .exit)) (now (cards .exit)) (now (seats .exit)) (now (nodes .exit)) (now (naming .exit)) (now (totals .exit)) (now (currents .exit)) (now (next .exit))) ⌝ }
 {
-    let kept = slices::keep_slices(volts, totals);
+    let kept = keeping::keep_slices(volts, totals);
     if !kept.good {
         return Answer::Refused(Refusal::OutOfRange);
     }
     let kept_volts = kept.volts;
     let n = given::issue_of(card);
     let wide = placing::is_wide(held, switches, n);
-    let seen = terms::looked_at(wide, roles);
+    let seen = ends::looked_at(wide, roles);
     let on = given::nodes_of(seen);
     let issue = *next;
     let way = placing::may_place(held, switches, issues, issue, n, &on);
@@ -63,7 +63,7 @@ pub fn place(
             let mut coming = [0i64; NODES];
             settle::put_in(&mut coming, &on, &own);
             let going = [0i64; NODES];
-            let stood = slices::stand_all(totals, &coming, &going);
+            let stood = standing::stand_all(totals, &coming, &going);
             let fits = stood.good;
             let over = o.over;
             if settle::is_over(over) {
@@ -73,7 +73,7 @@ pub fn place(
                 return Answer::Refused(Refusal::OutOfReach);
             }
             let all = stood.totals;
-            slices::put_totals(totals, &all);
+            putting::put_totals(totals, &all);
             issues[free] = issue;
             cards[free] = held[at];
             seats[free] = at as u8;
