@@ -153,7 +153,7 @@ module _ (t : ℕ) where
             let h = e .if1 .left in
             let k = reach (omega arith) (n .next-in .ensures) in omega arith,
         goes-on _ _ (p .1) (e .if1 .left)
-        (r .before .before .before .nodes-at .ensures) (r .before .currents-at .ensures)
+            (r .before .before .before .nodes-at .ensures) (r .before .currents-at .ensures)
             (gone n .put-in .ensures) (worked n .work .ensures) (come n .put-in2 .ensures)
             (n .before .earlier-of .ensures) _ (n .next-in .ensures),
       )
