@@ -27,8 +27,8 @@ use Rattle.lending.specs.Lending.{refusalIn, changeVerdict, lentBy, changing, f
 use Rattle.board.specs.declared.Board.{Board}
 use Rattle.board.specs.Promise.{modelOf, boardOf, stateIn, givenAs}
 use Rattle.host_words.specs.Words.{resultOf, issueOver, whoIn, branchIn, whoOver, branchOver}
-use Rattle.line_read.specs.Line.{Model}
-use Rattle.line_read.specs.Answers.{readingOf, nameLeft, recordLeft}
+use Rattle.line.specs.Line.{Model}
+use Rattle.line.specs.Answers.{readingOf, nameLeft, recordLeft}
 use Rattle.listed.specs.Listed.{unpadded}
 use Rattle.host_changes.specs.Changes.{Leaves, Begun, Loaded}
 use Rattle.host_moves.specs.Moves.{Moved, Lifted}

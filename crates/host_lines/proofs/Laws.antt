@@ -6,10 +6,10 @@ use Rattle.refusal.specs.declared.Refusal.{Refusal}
 use Rattle.refusal.specs.Clash.{clash}
 use Rattle.refusal.specs.Told.{numberOf, told-injective}
 use Rattle.refusal.specs.Order.{Verdict, no, yes, tells}
-use Rattle.line_read.specs.declared.Answer as declared
-use Rattle.line_read.specs.declared.Answer.the-variants as reading
-use Rattle.line_read.specs.Line.{Model}
-use Rattle.line_read.specs.Answers.{readingOf, toldAnswer, answered, nameLeft, recordLeft, Reads}
+use Rattle.line.specs.declared.Answer as declared
+use Rattle.line.specs.declared.Answer.the-variants as reading
+use Rattle.line.specs.Line.{Model}
+use Rattle.line.specs.Answers.{readingOf, toldAnswer, answered, nameLeft, recordLeft, Reads}
 use Rattle.listed.specs.Listed.{unpadded}
 use Rattle.model.specs.Board as model
 use Rattle.model.specs.Model.{loadedOf}

@@ -5,8 +5,8 @@ use Prim.Native.Nat.{ℕ}
 use lib.ListN.{replicate}
 use Rattle.refusal.specs.Order.{Verdict, no, yes}
 use Rattle.name.specs.Name.{nameLength}
-use Rattle.line_read.specs.Line.{Model}
-use Rattle.line_read.specs.Answers.{recordBytes, readingOf, nameLeft, recordLeft}
+use Rattle.line.specs.Line.{Model}
+use Rattle.line.specs.Answers.{recordBytes, readingOf, nameLeft, recordLeft}
 use Rattle.listed.specs.Listed.{unpadded}
 use Rattle.model.specs.Board.{Board, Answered}
 use Rattle.model.specs.Model.{refuse, loadedOf}
