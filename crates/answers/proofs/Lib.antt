@@ -1,4 +1,3 @@
 -- Laws over plain values that the proofs of functions cite.
-pub mod Pages
 pub mod Written
 pub mod Told

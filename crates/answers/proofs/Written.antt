@@ -12,9 +12,9 @@ use Rattle.sheet.specs.declared.Text.{Text}
 use Rattle.sheet.specs.Text.{room, textOf, shown}
 use Rattle.sheet.specs.Lines.{toldLine, nodeLine}
 use Rattle.spelling.specs.Bytes.{space, newline}
-use Rattle.answers.specs.Page.{Page, page, withBytes, Writes}
+use Rattle.page.specs.Page.{Page, page, withBytes, Writes}
 use Rattle.answers.specs.Answers.{spacedLine}
-use Rattle.answers.proofs.Pages.{write-two, write-long, then}
+use Rattle.page.proofs.Pages.{write-two, write-long, then}
 
 -- ---- the same bytes by another name
 

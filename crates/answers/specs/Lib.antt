@@ -1,5 +1,3 @@
--- The line that answers a command, and how it is written; `laws` has what follows.
-pub mod Page
+-- The line that answers a command; `laws` has what follows.
 pub mod Answers
-pub mod Unique
 pub mod laws

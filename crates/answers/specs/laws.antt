@@ -1,2 +1,2 @@
--- What follows from the definitions of answers and pages.
-pub mod PageFits
+-- What follows from the definitions of answers.
+pub mod Rooms

@@ -1,9 +1,8 @@
 // The line that answers a command, written in a lent buffer.
-ghost use Rattle.answers.specs.Page.{Writes};
+ghost use Rattle.page.specs.Page.{Writes};
 ghost use Rattle.answers.specs.Answers.{answerLine, errorLine, unreadableLine, modelLine, currentsLine, whoLine};
 ghost use Rattle.answers.specs.Answers.{sumLine, clipLine};
 
-mod page; // page.rt: bytes written in a lent buffer
 mod parts; // parts.rt: what the answers are made of
 
 use refusal::Refusal;
@@ -83,7 +82,7 @@ pub fn clip_line(mask: u32, wide: bool, numbers: &[f64], out: &mut [u8; ANSWER_R
     ensures { λ r. ⌜ Writes (clipLine mask wide (now (numbers .entry))) (now (out .entry)) 0 (now (out .exit)) r ⌝ }
 {
     let start = page::put(b"clip ", out, 0);
-    let masked = page::put_text(sheet::mask_digits(mask, wide), out, start);
+    let masked = parts::put_text(sheet::mask_digits(mask, wide), out, start);
     parts::put_words(numbers, out, masked)
 }
 

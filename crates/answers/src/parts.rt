@@ -4,13 +4,14 @@ ghost use mathlib.Core.List.{[], _∷_};
 ghost use Prim.Native.Nat.{_≤_};
 ghost use lib.ListN.{length, take};
 ghost use Rattle.refusal.specs.Told.{told};
+ghost use Rattle.sheet.specs.Text.{shown, room};
 ghost use Rattle.sheet.specs.Digits.{decimalOf, signedDigits};
 ghost use Rattle.sheet.specs.Lines.{labelLine, toldLine, nodeLine};
-ghost use Rattle.answers.specs.Page.{Writes};
+ghost use Rattle.page.specs.Page.{Writes};
 ghost use Rattle.answers.specs.Answers.{shownBytes, bitsOf, wordOf, spacedLine};
 use crate::ANSWER_ROOM;
-use crate::page;
 use refusal::Refusal;
+use sheet::Text;
 
 // How many nodes a sheet has.
 pub(crate) const SHEET_NODES: u64 = 32;
@@ -18,19 +19,29 @@ pub(crate) const SHEET_NODES: u64 = 32;
 // How many bytes of the first word an error shows.
 const SHOWN_BYTES: usize = 32;
 
+// The bytes that a text shows.
+pub(crate) fn put_text(t: Text, out: &mut [u8], at: usize) -> usize
+    requires { ⌜ t .len ≤ room ⌝ }
+    ensures { λ r. ⌜ Writes (shown t) (now (out .entry)) at (now (out .exit)) r ⌝ }
+{
+    let n = t.len;
+    let bytes = t.bytes;
+    page::put(&bytes[0..n], out, at)
+}
+
 // A short word and a number.
 pub(crate) fn label(word: &[u8], n: u64, out: &mut [u8; ANSWER_ROOM]) -> usize
     requires { ⌜ length (now word) ≤ 16 ⌝ }
     ensures { λ r. ⌜ Writes (labelLine (now (word .entry)) n) (now (out .entry)) 0 (now (out .exit)) r ⌝ }
 {
-    page::put_text(sheet::label_line(word, n), out, 0)
+    put_text(sheet::label_line(word, n), out, 0)
 }
 
 // A refusal's number with a transistor and a branch.
 fn overload(number: u32, issue: u32, branch: u32, out: &mut [u8; ANSWER_ROOM]) -> usize
     ensures { λ r. ⌜ Writes (toldLine (number ∷ issue ∷ branch ∷ [])) (now (out .entry)) 0 (now (out .exit)) r ⌝ }
 {
-    page::put_text(sheet::told_line(number, issue, branch), out, 0)
+    put_text(sheet::told_line(number, issue, branch), out, 0)
 }
 
 // A refusal: its number, and who overloads in which branch where it tells that.
@@ -48,7 +59,7 @@ pub(crate) fn refused(f: Refusal, out: &mut [u8; ANSWER_ROOM]) -> usize
 pub(crate) fn reading(node: u32, v: i64, t: i64, out: &mut [u8; ANSWER_ROOM]) -> usize
     ensures { λ r. ⌜ Writes (nodeLine node v t) (now (out .entry)) 0 (now (out .exit)) r ⌝ }
 {
-    page::put_text(sheet::node_line(node, v, t), out, 0)
+    put_text(sheet::node_line(node, v, t), out, 0)
 }
 
 // The bytes of a first word that an error shows.
@@ -76,7 +87,7 @@ pub(crate) fn put_words(numbers: &[f64], out: &mut [u8; ANSWER_ROOM], at: usize)
     let mut i = 0;
     while i < numbers.len() {
         let spaced = page::put(b" ", out, used);
-        used = page::put_text(sheet::word_digits(bits(numbers[i])), out, spaced);
+        used = put_text(sheet::word_digits(bits(numbers[i])), out, spaced);
         i += 1;
     }
     page::put(b"\n", out, used)
@@ -90,7 +101,7 @@ pub(crate) fn put_ticks(ticks: &[i64], out: &mut [u8; ANSWER_ROOM], at: usize) -
     let mut i = 0;
     while i < ticks.len() {
         let spaced = page::put(b" ", out, used);
-        used = page::put_text(sheet::signed_digits(ticks[i]), out, spaced);
+        used = put_text(sheet::signed_digits(ticks[i]), out, spaced);
         i += 1;
     }
     page::put(b"\n", out, used)
@@ -104,7 +115,7 @@ pub(crate) fn put_numbers(numbers: &[u64], out: &mut [u8; ANSWER_ROOM], at: usiz
     let mut i = 0;
     while i < numbers.len() {
         let spaced = page::put(b" ", out, used);
-        used = page::put_text(sheet::decimal_digits(numbers[i]), out, spaced);
+        used = put_text(sheet::decimal_digits(numbers[i]), out, spaced);
         i += 1;
     }
     page::put(b"\n", out, used)

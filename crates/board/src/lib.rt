@@ -15,6 +15,7 @@ use terms::ROLES;
 
 // Flat arrays of numbers, so that each can be lent. The first six hold the cards by their places; then come the transistors, with a set of their places for each node; what a move changes stands last.
 // A method that changes arrays on one side of `next` alone reads it and puts it back: there the compiler parts the struct, and what does not change is not copied.
+#[repr(C)]
 pub struct Board {
     pub numbers: [u32; deck::ALL_NUMBERS],
     pub powers: [u16; deck::ALL_POWERS],
@@ -76,7 +77,7 @@ impl Board {
         ensures { λ _. ⌜ now (totals .exit) ≡ freshLent (now (volts .entry)) (now (totals .entry)) .state .totals ⌝ }
     {
         let board = Board::empty();
-        let answer = if slices::clear(volts, totals) {
+        let answer = if putting::clear(volts, totals) {
             Answer::Done
         } else {
             Answer::Refused(Refusal::OutOfRange)
@@ -151,7 +152,7 @@ impl Board {
         let mut on = self.nodes;
         let mut naming = self.naming;
         let mut currents = self.currents;
-        let answer = seating::place(
+        let answer = aside::place(
             &mut issues,
             &mut cards,
             &mut seats,
@@ -201,7 +202,7 @@ impl Board {
         let naming = self.naming;
         let number = self.next;
         let mut held = self.currents;
-        let answer = moving::move_all(
+        let answer = aside::move_all(
             volts,
             totals,
             &mut held,
@@ -255,7 +256,7 @@ impl Board {
         let mut nodes = self.nodes;
         let mut sets = self.naming;
         let mut left = self.currents;
-        let answer = seating::lift(
+        let answer = aside::lift(
             &mut issues,
             &mut cards,
             &mut seats,

@@ -11,11 +11,11 @@ use crate::BRANCHES;
 use crate::ROLES;
 use crate::Reply;
 use card::WorkedCard;
+use ends::looked_at;
 use polarity::Over;
 use polarity::work_out;
+use ready::prepare;
 use refusal::Refusal;
-use terms::looked_at;
-use terms::prepare;
 use volts::Voltage;
 
 pub(crate) fn turned_away(f: Refusal) -> Reply
@@ -59,7 +59,8 @@ fn answer(c: WorkedCard, v: [u32; ROLES]) -> Reply
     requires { ⌜ (IsWorked c) × AllNear v ⌝ }
     ensures { λ r. ⌜ r ≡ replyOf (atOutcome (outcomeOf c (map givenBack v))) ⌝ }
 {
-    let t = octave::table();
+    let mut t = [0u32; octave::ENTRIES];
+    octave::lay_table(&mut t);
     let x = work_out(&t, prepare(c), &v);
     let o = x.over;
     match o {

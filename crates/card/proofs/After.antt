@@ -18,11 +18,12 @@ use Rattle.clip.specs.Numbers as number
 use Rattle.clip.specs.Limits.{zero, one, wide, narrow}
 use Rattle.clip.specs.Record.{isWide, rightLength, widthOf, finiteUp}
 use Rattle.clip.specs.Clip.{clippedUp, paddedUp, clipOf, Clips}
-use Rattle.card.specs.Judge.{numbersFor, sparesGood, judgeNumbers, judgeOf}
-use Rattle.card.specs.inner.Missing.{filledWith}
-use Rattle.card.specs.inner.Worked.{GoodMlf}
+use Rattle.loading.specs.Numbers.{numbersFor, sparesGood}
+use Rattle.card.specs.Judge.{judgeNumbers, judgeOf}
+use Rattle.missing.specs.inner.Filled.{filledWith}
+use Rattle.loading.specs.inner.Mlf.{GoodMlf}
 use Rattle.clip.specs.laws.Unique.{clip-taken, clip-refused}
-use Rattle.card.proofs.Clipped.{long, good-mlf}
+use Rattle.loading.proofs.Clipped.{long, good-mlf}
 
 all-finite : (s : List ℕ) → clipOf s ≡ yes tt → finiteUp s (widthOf s) ≡ true
 unfolding clipOf

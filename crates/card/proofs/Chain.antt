@@ -1,35 +1,28 @@
 -- Loading's answer on clipped numbers, test by test.
-use mathlib.Core.Path.{_≡_, refl, sym, ap, subst, _∙_}
+use mathlib.Core.Path.{_≡_, refl, sym, ap, _∙_}
 use mathlib.Core.Bool.{Bool, true, false, not}
 use mathlib.Core.List.{List}
 use Prim.Native.Nat.{ℕ}
-use lib.Dec.{T}
-use lib.IntN.{pos, negsuc}
-use lib.Ieee.{Float, fin, binary64, ofBits, eq, le, mul}
-use lib.Ieee.Positive.{above, positive, above-of-le, mul-mono}
+use lib.Ieee.{Float, eq}
 use Rattle.refusal.specs.declared.Refusal.{Refusal}
 use Rattle.refusal.specs.declared.Refusal.the-variants.{WrongLevel, BadExsub, NegativeIcss, BadOctave, OutOfReach}
 use Rattle.refusal.specs.Told.{told}
 use Rattle.refusal.specs.Clash.{clash}
 use Rattle.refusal.specs.Order.{Verdict, no, refuseIf, refused, given, tells}
-use Rattle.card.specs.declared.octaves.Octave.the-variants.{Nanovolts, Out}
+use Rattle.octaves.specs.declared.Octave.the-variants.{Nanovolts, Out}
 use Rattle.working.specs.declared.Worked.{Worked}
 use Rattle.card.specs.declared.WorkedCard.{WorkedCard}
 use Rattle.clip.specs.declared.Answer.{Answer}
 use Rattle.clip.specs.declared.Answer.the-variants as answer
-use Rattle.clip.specs.Limits.{zero, one, tenth}
+use Rattle.clip.specs.Limits.{zero, one}
 use Rattle.working.specs.Work.{workedOf, allFinite}
-use Rattle.card.specs.Octave.{ten-million, fifty-million, wholePart, octaveGood, secondGood}
-use Rattle.card.specs.Knee.{kneeGood, kneeOf}
-use Rattle.card.specs.Judge.{hasLeads, parametersOf, exsub, rcblx, rcbli, octave, level, vlr, mlf, product}
-use Rattle.card.specs.Judge.{cardFrom, cardOf, polarity, minusOne, level504, settingsGood}
-use Rattle.card.specs.Judge.{icssBelow, withinReach, reachOf, judgeNumbers}
-use Rattle.card.specs.inner.Octaves.{secondIf, secondOf}
-use Rattle.card.specs.inner.Tests.{unlessPassed, firstWrong}
-use Rattle.card.specs.inner.Worked.{GoodMlf}
-use Rattle.card.proofs.Whole.{positive-of}
-use Rattle.card.proofs.Range.{in-range, from}
-use Rattle.card.proofs.Clipped.{and-true}
+use Rattle.loading.specs.Octave.{wholePart, octaveGood, secondGood}
+use Rattle.loading.specs.Knee.{kneeGood, kneeOf}
+use Rattle.loading.specs.Numbers.{hasLeads, parametersOf, exsub, rcblx, rcbli, octave, level, vlr, product, polarity}
+use Rattle.loading.specs.Numbers.{minusOne, level504, settingsGood, icssBelow, withinReach}
+use Rattle.card.specs.Judge.{cardFrom, cardOf, reachOf, judgeNumbers}
+use Rattle.octaves.specs.inner.Second.{secondIf, secondOf}
+use Rattle.settings.specs.inner.Tests.{unlessPassed, firstWrong}
 
 -- ---- the second octave's answer
 told-second : (b : Bool) (k n : ℕ) → secondIf b k ≡ Nanovolts n → (b ≡ true) × (n ≡ k)
@@ -39,32 +32,6 @@ told-second false k n e = clash cc
 told-out : (b : Bool) (k : ℕ) → secondIf b k ≡ Out → b ≡ false
 told-out true k e = clash cc
 told-out false k e = refl
-
--- ---- the product is at least 1,000,000
-tenth-is : tenth ≡ fin false 3602879701896397 (negsuc 54)
-unfolding ofBits
-tenth-is = refl
-
-million-is : mul binary64 (fin false 3602879701896397 (negsuc 54)) (fin false 78125 (pos 7)) ≡ fin false 15625 (pos 6)
-unfolding mul
-million-is = refl
-
-module _ (m x : Float) (f : T (positive m)) (l : T (le tenth m)) (g : octaveGood x ≡ true) where
-  pub product-least : T (le (fin false 15625 (pos 6)) (mul binary64 m x))
-  product-least =
-      let a = and-true (le ten-million x) _ g in
-      let b = and-true (le x fifty-million) _ (a .1) in
-      subst (λ (k : Float). T (le k (mul binary64 m x))) million-is
-      (mul-mono binary64 (fin false 3602879701896397 (negsuc 54)) m (fin false 78125 (pos 7)) x tt f tt
-      (in-range x (a .0) (b .0)) (subst (λ (k : Float). T (le k m)) tenth-is l) (from x (a .0) (b .0)))
-
-  pub product-above : T (above (mul binary64 m x))
-  product-above = above-of-le (fin false 15625 (pos 6)) (mul binary64 m x) tt product-least
-
-pub mlf-positive : (x : List Float) → GoodMlf x → T (positive (mlf x))
-mlf-positive x g =
-    let l = subst (λ (k : Float). T (le k (mlf x))) tenth-is (g .least) in
-    positive-of (mlf x) (above-of-le (fin false 3602879701896397 (negsuc 54)) (mlf x) tt l) (g .number)
 
 -- ---- 7, 8, 19, 9
 module _ (e f g h : Refusal) where

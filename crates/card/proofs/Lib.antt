@@ -1,11 +1,2 @@
-pub mod Whole
-pub mod Range
-pub mod Raise
-pub mod Clipped
 pub mod After
 pub mod Chain
-pub mod Microvolts
-pub mod WorkedCards
-pub mod Signs
-pub mod Unsigned
-pub mod Versions

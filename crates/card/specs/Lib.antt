@@ -1,6 +1,3 @@
--- The rules of judging, file by file; `inner` has words of inner contracts, and `laws` what follows from them all.
-pub mod Octave
-pub mod Knee
+-- The rules of judging; `inner` has words of inner contracts.
 pub mod Judge
 pub mod inner
-pub mod laws

@@ -1,5 +1,2 @@
--- Words that inner contracts use, and what callers may count on.
-pub mod Octaves
-pub mod Missing
-pub mod Tests
+-- What callers may count on.
 pub mod Worked

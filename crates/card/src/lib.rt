@@ -3,9 +3,6 @@ ghost use mathlib.Core.Path.{_≡_};
 ghost use Rattle.refusal.specs.Order.{tells};
 ghost use Rattle.card.specs.Judge.{judgeOf, toldJudged, noWorked};
 
-mod octaves; // octaves.rt: the octave and the second octave
-mod knee; // knee.rt: V_Lr
-mod missing; // missing.rt: the words that not every record has
 mod judging; // judging.rt: the tests of loading, in their order
 
 pub use clip::Answer;

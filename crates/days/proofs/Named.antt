@@ -26,7 +26,7 @@ use Rattle.model.specs.Model.{boardAfter}
 use Rattle.model.proofs.Verdicts.{moves}
 use Rattle.model.proofs.Boards.{transistor-then}
 use Rattle.model.proofs.Invariant.{Invariant, invariant-after}
-use Rattle.moving.proofs.Pairs.{any-same}
+use Rattle.pairs.proofs.Pairs.{any-same}
 use Rattle.days.specs.Perm.{Perm, then}
 use Rattle.days.specs.Rising.{Rising}
 use Rattle.days.specs.Told.{Among}

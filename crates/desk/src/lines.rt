@@ -6,11 +6,14 @@ use crate::desk::asked_by;
 use crate::desk::obey;
 use crate::desk::obey_apart;
 use crate::desk::poke;
+use crate::options::Options;
 use crate::out::ROOM;
 use crate::out::flush;
 use crate::out::part;
 use crate::shelf;
 use crate::shelf::MOST;
+use crate::showing::begin;
+use crate::showing::end;
 use board::Board;
 use script::MOST_BYTES;
 use totals::NODES;
@@ -95,7 +98,7 @@ fn feed(
     board: Board,
     volts: &mut [i64; NODES],
     totals: &mut [i64; NODES],
-    pokes: bool,
+    asked: Options,
     got: isize,
     bytes: &[u8; READ],
     line: &mut [u8; LINE],
@@ -120,11 +123,12 @@ fn feed(
         }
         let k = *n;
         *n = 0;
+        begin(asked, out, at);
         let next = obey_line(
             current,
             volts,
             totals,
-            pokes,
+            asked.pokes,
             line,
             k,
             &mut spelled,
@@ -133,6 +137,7 @@ fn feed(
             at,
         );
         current = next;
+        end(asked, part(line, 0, k), out, at);
     }
     current
 }
@@ -147,7 +152,7 @@ fn write_out(got: isize, path: &[u8], out: &mut [u8; ROOM], at: &mut usize) {
 
 // Obeys all that can be read. Nothing says that the input ends: the turns are counted down from a number that no run
 // uses up.
-pub fn run(fd: i32, path: &[u8], pokes: bool) {
+pub fn run(fd: i32, path: &[u8], asked: Options) {
     let mut bytes = [0u8; READ];
     let mut line = [0u8; LINE];
     let mut n: usize = 0;
@@ -166,7 +171,7 @@ pub fn run(fd: i32, path: &[u8], pokes: bool) {
             board,
             &mut volts,
             &mut totals,
-            pokes,
+            asked,
             got,
             &bytes,
             &mut line,

@@ -20,15 +20,15 @@ use Rattle.name.specs.Name.{nameLength, padded}
 use Rattle.name.proofs.Laws.{padded-long}
 use Rattle.roll.specs.Directory.{namesIn, among}
 use Rattle.directory.specs.Format.{mostCards, bytesOfAll}
-use Rattle.library.proofs.BytesWritten.{partFrom, partPut, length-all}
-use Rattle.line_read.specs.Line.{Model, lineOf}
-use Rattle.line_read.specs.declared.Answer as declared
-use Rattle.line_read.specs.declared.Answer.the-variants as answer
-use Rattle.line_read.specs.Answers as read
-use Rattle.line_read.specs.Answers.{recordBytes, toldAnswer, answered}
+use Rattle.copying.proofs.BytesWritten.{partFrom, partPut, length-all}
+use Rattle.line.specs.Line.{Model, lineOf}
+use Rattle.line.specs.declared.Answer as declared
+use Rattle.line.specs.declared.Answer.the-variants as answer
+use Rattle.line.specs.Answers as read
+use Rattle.line.specs.Answers.{recordBytes, toldAnswer, answered}
 use Rattle.line_laws.proofs.Sound.{line-good}
 use Rattle.trimming.specs.Trimmed.{trimmed}
-use Rattle.filing.specs.Lines.{longestLine}
+use Rattle.joining.specs.Lines.{longestLine}
 use Rattle.filing.specs.Filed.{namesRoom, besides, filingOf, overAt, Leaves, Files}
 use Rattle.filing.specs.inner.Cards.{FilesCard}
 

@@ -10,12 +10,12 @@ use Rattle.bytes_le.specs.Buffer.{over}
 use Rattle.name.specs.Name.{nameLength, padded}
 use Rattle.roll.specs.Directory.{namesIn, among}
 use Rattle.directory.specs.Format.{mostCards, bytesOfAll}
-use Rattle.line_read.specs.Line.{Model, lineOf}
-use Rattle.line_read.specs.Answers.{recordBytes}
-use Rattle.line_read.specs.declared.Answer as declared
-use Rattle.line_read.specs.Answers.{toldAnswer, answered}
+use Rattle.line.specs.Line.{Model, lineOf}
+use Rattle.line.specs.Answers.{recordBytes}
+use Rattle.line.specs.declared.Answer as declared
+use Rattle.line.specs.Answers.{toldAnswer, answered}
 use Rattle.trimming.specs.Trimmed.{trimmed}
-use Rattle.filing.specs.Lines.{longestLine}
+use Rattle.joining.specs.Lines.{longestLine}
 
 -- the bytes of the most names, and of the most records
 abbrev pub namesRoom : ℕ

@@ -3,9 +3,9 @@ use mathlib.Core.Path.{_≡_}
 use mathlib.Core.List.{List}
 use Prim.Native.Nat.{ℕ}
 use Rattle.refusal.specs.Unique.{unique-by-equation}
-use Rattle.line_read.specs.declared.Answer as declared
-use Rattle.line_read.specs.Answers.{answered}
-use Rattle.line_read.specs.Unique.{answer-from}
+use Rattle.line.specs.declared.Answer as declared
+use Rattle.line.specs.Answers.{answered}
+use Rattle.line.specs.Unique.{answer-from}
 use Rattle.filing.specs.Filed.{filingOf, Files}
 
 pub unique-file-line : (line : List ℕ) (n : ℕ) (names records : List ℕ) (r r′ : declared.Answer) (a a′ b b′ : List ℕ)

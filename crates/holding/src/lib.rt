@@ -99,7 +99,7 @@ pub fn load(
         Loading::Stop(f) => Answer::Refused(f),
         Loading::Go(i, worked) => {
             let own = name::pad(name);
-            let ready = terms::prepare(worked);
+            let ready = ready::prepare(worked);
             hold(
                 numbers,
                 powers,
@@ -145,7 +145,7 @@ pub fn withdraw(
     }
     let gone: u32 = 0;
     let blank = [0u8; name::LENGTH];
-    let none = terms::no_ready();
+    let none = ready::no_ready();
     hold(
         numbers,
         powers,

@@ -14,7 +14,7 @@ use Rattle.library.specs.declared.Writing.the-variants.{Bytes, Refused}
 use Rattle.directory.specs.Format.{wholeOf, bytesOfAll, headerOf, libraryOf, headerBytes, recordsAt}
 use Rattle.library.specs.Answers.{left, written, Writes, verdictWritten}
 use Rattle.directory.specs.Judged.{offerJudged}
-use Rattle.library.proofs.BytesWritten.{then-part, length-header, partFrom, partPut}
+use Rattle.copying.proofs.BytesWritten.{then-part, length-header, partFrom, partPut}
 use Rattle.refusal.specs.Order.{Verdict, no, refuseIf, tells, yes}
 use Rattle.name.specs.Name.{same}
 use Rattle.bytes_le.specs.Buffer.{over}

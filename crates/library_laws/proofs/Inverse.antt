@@ -25,8 +25,8 @@ use Rattle.library.specs.Unique.{reading-told, asReading, writing-told, asWriti
 use Rattle.directory.proofs.Verdicts.{SoundLibrary, library-pass, library-yes, names-pass, names-yes}
 use Rattle.directory.proofs.Verdicts.{passed, refuse-yes, then-yes}
 use Rattle.directory.proofs.Headers.{Agreed, agreed, known-version}
-use Rattle.library.proofs.WordsRead.{words-none, words-more, words-length}
-use Rattle.library.proofs.BytesWritten.{length-all}
+use Rattle.copying.proofs.WordsRead.{words-none, words-more, words-length}
+use Rattle.copying.proofs.BytesWritten.{length-all}
 use Rattle.directory.proofs.Inspections.{Inspected, inspected}
 use Rattle.library.proofs.Outcomes.{read-yes}
 use Rattle.directory.proofs.Offers.{Offered, offers}

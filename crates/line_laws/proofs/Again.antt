@@ -14,13 +14,13 @@ use Rattle.bytes_le.specs.Le.{le, le-bytes, Below}
 use Rattle.clip.specs.Numbers.{polarity, spare}
 use Rattle.clip.specs.Record.{isWide, wordAt}
 use Rattle.directory.specs.Format.{bytesOfAll}
-use Rattle.library.proofs.BytesWritten.{length-all}
+use Rattle.copying.proofs.BytesWritten.{length-all}
 use Rattle.decimal.specs.declared.Form.{Form}
 use Rattle.decimal.specs.declared.Form.the-variants.{Number, Nothing}
 use Rattle.shortest.specs.Form.{formOf}
 use Rattle.decimal_laws.proofs.Numbered.{Numbered, numbered-form, numbered-below}
 use Rattle.keys.specs.Keys.{keyCount, plusOne, minusOne}
-use Rattle.line_read.specs.Line.{Model, lineOf}
+use Rattle.line.specs.Line.{Model, lineOf}
 use Rattle.line_write.specs.Text.{settled, isForm, formsUp, lineText, textOf}
 use Rattle.line_laws.proofs.Taking.{wordsUp}
 use Rattle.line_laws.proofs.Back.{line-after-record, below-all}

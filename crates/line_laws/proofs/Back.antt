@@ -26,8 +26,8 @@ use Rattle.shortest.specs.Form.{formOf}
 use Rattle.decimal_write.specs.Written.{powerIf, powerText, numberText, formText}
 use Rattle.decimal_write.proofs.Puts.{one-digit, more-digits}
 use Rattle.keys.specs.Keys.{keyCount, keyWord, defaults, plusOne, minusOne}
-use Rattle.line_read.specs.Line.{Head, wordsFrom, startsInSpace, endsInSpace, typed}
-use Rattle.line_read.specs.Line.{headOf, lineOf}
+use Rattle.line.specs.Line.{Head, wordsFrom, startsInSpace, endsInSpace, typed}
+use Rattle.line.specs.Line.{headOf, lineOf}
 use Rattle.line_write.specs.Text.{settled, isForm, formsUp, keyText, keysUp, typeText, lineText, textOf}
 use Rattle.line_laws.proofs.Joined.{joined, more, words-joined}
 use Rattle.line_laws.proofs.Taking.{keyedUp, wordsUp, takenUp, keys-joined, all-words, words-long, take-up}

@@ -13,7 +13,7 @@ use Rattle.spelling.specs.Bytes.{space}
 use Rattle.words.specs.Words.{Span, spansFrom, partOf}
 use Rattle.words.specs.laws.Split.{spaceless, IsWord}
 use Rattle.words.proofs.Parts.{part-there}
-use Rattle.line_read.specs.Line.{wordsFrom}
+use Rattle.line.specs.Line.{wordsFrom}
 
 -- ---- words cut from bytes, w being the part of one that is read
 

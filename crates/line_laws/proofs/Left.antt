@@ -14,11 +14,11 @@ use Rattle.bytes_le.specs.Le.{Below}
 use Rattle.bytes_le.specs.Buffer.{over}
 use Rattle.name.specs.Name.{nameLength, padded}
 use Rattle.directory.specs.Format.{bytesOfAll}
-use Rattle.line_read.specs.Line.{Model, lineOf}
-use Rattle.line_read.specs.declared.Answer as answered
-use Rattle.line_read.specs.declared.Answer.the-variants as answer
-use Rattle.line_read.specs.Answers as read
-use Rattle.line_read.specs.Answers.{recordBytes, readingOf, Reads}
+use Rattle.line.specs.Line.{Model, lineOf}
+use Rattle.line.specs.declared.Answer as answered
+use Rattle.line.specs.declared.Answer.the-variants as answer
+use Rattle.line.specs.Answers as read
+use Rattle.line.specs.Answers.{recordBytes, readingOf, Reads}
 use Rattle.line_write.specs.declared.Written.{Written}
 use Rattle.line_write.specs.declared.Written.the-variants as written
 use Rattle.line_write.specs.Text.{lineText, textOf}

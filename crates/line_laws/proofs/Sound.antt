@@ -22,10 +22,10 @@ use Rattle.decimal_read.specs.Text.{wordRead}
 use Rattle.decimal_laws.proofs.Numbered.{Numbered, read-numbered}
 use lib.Ieee.{round, toBits}
 use Rattle.keys.specs.Keys.{Key, keys, keyCount, wordIn, defaults, plusOne, minusOne}
-use Rattle.line_read.specs.Line.{Head, Taken, Model, noneTaken, equalsAt, keyOf, numberOf, withNumber, takeKey}
-use Rattle.line_read.specs.Line.{takeKeys}
-use Rattle.line_read.specs.Line.{typedIf, typed, named, headed, headOf, startsInSpace, endsInSpace, wordsFrom, modelOf}
-use Rattle.line_read.specs.Line.{closed, lineOf}
+use Rattle.line.specs.Line.{Head, Taken, Model, noneTaken, equalsAt, keyOf, numberOf, withNumber, takeKey}
+use Rattle.line.specs.Line.{takeKeys}
+use Rattle.line.specs.Line.{typedIf, typed, named, headed, headOf, startsInSpace, endsInSpace, wordsFrom, modelOf}
+use Rattle.line.specs.Line.{closed, lineOf}
 
 -- ---- words of which each is a number's; past their end there is 0, which is one
 

@@ -26,8 +26,8 @@ use Rattle.decimal_write.proofs.Puts.{one-digit, more-digits}
 use Rattle.decimal_laws.proofs.Back.{read-of-written}
 use Rattle.packing.proofs.Packs.{both}
 use Rattle.keys.specs.Keys.{keyCount, keyNumber, keyWord, defaults}
-use Rattle.line_read.specs.Line.{Taken, taken, noneTaken, equalsAt, takeKey, takeKeys}
-use Rattle.line_read.proofs.Keyed.{key-number}
+use Rattle.line.specs.Line.{Taken, taken, noneTaken, equalsAt, takeKey, takeKeys}
+use Rattle.line.proofs.Keyed.{key-number}
 use Rattle.line_write.specs.Text.{isForm, formsUp, keysUp}
 use Rattle.line_laws.proofs.Joined.{joined, joined-two, AllWords, none, more}
 

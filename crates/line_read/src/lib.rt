@@ -1,28 +1,16 @@
 // A model line read: its card's name and record put into lent buffers, or why not.
 ghost use Prim.Native.Nat.{_≤_};
 ghost use lib.ListN.{length};
-ghost use Rattle.line_read.specs.Line.{modelOf, endsInSpace};
+ghost use Rattle.line.specs.Line.{modelOf, endsInSpace};
 ghost use mathlib.Core.Path.{_≡_};
-ghost use Rattle.line_read.specs.Answers.{roomFor, Leaves, Reads};
-ghost use Rattle.line_read.specs.inner.Steps.{headAt, keysTold, isRefused, fromKeys};
-
-mod head; // head.rt: the first three words
-mod taking; // taking.rt: the keys with their numbers
-
-use head::Head;
+ghost use Rattle.line.specs.Answers.{roomFor, Leaves, Reads};
+ghost use Rattle.line.specs.inner.Steps.{headAt, keysTold, isRefused, fromKeys};
 use keys::KEYS;
+pub use line::Answer;
+use line::Head;
+pub use line::RECORD_BYTES;
+pub use line::WORDS;
 use refusal::Refusal;
-
-// The words of a record of version 2, and its bytes.
-pub const WORDS: usize = 24;
-
-pub const RECORD_BYTES: usize = 192;
-
-// How reading went.
-pub enum Answer {
-    Taken,
-    Refused(Refusal),
-}
 
 // Whether a space stands last.
 fn ends_in_space(line: &[u8]) -> bool
@@ -112,7 +100,7 @@ pub fn read_line(line: &[u8], name: &mut [u8], rec: &mut [u8]) -> Answer
     ensures { λ r. ⌜ Reads (now (line .entry)) (now (name .entry)) (now (rec .entry)) r (now (name .exit))
         (now (rec .exit)) ⌝ }
 {
-    match head::judge_head(line) {
+    match line_head::judge_head(line) {
         Head::Refused(f) => Answer::Refused(f),
         Head::Words {
             start,
@@ -124,7 +112,7 @@ pub fn read_line(line: &[u8], name: &mut [u8], rec: &mut [u8]) -> Answer
             let packed = keys::packed();
             let mut words = keys::defaults();
             let mut given = [false; KEYS];
-            let went = taking::take_keys(&tens, &packed, line, at, &mut words, &mut given);
+            let went = line_keys::take_keys(&tens, &packed, line, at, &mut words, &mut given);
             finish(line, start, end, sign, &mut words, &given, went, name, rec)
         }
     }

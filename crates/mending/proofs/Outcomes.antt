@@ -22,7 +22,7 @@ use Rattle.directory.proofs.Headers.{known-version, known-width}
 use Rattle.directory.proofs.Inspections.{Inspected}
 use Rattle.directory.proofs.Verdicts.{library-yes}
 use Rattle.library.specs.Answers.{left}
-use Rattle.library.proofs.BytesWritten.{partFrom, partPut, then-part}
+use Rattle.copying.proofs.BytesWritten.{partFrom, partPut, then-part}
 use Rattle.library.proofs.Outcomes.{recordsPart, records-part}
 use Rattle.mending.specs.declared.Mending.{Mending}
 use Rattle.mending.specs.declared.Mending.the-variants.{Set, Refused}

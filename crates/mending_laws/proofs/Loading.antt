@@ -17,11 +17,12 @@ use Rattle.clip.specs.Limits.{zero, plainOf}
 use Rattle.clip.specs.Record.{isWide, rightLength, widthOf, numberAt, finiteUp}
 use Rattle.clip.specs.Clip.{clippedAt}
 use Rattle.card.specs.declared.WorkedCard.{WorkedCard}
-use Rattle.card.specs.Octave.{octaveGood}
-use Rattle.card.specs.Judge.{judgedNumbers, level, level504, octave, icss, sparesGood, settingsGood, icssBelow}
-use Rattle.card.specs.Judge.{withinReach, cardOf, judgeNumbers, judgeOf}
-use Rattle.card.specs.laws.Tells.{judge-order}
-use Rattle.card.proofs.Clipped.{each-finite, each-judged, in-both}
+use Rattle.loading.specs.Octave.{octaveGood}
+use Rattle.loading.specs.Numbers.{judgedNumbers, level, level504, octave, icss, sparesGood, settingsGood, icssBelow}
+use Rattle.loading.specs.Numbers.{withinReach}
+use Rattle.card.specs.Judge.{cardOf, judgeNumbers, judgeOf}
+use Rattle.card_laws.specs.laws.Tells.{judge-order}
+use Rattle.loading.proofs.Clipped.{each-finite, each-judged, in-both}
 use Rattle.directory.specs.Judged.{Sound}
 use Rattle.mending.specs.Mended.{signals, recordsIn, mendedOf}
 use Rattle.mending_laws.proofs.OneRecord.{zero-not-below}

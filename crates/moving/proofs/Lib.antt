@@ -1,2 +1,1 @@
-pub mod Pairs
 mod Moving

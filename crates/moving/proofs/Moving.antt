@@ -44,9 +44,9 @@ use Rattle.lending.specs.Reached.{Reached}
 use Rattle.lending.specs.inner.Lent.{stateWith, Lends, LeavesLevels}
 use Rattle.lending.proofs.Footing.{ground-in}
 use Rattle.lending.proofs.Cases.{off-slices, refused-by, leaves-64, taken-so}
-use Rattle.moving.specs.inner.Pairs.{NamesAny}
+use Rattle.pairs.specs.inner.Pairs.{NamesAny}
 use Rattle.moving.specs.inner.Told.{answerTo}
-use Rattle.moving.proofs.Pairs.{any-same}
+use Rattle.pairs.proofs.Pairs.{any-same}
 
 -- ---- refusals before anything is worked
 

@@ -345,15 +345,6 @@ pub fn lay_table(t: &mut Table)
     lay(t, 1);
 }
 
-// The table, for callers that are not in haste.
-pub fn table() -> Table
-    ensures { λ r. ⌜ r ≡ entries ⌝ }
-{
-    let mut t = [0u32; ENTRIES];
-    lay_table(&mut t);
-    t
-}
-
 // What is worked once for the octave w.
 pub fn reciprocal_of(w: u64) -> Reciprocal
     requires { ⌜ InRange w ⌝ }

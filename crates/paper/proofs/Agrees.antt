@@ -19,7 +19,7 @@ use Rattle.clip.specs.Record.{finiteUp}
 use Rattle.clip.specs.Clip.{clippedUp, clippedAt, maskUp, clipOf}
 use Rattle.card.specs.Judge.{judgeOf}
 use Rattle.card.specs.inner.Worked.{IsWorked}
-use Rattle.card.proofs.WorkedCards.{judged-is-worked}
+use Rattle.card_laws.proofs.WorkedCards.{judged-is-worked}
 use Rattle.terms.specs.Rows.{roles}
 use Rattle.terms.specs.Looked.{lookedAt}
 use Rattle.scaling.specs.Scaled.{expOf}

@@ -47,7 +47,7 @@ pub fn read_node(volts: &[i64], totals: &[i64], node: i64) -> Answer
     ensures { λ r. ⌜ ((b : Rest) → r ≡ showedLent (stateWith b (now (volts .entry)) (now (totals .entry)))
         node .answer) ⌝ }
 {
-    let kept = slices::keep_slices(volts, totals);
+    let kept = keeping::keep_slices(volts, totals);
     if !kept.good {
         return Answer::Refused(Refusal::OutOfRange);
     }

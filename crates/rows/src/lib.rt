@@ -35,6 +35,6 @@ pub fn work_out(t: &Table, r: Ready, v: &[u32; ROLES]) -> Outcome
     requires { ⌜ Askable (now t) r (now v) ⌝ }
     ensures { λ x. ⌜ x ≡ outcomeAcross (r .card) (biasOf (map givenBack (now (v .entry)))) ⌝ }
 {
-    let x = terms::all_terms(t, r, v);
+    let x = values::all_terms(t, r, v);
     rows::outcome(x)
 }

@@ -1,13 +1,13 @@
--- Placing and lifting on arrays that are a board's, beside two slices: each end of a call, with what it leaves in them.
-use mathlib.Core.Path.{_≡_, refl, sym, subst}
+-- Placing on arrays that are a board's, beside two slices: each end of a call, with what it leaves in them.
+use mathlib.Core.Path.{_≡_, sym, subst}
 use mathlib.Core.Bool.{Bool, true, false}
 use mathlib.Core.List.{List, map}
 use Prim.Native.Nat.{ℕ, _+_, _*_, _≤_, _<_}
-use lib.Dec.{eqb, leb}
-use lib.ListN.{length, getD, set, replicate}
+use lib.Dec.{leb}
+use lib.ListN.{length, getD, set}
 use lib.IntN.{ℤ, pos}
 use Rattle.refusal.specs.declared.Refusal.{Refusal}
-use Rattle.refusal.specs.declared.Refusal.the-variants.{OutOfReach, OutOfRange, Unknown}
+use Rattle.refusal.specs.declared.Refusal.the-variants.{OutOfReach, OutOfRange}
 use Rattle.volts.specs.Volts.{givenBack, keptAs}
 use Rattle.octave.specs.Table.{entries}
 use Rattle.rows.specs.declared.Outcome.{Outcome}
@@ -16,7 +16,7 @@ use Rattle.terms.specs.Rows.{roles, branches}
 use Rattle.terms.specs.Looked.{lookedAt}
 use Rattle.totals.specs.Flow.{ticksGive}
 use Rattle.totals.specs.inner.Sums.{More, Givable}
-use Rattle.given.specs.Arguments.{some, issueOf, issuesMost, usedUp, wideBy}
+use Rattle.given.specs.Arguments.{issueOf, issuesMost, usedUp, wideBy}
 use Rattle.given.specs.inner.Nodes.{nodeOf}
 use Rattle.deck.specs.Stretch.{written}
 use Rattle.slices.specs.declared.Stood.{Stood}
@@ -24,49 +24,27 @@ use Rattle.slices.specs.Slices.{offSlices, changed, stoodOf}
 use Rattle.placing.specs.declared.Way.{Way}
 use Rattle.placing.specs.declared.Way.the-variants.{Go, Stop}
 use Rattle.placing.specs.inner.Placing.{placing, wayOf}
-use Rattle.places.specs.Naming.{joined, parted}
-use Rattle.places.specs.inner.Flat.{firstAt, freePlace, numberPlace, tiesAt, wideAt}
-use Rattle.places.specs.inner.Parts.{placeOr, Entering}
-use Rattle.places.specs.laws.Founds.{not-there}
+use Rattle.places.specs.Naming.{joined}
+use Rattle.places.specs.inner.Flat.{freePlace, numberPlace, tiesAt, wideAt}
+use Rattle.places.specs.inner.Parts.{Entering}
 use Rattle.flows.specs.inner.Workable.{deckOf, Workable, Works, cardOf}
-use Rattle.settle.specs.inner.Working.{nodesAt, heldAt}
 use Rattle.model.specs.Board.{Board}
 use Rattle.model.specs.declared.Answer.{Answer}
-use Rattle.model.specs.declared.Answer.the-variants.{Issue, Done, Refused}
+use Rattle.model.specs.declared.Answer.the-variants.{Issue, Refused}
 use Rattle.model.specs.Counts.{nodesMost, cardsMost, transistorsMost}
-use Rattle.model.specs.Model.{placedOf, liftedOf}
+use Rattle.model.specs.Model.{placedOf}
 use Rattle.model.proofs.Footing.{Ground}
 use Rattle.lending.specs.Rest.{Rest, State, boardIn}
-use Rattle.lending.specs.Lending.{Lent, refuse, placedLent, liftedLent}
+use Rattle.lending.specs.Lending.{refuse, placedLent}
 use Rattle.lending.specs.Reached.{Reached}
-use Rattle.lending.specs.inner.Lent.{stateWith, LendsPlaces, LendsStanding, LeavesPlaces}
+use Rattle.lending.specs.inner.Lent.{stateWith, LendsPlaces, LeavesPlaces}
 use Rattle.lending.proofs.Footing.{ground-in}
 use Rattle.lending.proofs.Tests.{stood-bad, stood-good, stood-long}
 use Rattle.lending.proofs.Cases.{Taken, off-slices, refused-by, leaves-64, taken-so}
-use Rattle.seating.proofs.Sums.{none}
+use Rattle.lending.proofs.Sums.{none}
+use Rattle.lending.proofs.Leaves.{stays}
 use Rattle.seating.proofs.Placing.{place-stops, free-there, number-there, place-there, place-enters, place-works}
 use Rattle.seating.proofs.Placing.{place-gives, place-over, place-goes, place-stands, places-it}
-use Rattle.seating.proofs.Lifting.{lift-unknown, lift-goes, lift-gives, lift-leaves, lift-stands, lifts-it}
-
--- a refusal leaves all
-stays : (s : State) {f : Refusal} {a : Lent} → a ≡ refuse s f →
-    LeavesPlaces a (Refused f) (s .rest .issues) (s .rest .cards) (s .rest .seats) (s .rest .nodes) (s .rest .naming)
-    (s .totals) (s .rest .currents) (s .rest .next)
-stays s e =
-    rw e
-    (record {
-      answer-is = refl;
-      issues-are = refl;
-      cards-are = refl;
-      seats-are = refl;
-      nodes-are = refl;
-      naming-are = refl;
-      totals-are = refl;
-      currents-are = refl;
-      next-is = refl;
-    })
-
--- ---- placing
 
 module _ {r : Rest} {numbers powers ticks : List ℕ} {switches : List Bool}
     {held issues cards seats nodes naming : List ℕ} {currents : List ℤ} {next : ℕ}
@@ -220,120 +198,3 @@ module _ {r : Rest} {numbers powers ticks : List ℕ} {switches : List Bool}
                     taken-so (λ (b : Board). placedOf b card given) found good taken (rw (← stands) (y .0)),
                   )
                   (places-it (boardIn found) g card given seen-is long on-are way-is e own-works h))
-
--- ---- lifting
-
-module _ {r : Rest} {issues cards seats nodes naming : List ℕ} {currents : List ℤ}
-    (l : LendsStanding r issues cards seats nodes naming currents) (k : Reached r) (volts totals : List ℤ) (z : ℤ) where
-  abbrev standing : Rest
-  standing =
-      record {
-        numbers = r .numbers;
-        powers = r .powers;
-        ticks = r .ticks;
-        switches = r .switches;
-        names = r .names;
-        held = r .held;
-        next = r .next;
-        issues = issues;
-        cards = cards;
-        seats = seats;
-        nodes = nodes;
-        naming = naming;
-        currents = currents;
-      }
-
-  standing-is : standing ≡ r
-  standing-is =
-      λ j. record {
-        numbers = r .numbers;
-        powers = r .powers;
-        ticks = r .ticks;
-        switches = r .switches;
-        names = r .names;
-        held = r .held;
-        next = r .next;
-        issues = l .issues-are j;
-        cards = l .cards-are j;
-        seats = l .seats-are j;
-        nodes = l .nodes-are j;
-        naming = l .naming-are j;
-        currents = l .currents-are j;
-      }
-
-  abbrev was : State
-  was = stateWith standing volts totals
-
-  abbrev Lifts : Rest → Answer → List ℕ → List ℕ → List ℕ → List ℕ → List ℕ → List ℤ → List ℤ → Type 0
-  Lifts q answer is cs ss ns ms ts us =
-      LeavesPlaces (liftedLent (stateWith q volts totals) z) answer is cs ss ns ms ts us (r .next)
-
-  turned : {f : Refusal} → liftedLent was z ≡ refuse was f →
-      Lifts r (Refused f) issues cards seats nodes naming totals currents
-  turned {f} e =
-      subst (λ (q : Rest). Lifts q (Refused f) issues cards seats nodes naming totals currents) standing-is
-      (stays was e)
-
-  pub lift-off : offSlices volts totals ≡ true →
-      Lifts r (Refused OutOfRange) issues cards seats nodes naming totals currents
-  unfolding liftedLent
-  lift-off e = turned (off-slices (λ (b : Board). liftedOf b z) was e)
-
-  module _ (good : offSlices volts totals ≡ false) where
-    ground : Ground (boardIn was)
-    ground = ground-in was (subst Reached (sym standing-is) k) good
-
-    pub lift-none : transistorsMost ≤ placeOr transistorsMost (numberPlace transistorsMost (issueOf z) issues) →
-        Lifts r (Refused Unknown) issues cards seats nodes naming totals currents
-    unfolding liftedLent
-    lift-none h =
-        turned
-        (refused-by (λ (b : Board). liftedOf b z) was good
-        (lift-unknown (boardIn was) (ground .footing) z
-        (not-there transistorsMost (firstAt transistorsMost (issueOf z) issues) (eqb (issueOf z) 0) h)))
-
-    module _ (i : ℕ) (e : numberPlace transistorsMost (issueOf z) issues ≡ some i) {on : List ℕ}
-        (o : on ≡ nodesAt nodes i) {held : List ℤ} (p : held ≡ heldAt currents i) where
-      pub lift-puts : Givable none on held × (length held ≡ branches)
-      lift-puts = lift-gives (boardIn was) (ground .footing) z i e o p
-
-      pub lift-parts : Entering naming i on
-      lift-parts = lift-leaves (boardIn was) (ground .footing) z i e o p
-
-      module _ {going : List ℤ} (more : More nodesMost none going (ticksGive on held)) where
-        lift-changed : changed totals none going ≡ liftedOf (boardIn was) z .board .totals
-        lift-changed = lift-stands (boardIn was) (ground .footing) z i e o p more
-
-        lift-taken : Taken (liftedOf (boardIn was) z .answer)
-        lift-taken = rw (lift-goes (boardIn was) (ground .footing) z i e)
-
-        module _ {x : Stood} (x-is : x ≡ stoodOf totals none going) where
-          pub lift-long : length (x .totals) ≡ nodesMost
-          lift-long = stood-long totals none going x-is
-
-          pub lift-leaves-64 : x .good ≡ false →
-              Lifts r (Refused OutOfReach) issues cards seats nodes naming totals currents
-          unfolding liftedLent
-          lift-leaves-64 bad =
-              turned
-              (leaves-64 (λ (b : Board). liftedOf b z) was good lift-taken
-              (rw (← lift-changed) (stood-bad totals none going x-is bad)))
-
-          pub lift-done : x .good ≡ true → {t : List ℤ} → t ≡ x .totals →
-              Lifts r Done (set issues i 0) (set cards i 0) (set seats i 0)
-              (written 0 nodes (roles * i) (replicate roles 0) roles) (parted naming i on) t
-              (written (pos 0) currents (branches * i) (replicate branches (pos 0)) branches)
-          unfolding liftedLent
-          lift-done fits {t} q =
-              let y = stood-good totals none going x-is fits in
-              subst
-              (λ (m : Rest). Lifts m Done (set issues i 0) (set cards i 0) (set seats i 0)
-              (written 0 nodes (roles * i) (replicate roles 0) roles) (parted naming i on) t
-              (written (pos 0) currents (branches * i) (replicate branches (pos 0)) branches)) standing-is
-              (rw (
-                q,
-                y .1,
-                lift-changed,
-                taken-so (λ (b : Board). liftedOf b z) was good lift-taken (rw (← lift-changed) (y .0)),
-              )
-              (lifts-it (boardIn was) (ground .footing) z i e o p))

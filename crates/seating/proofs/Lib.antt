@@ -1,5 +1,3 @@
-pub mod Sums
-pub mod PlacingTests
-pub mod Placing
-pub mod Lifting
-pub mod Lent
+mod PlacingTests
+mod Placing
+mod Lent

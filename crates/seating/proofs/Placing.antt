@@ -45,7 +45,7 @@ use Rattle.model.proofs.Lent.{deckIn, ready-there, issue-there, card-able}
 use Rattle.lending.specs.Lending.{lentAs}
 use Rattle.lending.specs.inner.Lent.{LeavesPlaces}
 use Rattle.seating.proofs.PlacingTests.{lastly, on-same, then-lastly}
-use Rattle.seating.proofs.Sums.{none, none-room, only-comes}
+use Rattle.lending.proofs.Sums.{none, none-room, only-comes}
 
 -- what the card looks at of the nodes, and the way, by the board's arrays
 abbrev pub seenBy : Board → ℤ → List ℤ → List ℤ

@@ -21,7 +21,8 @@ use Rattle.deck.specs.laws.Ups.{length-up, getD-up}
 use Rattle.slices.specs.declared.Kept.{Kept}
 use Rattle.slices.specs.declared.Total.{Total}
 use Rattle.slices.specs.declared.Total.the-variants.{At, Leaves}
-use Rattle.slices.specs.Slices.{rightLengths, noneKept, keptUnless, keptOf, keptSlices, outside64, standingAt, noneStand}
+use Rattle.slices.specs.Slices.{rightLengths, noneKept, keptUnless, keptOf, keptSlices, outside64, standingAt}
+use Rattle.slices.specs.Slices.{noneStand}
 use Rattle.slices.specs.Slices.{stoodUnless, stoodOf, changed}
 use Rattle.slices.proofs.Raised.{inside-held}
 

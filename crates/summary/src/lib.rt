@@ -56,8 +56,8 @@ fn size_there(x: i64, from: u8, to: u8, n: u8) -> u64
 fn largest_at(on: &[u8; ROLES], own: &[i64; BRANCHES], n: u8) -> u64
     ensures { λ r. ⌜ r ≡ sizeAt n (now (on .entry)) (now (own .entry)) ⌝ }
 {
-    let from = terms::from_roles();
-    let to = terms::to_roles();
+    let from = ends::from_roles();
+    let to = ends::to_roles();
     let mut most: u64 = 0;
     let mut k = BRANCHES;
     while 0 < k {

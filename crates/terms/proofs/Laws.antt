@@ -10,7 +10,7 @@ use Rattle.octave.specs.Table.{entries}
 use Rattle.card.specs.declared.WorkedCard.{WorkedCard}
 use Rattle.card.specs.Judge.{judgeOf}
 use Rattle.card.specs.inner.Worked.{IsWorked}
-use Rattle.card.proofs.WorkedCards.{judged-is-worked}
+use Rattle.card_laws.proofs.WorkedCards.{judged-is-worked}
 use Rattle.terms.specs.Rows.{roles}
 use Rattle.terms.specs.inner.Ready.{readyOf, IsReady, Askable}
 

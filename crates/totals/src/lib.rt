@@ -78,8 +78,8 @@ pub fn put(l: &mut [i64; NODES], nodes: &[u8; ROLES], ticks: &[i64; BRANCHES])
     ensures { λ _. ⌜ More nodesMost (now (l .entry)) (now (l .exit))
         (rolesGive (now (nodes .entry)) fromRoles toRoles (now (ticks .entry))) ⌝ }
 {
-    let from = terms::from_roles();
-    let to = terms::to_roles();
+    let from = ends::from_roles();
+    let to = ends::to_roles();
     let mut a = [0i64; ROLES];
     branches(&mut a, &from, &to, ticks);
     hand_out(l, nodes, &a);

@@ -19,11 +19,12 @@ use Rattle.clip.specs.Record.{isWide, isNarrow}
 use Rattle.clip.specs.Clip.{clippedUp}
 use Rattle.float.specs.Split.{splitA}
 use Rattle.card.specs.declared.WorkedCard.{WorkedCard}
-use Rattle.card.specs.Judge.{at, judgedNumbers, cardOf}
+use Rattle.loading.specs.Numbers.{at, judgedNumbers}
+use Rattle.card.specs.Judge.{cardOf}
 use Rattle.card.specs.Judge.{judgeOf}
-use Rattle.card.specs.laws.Version.{SaysNoMore, withLeads, judgedWithLeads}
-use Rattle.card.proofs.Versions.{versions-agree}
-use Rattle.card.proofs.WorkedCards.{passes}
+use Rattle.card_laws.specs.laws.Version.{SaysNoMore, withLeads, judgedWithLeads}
+use Rattle.card_laws.proofs.Versions.{versions-agree}
+use Rattle.card_laws.proofs.WorkedCards.{passes}
 use Rattle.terms.specs.Rows.{Role, Row, row1, row2, row3, row4, row5, row6, row7, row8, junctionRows}
 use Rattle.rows.specs.Ticks.{rowTicks}
 use Rattle.rows.specs.Outcome.{ratioLimit, someAbove, ratiosIn, overTicks, firstOver}

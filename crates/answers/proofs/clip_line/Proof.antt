@@ -4,7 +4,7 @@ use borrow.Author.Needs.{needs}
 use Rattle.sheet.specs.Digits.{maskDigits}
 use Rattle.sheet.specs.laws.LinesFit.{hex-whole, mask-short}
 use Rattle.answers.specs.Answers.{clipLine}
-use Rattle.answers.proofs.Pages.{then}
+use Rattle.page.proofs.Pages.{then}
 use Rattle.answers.proofs.Written.{text-short, text-written}
 use Rattle.answers.proofs.clip_line.Tie as tie
 use Rattle.answers.proofs.clip_line.Statement.{statement}

@@ -1,7 +1,7 @@
 -- The word, and the numbers after it.
 use borrow.Author.Needs.{needs}
 use Rattle.answers.specs.Answers.{currentsLine}
-use Rattle.answers.proofs.Pages.{then}
+use Rattle.page.proofs.Pages.{then}
 use Rattle.answers.proofs.currents_line.Tie as tie
 use Rattle.answers.proofs.currents_line.Statement.{statement}
 

@@ -1,7 +1,7 @@
 -- The pieces one after the other.
 use borrow.Author.Needs.{needs}
 use Rattle.answers.specs.Answers.{errorLine}
-use Rattle.answers.proofs.Pages.{then}
+use Rattle.page.proofs.Pages.{then}
 use Rattle.answers.proofs.Written.{as-bytes}
 use Rattle.answers.proofs.error_line.Tie as tie
 use Rattle.answers.proofs.error_line.Statement.{statement}

@@ -1,7 +1,7 @@
 -- The word, and the numbers after it.
 use borrow.Author.Needs.{needs}
 use Rattle.answers.specs.Answers.{sumLine}
-use Rattle.answers.proofs.Pages.{then}
+use Rattle.page.proofs.Pages.{then}
 use Rattle.answers.proofs.sum_line.Tie as tie
 use Rattle.answers.proofs.sum_line.Statement.{statement}
 

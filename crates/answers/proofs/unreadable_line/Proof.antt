@@ -2,7 +2,7 @@
 use mathlib.Core.Path.{_∙_}
 use borrow.Author.Needs.{needs}
 use Rattle.answers.specs.Answers.{unreadableLine}
-use Rattle.answers.proofs.Pages.{write-long, then}
+use Rattle.page.proofs.Pages.{write-long, then}
 use Rattle.answers.proofs.unreadable_line.Tie as tie
 use Rattle.answers.proofs.unreadable_line.Statement.{statement}
 

@@ -3,8 +3,8 @@ use mathlib.Core.Path.{_≡_}
 use borrow.Author.Needs.{needs}
 use Rattle.refusal.specs.Order.{yes}
 use Rattle.card.specs.Judge.{judgeOf}
-use Rattle.card.specs.laws.Unique.{judged-card, judged-refused}
-use Rattle.card.proofs.WorkedCards.{judged-is-worked}
+use Rattle.card_laws.specs.laws.Unique.{judged-card, judged-refused}
+use Rattle.card_laws.proofs.WorkedCards.{judged-is-worked}
 use Rattle.branch.proofs.Replying.{replies-refused, replies-card}
 use Rattle.branch.proofs.currents.Statement.{statement}
 use Rattle.branch.proofs.currents.Tie as tie

@@ -12,10 +12,11 @@ use Rattle.refusal.specs.Unique.{unique-by-equation}
 use Rattle.volts.specs.Volts.{someOff}
 use Rattle.card.specs.declared.WorkedCard.{WorkedCard}
 use Rattle.clip.specs.Record.{rightLength, widthOf, finiteUp}
-use Rattle.card.specs.Octave.{octaveGood}
-use Rattle.card.specs.Judge.{judgedNumbers, level, level504, octave, sparesGood, settingsGood, icssBelow}
-use Rattle.card.specs.Judge.{withinReach, cardOf}
-use Rattle.card.specs.laws.Tells.{judge-order}
+use Rattle.loading.specs.Octave.{octaveGood}
+use Rattle.loading.specs.Numbers.{judgedNumbers, level, level504, octave, sparesGood, settingsGood, icssBelow}
+use Rattle.loading.specs.Numbers.{withinReach}
+use Rattle.card.specs.Judge.{cardOf}
+use Rattle.card_laws.specs.laws.Tells.{judge-order}
 use Rattle.branch.specs.declared.Admission.{Admission}
 use Rattle.branch.specs.declared.Admission.the-variants.{Given, Refused}
 use Rattle.branch.specs.declared.Reply.{Reply}

@@ -4,7 +4,7 @@ use mathlib.Core.Bool.{Bool}
 use borrow.Author.Needs.{needs}
 use Rattle.refusal.specs.Order.{tells}
 use Rattle.card.specs.Judge.{judgeNumbers}
-use Rattle.card.specs.inner.Missing.{filledWith}
+use Rattle.missing.specs.inner.Filled.{filledWith}
 use Rattle.card.proofs.After.{Went, went, stays}
 use Rattle.card.proofs.judge.Statement.{statement}
 use Rattle.card.proofs.judge.Tie as tie

@@ -1,26 +1,16 @@
 -- What is sure of clipped numbers and of a worked card: words of inner contracts, and what callers may count on.
 use mathlib.Core.List.{List, [], _∷_}
 use Prim.Native.Nat.{ℕ, _≤_}
-use lib.Dec.{T}
-use lib.Ieee.{Float, le}
-use lib.Ieee.Scale.{finite}
 use Rattle.float.specs.declared.Split.{Split}
 use Rattle.float.specs.Split.{IsSplit}
 use Rattle.card.specs.declared.WorkedCard.{WorkedCard}
-use Rattle.clip.specs.Limits.{tenth}
-use Rattle.card.specs.Octave.{octaveLeast, octaveMost, secondMost}
-use Rattle.card.specs.Knee.{kneeMost}
-use Rattle.card.specs.Judge.{mlf}
+use Rattle.loading.specs.Octave.{octaveLeast, octaveMost, secondMost}
+use Rattle.loading.specs.Knee.{kneeMost}
 
 -- a thing that holds of every element of a list
 abbrev pub Each : {A : Type 0} → (A → Type 0) → List A → Type 0
 Each P [] = Unit {0}
 Each P (x ∷ l) = P x × Each P l
-
--- what clipping makes sure of m_Lf
-pub record GoodMlf (x : List Float) : Type 0 where
-  pub number : T (finite (mlf x))
-  pub least : T (le tenth (mlf x))
 
 -- the fifteen splits in a row
 abbrev pub splitsOf : WorkedCard → List Split

@@ -4,8 +4,8 @@ use mathlib.Core.List.{List}
 use Prim.Native.Nat.{ℕ}
 use Rattle.name.specs.Name.{padded}
 use Rattle.directory.specs.Format.{bytesOfAll}
-use Rattle.line_read.specs.Line.{Model}
-use Rattle.line_read.specs.declared.Answer as declared
+use Rattle.line.specs.Line.{Model}
+use Rattle.line.specs.declared.Answer as declared
 use Rattle.filing.specs.Filed.{besides, Leaves}
 
 -- whatever the model is that has this padded name and this record

@@ -1,7 +1,7 @@
 -- `load` writes a card that passes the tests at the free place.
 use native.Mathlib.Omega.{arith}
 use borrow.Author.Needs.{needs}
-use Rattle.card.proofs.WorkedCards.{judged-is-worked}
+use Rattle.card_laws.proofs.WorkedCards.{judged-is-worked}
 use Rattle.holding.proofs.Ways.{is-judged, place-there, number-there}
 use Rattle.holding.proofs.Cards.{lent-stops, lent-loads}
 use Rattle.holding.proofs.load.Statement.{statement}

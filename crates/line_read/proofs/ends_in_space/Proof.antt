@@ -1,5 +1,5 @@
 -- Nothing, and a last byte.
-use Rattle.line_read.proofs.Ends.{nothing-last}
+use Rattle.line.proofs.Ends.{nothing-last}
 use borrow.Author.Needs.{needs}
 use Rattle.line_read.proofs.ends_in_space.Statement.{statement}
 use Rattle.line_read.proofs.ends_in_space.Tie as tie

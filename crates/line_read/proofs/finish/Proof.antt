@@ -1,10 +1,10 @@
 -- Keys that are refused, a space last, no octave, and the buffers.
 use mathlib.Core.Path.{_≡_, sym, _∙_}
 use mathlib.Core.Bool.{false}
-use Rattle.line_read.specs.Line.{Head, Taken, taken, endsInSpace}
-use Rattle.line_read.specs.inner.Steps.{headAt, isRefused}
-use Rattle.line_read.proofs.Ends.{refused-leaves, same-verdict, keys-refused, keys-taken}
-use Rattle.line_read.proofs.Ends.{end-space, end-missing, end-given}
+use Rattle.line.specs.Line.{Head, Taken, taken, endsInSpace}
+use Rattle.line.specs.inner.Steps.{headAt, isRefused}
+use Rattle.line.proofs.Ends.{refused-leaves, same-verdict, keys-refused, keys-taken}
+use Rattle.line.proofs.Ends.{end-space, end-missing, end-given}
 use borrow.Author.Needs.{needs}
 use Rattle.line_read.proofs.finish.Statement.{statement}
 use Rattle.line_read.proofs.finish.Tie as tie

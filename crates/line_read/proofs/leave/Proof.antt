@@ -1,7 +1,7 @@
 -- A short name buffer, a short record buffer, and room for both.
-use Rattle.line_read.specs.Line.{Model, modelOf}
-use Rattle.line_read.specs.inner.Steps.{headAt}
-use Rattle.line_read.proofs.Ends.{refused-leaves, taken-leaves, short-name, short-record, both-fit}
+use Rattle.line.specs.Line.{Model, modelOf}
+use Rattle.line.specs.inner.Steps.{headAt}
+use Rattle.line.proofs.Ends.{refused-leaves, taken-leaves, short-name, short-record, both-fit}
 use borrow.Author.Needs.{needs}
 use Rattle.line_read.proofs.leave.Statement.{statement}
 use Rattle.line_read.proofs.leave.Tie as tie

@@ -1,5 +1,5 @@
 -- A head that is refused, and what comes from the keys on.
-use Rattle.line_read.proofs.Ends.{refused-leaves, same-verdict, head-refused, from-keys, head-yes, head-in}
+use Rattle.line.proofs.Ends.{refused-leaves, same-verdict, head-refused, from-keys, head-yes, head-in}
 use borrow.Author.Needs.{needs}
 use Rattle.line_read.proofs.read_line.Statement.{statement}
 use Rattle.line_read.proofs.read_line.Tie as tie

@@ -5,8 +5,9 @@ use mathlib.Core.List.{List}
 use lib.Ieee.{Float}
 use borrow.Author.Needs.{needs}
 use Rattle.refusal.specs.Order.{tells}
-use Rattle.card.specs.Octave.{octaveGood}
-use Rattle.card.specs.Judge.{octave, reachOf, judgeNumbers}
+use Rattle.loading.specs.Octave.{octaveGood}
+use Rattle.loading.specs.Numbers.{octave}
+use Rattle.card.specs.Judge.{reachOf, judgeNumbers}
 use Rattle.card.proofs.Chain.{goes-on, stops}
 use Rattle.card.proofs.judging.judge_numbers.Statement.{statement}
 use Rattle.card.proofs.judging.judge_numbers.Tie as tie

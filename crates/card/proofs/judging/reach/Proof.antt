@@ -5,12 +5,13 @@ use mathlib.Core.List.{List}
 use lib.Ieee.{Float}
 use borrow.Author.Needs.{needs}
 use borrow.Author.Tests.{not-true, not-false}
-use Rattle.card.specs.declared.octaves.Octave.the-variants.{Nanovolts}
+use Rattle.octaves.specs.declared.Octave.the-variants.{Nanovolts}
 use Rattle.working.specs.Work.{workedOf, allFinite}
-use Rattle.card.specs.Knee.{kneeGood}
-use Rattle.card.specs.Judge.{vlr, product, parametersOf}
-use Rattle.card.specs.inner.Octaves.{secondOf}
-use Rattle.card.proofs.Chain.{product-above, mlf-positive, second-out, knee-out, not-all, taken}
+use Rattle.loading.specs.Knee.{kneeGood}
+use Rattle.loading.specs.Numbers.{vlr, product, parametersOf}
+use Rattle.octaves.specs.inner.Second.{secondOf}
+use Rattle.loading.proofs.Product.{product-above, mlf-positive}
+use Rattle.card.proofs.Chain.{second-out, knee-out, not-all, taken}
 use Rattle.card.proofs.judging.reach.Statement.{statement}
 use Rattle.card.proofs.judging.reach.Tie as tie
 

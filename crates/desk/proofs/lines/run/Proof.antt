@@ -5,12 +5,12 @@ use Rattle.desk.proofs.lines.run.Statement.{statement}
 use Rattle.desk.proofs.lines.run.Tie as tie
 
 abbrev Inv-loop : tie.InvT-loop
-Inv-loop fd path pokes bytes₀ line₀ n₀ held₀ out₀ at₀ volts₀ totals₀ board₀ turns₀ bytes line n held out at volts totals
+Inv-loop fd path asked bytes₀ line₀ n₀ held₀ out₀ at₀ volts₀ totals₀ board₀ turns₀ bytes line n held out at volts totals
     board turns =
     Reached board
 
 abbrev μ-loop : tie.MeasureT-loop
-μ-loop fd path pokes bytes₀ line₀ n₀ held₀ out₀ at₀ volts₀ totals₀ board₀ turns₀ bytes line n held out at volts totals
+μ-loop fd path asked bytes₀ line₀ n₀ held₀ out₀ at₀ volts₀ totals₀ board₀ turns₀ bytes line n held out at volts totals
     board turns =
     turns
 

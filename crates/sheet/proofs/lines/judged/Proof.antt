@@ -3,7 +3,7 @@ use mathlib.Core.Path.{sym, ap, _∙_}
 use borrow.Author.Needs.{needs}
 use Rattle.refusal.specs.Order.{numberTold}
 use Rattle.card.specs.Judge.{judgeOf}
-use Rattle.card.specs.laws.Unique.{judged-card, judged-refused}
+use Rattle.card_laws.specs.laws.Unique.{judged-card, judged-refused}
 use Rattle.sheet.proofs.lines.judged.Tie as tie
 use Rattle.sheet.proofs.lines.judged.Statement.{statement}
 

@@ -1,6 +1,0 @@
--- `card::judging::unless` meets its contract.
-use Rattle.card.proofs.judging.unless.Statement.{statement}
-use Rattle.card.proofs.judging.unless.Tie as tie
-
-pub unless-spec : {M : Type 1} → statement M
-unless-spec = tie.close (tie.spec (λ c. rw (c .if1 .taken)) (λ c. rw (c .if1 .left)))

@@ -1,6 +1,0 @@
--- `card::missing::both` meets its contract.
-use Rattle.card.proofs.missing.both.Statement.{statement}
-use Rattle.card.proofs.missing.both.Tie as tie
-
-pub both-spec : {M : Type 1} → statement M
-both-spec = tie.close (tie.spec (λ c. rw (c .if1 .taken)) (λ c. rw (c .if1 .left)))

@@ -1,5 +1,0 @@
--- What follows from the definitions: the number told, one result for one record, an answer's verdict, signs, versions.
-pub mod Tells
-pub mod Unique
-pub mod Sign
-pub mod Version

@@ -1,0 +1,3 @@
+pub mod WorkedCards
+pub mod Unsigned
+pub mod Versions

@@ -1,0 +1,1 @@
+// What is sure of a judged card: theorems only, and no code.

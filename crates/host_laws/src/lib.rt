@@ -1,0 +1,1 @@
+// What the calls of a host in another language promise, looked at from outside: theorems only, and no code. A call has one outcome, and a refused one changes nothing.

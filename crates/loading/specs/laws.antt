@@ -1,0 +1,2 @@
+-- Words of what follows.
+pub mod Sign

@@ -1,0 +1,2 @@
+-- The numbers as they are judged.
+pub mod Filled

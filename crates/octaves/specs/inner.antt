@@ -1,0 +1,2 @@
+-- The answer on the second octave.
+pub mod Second

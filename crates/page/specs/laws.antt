@@ -1,0 +1,2 @@
+-- What follows from the definition of pages.
+pub mod PageFits

@@ -1,0 +1,2 @@
+-- The tests in their order.
+pub mod Tests

@@ -1,0 +1,18 @@
+-- `settle` begins at the first place of the set, with nothing come and nothing gone.
+use borrow.Author.Needs.{needs}
+use Rattle.settle.proofs.Going.{begins, held-start}
+use Rattle.settling.proofs.settle.Statement.{statement}
+use Rattle.settling.proofs.settle.Tie as tie
+
+settle-from-requires : tie.Need-settle-from-requires
+settle-from-requires c κs =
+    let n = c .before .before .before .before .before in
+    begins _ _ (n .before .lay-table .ensures) (n .before .before .before .pre) _ (n .next-in .ensures)
+
+returns : tie.Need-returns
+returns c =
+    let n = c .before .before .before .before .before .before in
+    held-start _ _ _ (n .next-in .ensures) (c .settle-from .ensures)
+
+pub settle-spec : {M : Type 1} → statement M
+settle-spec = tie.close (tie.spec (λ c κs. search needs) (λ c κs. search needs) settle-from-requires returns)
