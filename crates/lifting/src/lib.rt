@@ -1,6 +1,5 @@
 // Lifting on a board's arrays, lent one by one beside the two slices: it tests, judges the totals as they would stand
 // and writes last, so that a refusal leaves all as it was.
-ghost use mathlib.Core.Path.{_≡_};
 ghost use Rattle.lending.specs.Rest.{Rest};
 ghost use Rattle.lending.specs.Lending.{liftedLent};
 ghost use Rattle.lending.specs.Reached.{Reached};
