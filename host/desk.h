@@ -46,7 +46,7 @@ struct desk_board {
     uint8_t switches[80];
     uint8_t names[256];
     uint32_t held[16];
-    uint32_t next;
+    uint64_t next;
     uint32_t issues[DESK_TRANSISTORS];
     uint32_t cards[DESK_TRANSISTORS];
     uint8_t seats[DESK_TRANSISTORS];
@@ -63,9 +63,9 @@ DESK_AT(numbers, 0);
 DESK_AT(powers, 1920);
 DESK_AT(ticks, 2400);
 DESK_AT(switches, 3936);
-DESK_AT(issues, 4340);
-DESK_AT(seats, 4852);
-DESK_AT(nodes, 4916);
+DESK_AT(issues, 4344);
+DESK_AT(seats, 4856);
+DESK_AT(nodes, 4920);
 DESK_AT(naming, 5624);
 DESK_AT(currents, 5880);
 #undef DESK_AT
