@@ -3,8 +3,11 @@ use mathlib.Core.Path.{_≡_, refl, sym, ap, _∙_, subst}
 use mathlib.Core.Bool.{Bool, true, false, _||_}
 use mathlib.Core.List.{List, [], _∷_}
 use Prim.Native.Nat.{ℕ}
+use native.Mathlib.Omega.{arith}
 use lib.ListN.{length}
 use lib.IntN.{ℤ}
+use mir.Syntax.{w32}
+use mir.Val.{Fits}
 use Rattle.bytes_le.specs.Buffer.{over}
 use Rattle.refusal.specs.declared.Refusal.the-variants.{OutOfRange}
 use Rattle.refusal.specs.Order.{Verdict, no, yes, refuseIf}
@@ -20,6 +23,7 @@ use Rattle.lending.specs.Rest.{Rest, bare}
 use Rattle.lending.specs.Lending.{Lent, freshRest, freshBy, freshLent, placedLent, movedLent, liftedLent, showedLent, lentOf}
 use Rattle.lending.specs.Reached as lending
 use Rattle.lending.specs.inner.Lent.{stateWith}
+use Rattle.lending.proofs.Footing.{footing-reached}
 use Rattle.board.specs.declared.Board.{Board}
 use Rattle.board.specs.declared.Answered.{Answered}
 use Rattle.board.specs.Promise.{modelOf, boardOf, stateIn, givenAs, handedAs, Reached}
@@ -33,6 +37,10 @@ one-more volts totals c k =
       calls = record { volts = volts; totals = totals; call = c } ∷ k .calls;
       leaves = ap (λ (r : Rest). lentOf (stateWith r volts totals) c .state .rest) (k .leaves);
     }
+
+-- the next number is one above the last at most, so that 32 bits hold it
+pub next-fits : {b : Board} → Reached b → Fits w32 (b .next)
+next-fits k = let h = footing-reached k .footed .numbered in record { fits = omega arith }
 
 -- what is handed back is reached, where what it was handed is
 handed-on : (l : Lent) {r : Answered} → r ≡ handedAs l → lending.Reached (l .state .rest) → Reached (r .board)
