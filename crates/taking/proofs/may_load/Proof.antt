@@ -8,9 +8,9 @@ use Rattle.name.specs.Name.{asked}
 use Rattle.clip.specs.Record.{rightLength}
 use Rattle.card.specs.Judge.{judgeOf}
 use Rattle.card_laws.specs.laws.Unique.{judged-card, judged-refused}
-use Rattle.holding.proofs.Ways.{stop-malformed, stop-bad-name, stop-judged, stop-no-room, stop-used-up, goes}
-use Rattle.holding.proofs.may_load.Statement.{statement}
-use Rattle.holding.proofs.may_load.Tie as tie
+use Rattle.taking.proofs.Ways.{stop-malformed, stop-bad-name, stop-judged, stop-no-room, stop-used-up, goes}
+use Rattle.taking.proofs.may_load.Statement.{statement}
+use Rattle.taking.proofs.may_load.Tie as tie
 
 -- earlier places, from later ones
 abbrev start : tie.Else1 → tie.Start

@@ -4,9 +4,9 @@ use mathlib.Core.Bool.{true}
 use borrow.Author.Needs.{needs}
 use borrow.Author.Tests.{not-true, not-false}
 use Rattle.name.specs.Name.{asked}
-use Rattle.holding.proofs.Shows.{look-malformed, look-not-held, looks-up}
-use Rattle.holding.proofs.look_up.Statement.{statement}
-use Rattle.holding.proofs.look_up.Tie as tie
+use Rattle.looking.proofs.Shows.{look-malformed, look-not-held, looks-up}
+use Rattle.looking.proofs.look_up.Statement.{statement}
+use Rattle.looking.proofs.look_up.Tie as tie
 
 is-name : (c : tie.Else1) → asked (c .before .before .before .args .name .now) ≡ true
 is-name c = sym (c .before .is-asked .ensures) ∙ not-false _ (c .if1 .left)

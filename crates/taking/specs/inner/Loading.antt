@@ -8,8 +8,8 @@ use Rattle.given.specs.Arguments.{usedUp}
 use Rattle.places.specs.inner.Flat.{firstAt}
 use Rattle.model.specs.Counts.{cardsMost}
 use Rattle.model.specs.Verdict.{loadVerdict}
-use Rattle.holding.specs.declared.Loading.{Loading}
-use Rattle.holding.specs.declared.Loading.the-variants.{Go, Stop}
+use Rattle.taking.specs.declared.Loading.{Loading}
+use Rattle.taking.specs.declared.Loading.the-variants.{Go, Stop}
 
 abbrev pub wayOf : ℕ → Verdict WorkedCard → Loading
 wayOf free (no f) = Stop f

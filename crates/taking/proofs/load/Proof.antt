@@ -2,10 +2,10 @@
 use native.Mathlib.Omega.{arith}
 use borrow.Author.Needs.{needs}
 use Rattle.card_laws.proofs.WorkedCards.{judged-is-worked}
-use Rattle.holding.proofs.Ways.{is-judged, place-there, number-there}
-use Rattle.holding.proofs.Cards.{lent-stops, lent-loads}
-use Rattle.holding.proofs.load.Statement.{statement}
-use Rattle.holding.proofs.load.Tie as tie
+use Rattle.taking.proofs.Ways.{is-judged, place-there, number-there}
+use Rattle.taking.proofs.Cards.{lent-stops, lent-loads}
+use Rattle.taking.proofs.load.Statement.{statement}
+use Rattle.taking.proofs.load.Tie as tie
 
 -- earlier places, from later ones
 abbrev asked : tie.After-pad → tie.After-may-load

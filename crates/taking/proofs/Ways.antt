@@ -18,9 +18,9 @@ use Rattle.places.specs.inner.Flat.{firstAt}
 use Rattle.model.specs.Counts.{cardsMost}
 use Rattle.model.specs.Verdict.{loadVerdict}
 use Rattle.model.proofs.Verdicts.{Loads, loads}
-use Rattle.holding.specs.declared.Loading.{Loading}
-use Rattle.holding.specs.declared.Loading.the-variants.{Go, Stop}
-use Rattle.holding.specs.inner.Loading.{wayOf, loading}
+use Rattle.taking.specs.declared.Loading.{Loading}
+use Rattle.taking.specs.declared.Loading.the-variants.{Go, Stop}
+use Rattle.taking.specs.inner.Loading.{wayOf, loading}
 
 stopped : (free : ℕ) (v : Verdict WorkedCard) {f : Refusal} → wayOf free v ≡ Stop f → v ≡ no f
 stopped free (no g) e = cc
