@@ -35,7 +35,7 @@ pub fn hold(
         (now (ticks .entry)) (now (switches .entry)) (now (names .entry)) (now (held .entry)) (now (numbers .exit))
         (now (powers .exit)) (now (ticks .exit)) (now (switches .exit)) (now (names .exit)) (now (held .exit)) ⌝ }
 {
-    deck::put_ready(numbers, powers, ticks, switches, i, ready);
+    laying::put_ready(numbers, powers, ticks, switches, i, ready);
     sets::put_name(names, i, own);
     held[i] = issue;
 }

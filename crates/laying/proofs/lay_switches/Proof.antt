@@ -4,11 +4,11 @@ use mathlib.Core.Bool.{false}
 use Prim.Native.Nat.{_*_, _-_, _≤_}
 use native.Mathlib.Omega.{arith}
 use borrow.Author.Needs.{needs}
 use Rattle.deck.specs.Stretch.{written}
 use Rattle.deck.specs.Layout.{switchesEach}
 use Rattle.deck.specs.laws.Stretches.{written-none, written-more}
-use Rattle.deck.proofs.lay_switches.Statement.{statement}
-use Rattle.deck.proofs.lay_switches.Tie as tie
+use Rattle.laying.proofs.lay_switches.Statement.{statement}
+use Rattle.laying.proofs.lay_switches.Tie as tie
 
 abbrev Inv-loop : tie.InvT-loop
 Inv-loop all₀ i own at k₀ all k = (k ≤ switchesEach) × (all ≡ written false all₀ (switchesEach * i) own k)

@@ -1,9 +1,9 @@
 -- `split_at` reads a value's two numbers.
 use native.Mathlib.Omega.{arith}
 use borrow.Author.Needs.{needs}
-use Rattle.deck.proofs.Readings.{number-is, power-is}
-use Rattle.deck.proofs.split_at.Statement.{statement}
-use Rattle.deck.proofs.split_at.Tie as tie
+use Rattle.dealing.proofs.Readings.{number-is, power-is}
+use Rattle.dealing.proofs.split_at.Statement.{statement}
+use Rattle.dealing.proofs.split_at.Tie as tie
 
 returns : tie.Need-returns
 returns c =

@@ -3,9 +3,9 @@ use Prim.Native.Nat.{_<_}
 use native.Mathlib.Omega.{arith}
 use lib.Dec.{lit<}
 use borrow.Author.Needs.{needs}
-use Rattle.deck.proofs.Readings.{number-is, first-switch, switch-is}
-use Rattle.deck.proofs.worked_at.Statement.{statement}
-use Rattle.deck.proofs.worked_at.Tie as tie
+use Rattle.dealing.proofs.Readings.{number-is, first-switch, switch-is}
+use Rattle.dealing.proofs.worked_at.Statement.{statement}
+use Rattle.dealing.proofs.worked_at.Tie as tie
 
 -- earlier places, from later ones, the splits by fives
 abbrev split15 : tie.After-t61 → tie.After-split-at15

@@ -1,10 +1,10 @@
 -- `ready_at` reads a card made ready.
 use native.Mathlib.Omega.{arith}
 use borrow.Author.Needs.{needs}
 use Rattle.deck.specs.Layout.{readyAt}
-use Rattle.deck.proofs.Readings.{tick-is}
-use Rattle.deck.proofs.ready_at.Statement.{statement}
-use Rattle.deck.proofs.ready_at.Tie as tie
+use Rattle.dealing.proofs.Readings.{tick-is}
+use Rattle.dealing.proofs.ready_at.Statement.{statement}
+use Rattle.dealing.proofs.ready_at.Tie as tie
 
 -- earlier places, from later ones
 abbrev octaves : tie.After-t56 → tie.After-reciprocal-at3

@@ -4,9 +4,9 @@ use mathlib.Core.Bool.{false}
 use mathlib.Core.List.{List}
 use Prim.Native.Nat.{ℕ}
 use borrow.Author.Needs.{needs}
 use Rattle.deck.specs.Stretch.{written}
-use Rattle.deck.proofs.put_ready.Statement.{statement}
-use Rattle.deck.proofs.put_ready.Tie as tie
+use Rattle.laying.proofs.put_ready.Statement.{statement}
+use Rattle.laying.proofs.put_ready.Tie as tie
 
 -- earlier places, from later ones
 abbrev laid-ticks : tie.After-lay-switches → tie.After-lay-ticks

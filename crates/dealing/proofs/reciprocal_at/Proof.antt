@@ -1,9 +1,9 @@
 -- `reciprocal_at` reads the numbers worked for an octave.
 use native.Mathlib.Omega.{arith}
 use borrow.Author.Needs.{needs}
-use Rattle.deck.proofs.Readings.{number-is, number-after, tick-is}
-use Rattle.deck.proofs.reciprocal_at.Statement.{statement}
-use Rattle.deck.proofs.reciprocal_at.Tie as tie
+use Rattle.dealing.proofs.Readings.{number-is, number-after, tick-is}
+use Rattle.dealing.proofs.reciprocal_at.Statement.{statement}
+use Rattle.dealing.proofs.reciprocal_at.Tie as tie
 
 abbrev start : tie.After-t31 → tie.Start
 start c = c .before .before .before .before .before
