@@ -102,7 +102,7 @@ impl Board {
         let mut names = self.names;
         let mut held = self.held;
         let mut issue = self.next as u32;
-        let answer = holding::load(
+        let answer = taking::load(
             &mut numbers,
             &mut powers,
             &mut ticks,
@@ -327,7 +327,7 @@ impl Board {
     {
         let held = self.held;
         let names = self.names;
-        let answer = holding::look_up(&held, &names, name);
+        let answer = looking::look_up(&held, &names, name);
         Answered {
             board: self,
             answer,

@@ -1,10 +1,10 @@
-// The answers to a line, as `answers` words them.
+// The answers to a line, as `answers`, `spaced` and `quoting` word them.
 use crate::out::ROOM;
 use crate::out::part;
 use crate::out::puts;
-use answers::ANSWER_ROOM;
 use answers::Answer;
 use card::Clipping;
+use page::ANSWER_ROOM;
 use places::TRANSISTORS;
 use refusal::Refusal;
 use terms::BRANCHES;
@@ -33,20 +33,20 @@ pub fn put_refused(f: Refusal, out: &mut [u8; ROOM], at: &mut usize) {
 // To a line that is no command, by its first word.
 pub fn put_error(first: &[u8], out: &mut [u8; ROOM], at: &mut usize) {
     let mut text = [0u8; ANSWER_ROOM];
-    let n = answers::error_line(first, &mut text);
+    let n = quoting::error_line(first, &mut text);
     put_part(&text, n, out, at);
 }
 
 pub fn put_unreadable(path: &[u8], out: &mut [u8; ROOM], at: &mut usize) {
     let mut text = [0u8; PATH_ROOM];
-    let n = answers::unreadable_line(path, &mut text);
+    let n = quoting::unreadable_line(path, &mut text);
     puts(part(&text, 0, n), out, at);
 }
 
 // A model line.
 pub fn put_model(line: &[u8], out: &mut [u8; ROOM], at: &mut usize) {
     let mut text = [0u8; MODEL_ROOM];
-    let n = answers::model_line(line, &mut text);
+    let n = quoting::model_line(line, &mut text);
     puts(part(&text, 0, n), out, at);
 }
 
@@ -61,7 +61,7 @@ fn firsts(numbers: &[u64], n: usize) -> &[u64] {
 // The currents of a transistor.
 pub fn put_currents(ticks: &[i64; BRANCHES], out: &mut [u8; ROOM], at: &mut usize) {
     let mut text = [0u8; ANSWER_ROOM];
-    let n = answers::currents_line(ticks, &mut text);
+    let n = spaced::currents_line(ticks, &mut text);
     put_part(&text, n, out, at);
 }
 
@@ -77,14 +77,14 @@ pub fn put_who(list: &[u32; TRANSISTORS], count: usize, out: &mut [u8; ROOM], at
         issues[k] = wide;
     }
     let mut text = [0u8; ANSWER_ROOM];
-    let n = answers::who_line(firsts(&issues, count), &mut text);
+    let n = spaced::who_line(firsts(&issues, count), &mut text);
     put_part(&text, n, out, at);
 }
 
 // A node summed up.
 pub fn put_sum(transistors: u32, cards: u32, most: u64, out: &mut [u8; ROOM], at: &mut usize) {
     let mut text = [0u8; ANSWER_ROOM];
-    let n = answers::sum_line(transistors, cards, most, &mut text);
+    let n = spaced::sum_line(transistors, cards, most, &mut text);
     put_part(&text, n, out, at);
 }
 
@@ -115,11 +115,11 @@ pub fn put_clipping(clipping: Clipping, wide: bool, out: &mut [u8; ROOM], at: &m
     let numbers = clipping.numbers;
     let mut text = [0u8; ANSWER_ROOM];
     if wide {
-        let n = answers::clip_line(clipping.mask, true, &numbers, &mut text);
+        let n = spaced::clip_line(clipping.mask, true, &numbers, &mut text);
         put_part(&text, n, out, at);
     } else {
         let first = narrowed(&numbers);
-        let n = answers::clip_line(clipping.mask, false, &first, &mut text);
+        let n = spaced::clip_line(clipping.mask, false, &first, &mut text);
         put_part(&text, n, out, at);
     }
 }

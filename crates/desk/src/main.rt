@@ -4,7 +4,7 @@ mod options; // options.rt: what the arguments ask for
 mod help; // help.rt: the options and the commands, as they are printed
 mod out; // out.rt: bytes that wait to be written
 mod shelf; // shelf.rt: the library held
-mod answer; // answer.rt: the answers to a line, as `answers` words them
+mod answer; // answer.rt: the answers to a line, as `answers`, `spaced` and `quoting` word them
 mod showing; // showing.rt: a line repeated, and a refusal explained
 mod desk; // desk.rt: a line obeyed
 mod lines; // lines.rt: a script obeyed, line by line
