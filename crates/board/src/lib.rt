@@ -152,7 +152,7 @@ impl Board {
         let mut on = self.nodes;
         let mut naming = self.naming;
         let mut currents = self.currents;
-        let answer = aside::place(
+        let answer = place_aside::place(
             &mut issues,
             &mut cards,
             &mut seats,
@@ -202,7 +202,7 @@ impl Board {
         let naming = self.naming;
         let number = self.next;
         let mut held = self.currents;
-        let answer = aside::move_all(
+        let answer = move_aside::move_all(
             volts,
             totals,
             &mut held,
@@ -256,7 +256,7 @@ impl Board {
         let mut nodes = self.nodes;
         let mut sets = self.naming;
         let mut left = self.currents;
-        let answer = aside::lift(
+        let answer = lift_aside::lift(
             &mut issues,
             &mut cards,
             &mut seats,

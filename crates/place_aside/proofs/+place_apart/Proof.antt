@@ -7,12 +7,12 @@ use mir.Syntax.{w64}
 use mir.ValLaws.{toZ-ofZ}
 use borrow.Fn.Kinds.{In}
 use borrow.Fn.PlainCycle.{Measures, is, falls, and}
-use Rattle.aside.proofs.place_apart.Reads as place-apart
-use Rattle.aside.proofs.place_apart.Kinds as place-apart-kinds
-use Rattle.aside.proofs.+place_apart.Lts-place_apart as lts
+use Rattle.place_aside.proofs.place_apart.Reads as place-apart
+use Rattle.place_aside.proofs.place_apart.Kinds as place-apart-kinds
+use Rattle.place_aside.proofs.+place_apart.Lts-place_apart as lts
 use Rattle.seating.proofs.place.Reads as place-reads
-use Rattle.aside.proofs.+place_apart.{statement}
-use Rattle.aside.proofs.+place_apart.Tie.{close}
+use Rattle.place_aside.proofs.+place_apart.{statement}
+use Rattle.place_aside.proofs.+place_apart.Tie.{close}
 
 abbrev μ-place-apart : Measures 15 place-apart-kinds.ps ℕ
 μ-place-apart κs a = a .0

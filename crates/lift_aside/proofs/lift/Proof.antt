@@ -2,8 +2,8 @@
 use borrow.Author.Needs.{needs}
 use mir.Syntax.{w64}
 use mir.ValLaws.{toZ-ofZ}
-use Rattle.aside.proofs.lift.Statement.{statement}
-use Rattle.aside.proofs.lift.Tie as tie
+use Rattle.lift_aside.proofs.lift.Statement.{statement}
+use Rattle.lift_aside.proofs.lift.Tie as tie
 
 returns : tie.Need-returns
 returns c =

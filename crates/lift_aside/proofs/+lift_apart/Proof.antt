@@ -7,12 +7,12 @@ use mir.Syntax.{w64}
 use mir.ValLaws.{toZ-ofZ}
 use borrow.Fn.Kinds.{In}
 use borrow.Fn.PlainCycle.{Measures, is, falls, and}
-use Rattle.aside.proofs.lift_apart.Reads as lift-apart
-use Rattle.aside.proofs.lift_apart.Kinds as lift-apart-kinds
-use Rattle.aside.proofs.+lift_apart.Lts-lift_apart as lts
+use Rattle.lift_aside.proofs.lift_apart.Reads as lift-apart
+use Rattle.lift_aside.proofs.lift_apart.Kinds as lift-apart-kinds
+use Rattle.lift_aside.proofs.+lift_apart.Lts-lift_apart as lts
 use Rattle.lifting.proofs.lift.Reads as lift-reads
-use Rattle.aside.proofs.+lift_apart.{statement}
-use Rattle.aside.proofs.+lift_apart.Tie.{close}
+use Rattle.lift_aside.proofs.+lift_apart.{statement}
+use Rattle.lift_aside.proofs.+lift_apart.Tie.{close}
 
 abbrev μ-lift-apart : Measures 9 lift-apart-kinds.ps ℕ
 μ-lift-apart κs a = a .0

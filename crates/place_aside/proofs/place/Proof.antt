@@ -2,8 +2,8 @@
 use borrow.Author.Needs.{needs}
 use mir.Syntax.{w64}
 use mir.ValLaws.{toZ-ofZ}
-use Rattle.aside.proofs.place.Statement.{statement}
-use Rattle.aside.proofs.place.Tie as tie
+use Rattle.place_aside.proofs.place.Statement.{statement}
+use Rattle.place_aside.proofs.place.Tie as tie
 
 returns : tie.Need-returns
 returns c =

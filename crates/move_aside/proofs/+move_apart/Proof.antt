@@ -5,12 +5,12 @@ use native.Mathlib.Omega.{arith}
 use borrow.Author.Needs.{needs}
 use borrow.Fn.Kinds.{In}
 use borrow.Fn.PlainCycle.{Measures, is, falls, and}
-use Rattle.aside.proofs.move_apart.Reads as move-apart
-use Rattle.aside.proofs.move_apart.Kinds as move-apart-kinds
-use Rattle.aside.proofs.+move_apart.Lts-move_apart as lts
+use Rattle.move_aside.proofs.move_apart.Reads as move-apart
+use Rattle.move_aside.proofs.move_apart.Kinds as move-apart-kinds
+use Rattle.move_aside.proofs.+move_apart.Lts-move_apart as lts
 use Rattle.moving.proofs.move_all.Reads as move-all-reads
-use Rattle.aside.proofs.+move_apart.{statement}
-use Rattle.aside.proofs.+move_apart.Tie.{close}
+use Rattle.move_aside.proofs.+move_apart.{statement}
+use Rattle.move_aside.proofs.+move_apart.Tie.{close}
 
 abbrev μ-move-apart : Measures 13 move-apart-kinds.ps ℕ
 μ-move-apart κs a = a .0
