@@ -1,6 +1,11 @@
-// A line obeyed. Each function that changes the board takes it and gives the next one; voltages and totals stand in two
-// slices that are lent to it.
+// A command obeyed, but for what reads a file. Each function that changes the board takes it and gives the next one;
+// voltages and totals stand in two slices that are lent to it. The answer is put to the bytes that wait.
 ghost use Rattle.board.specs.Promise.{Reached};
+
+mod out; // out.rt: bytes that wait to be written
+mod shelf; // shelf.rt: the library held
+mod answer; // answer.rt: the answers to a line, as `answers`, `spaced` and `quoting` word them
+
 use crate::answer::put_answer;
 use crate::answer::put_clipping;
 use crate::answer::put_currents;
@@ -8,20 +13,15 @@ use crate::answer::put_error;
 use crate::answer::put_model;
 use crate::answer::put_refused;
 use crate::answer::put_sum;
-use crate::answer::put_unreadable;
 use crate::answer::put_who;
-use crate::out::ROOM;
-use crate::out::part;
 use crate::out::put_text;
-use crate::shelf;
-use crate::shelf::File;
-use crate::shelf::MOST;
 use answers::Answer;
 use board::Board;
 use library::Located;
 use library::Reading;
 use line_write::Written;
 use mending::Mending;
+pub use out::part;
 use places::TRANSISTORS;
 use script::Command;
 use script::MOST_BYTES;
@@ -34,6 +34,14 @@ use terms::BRANCHES;
 use terms::ROLES;
 use totals::NODES;
 
+// Room for the bytes that wait, and for the longest answer to a line among them.
+pub const ROOM: usize = 65536;
+
+pub const ANSWERS: usize = 8192;
+
+// One byte more than the longest library.
+pub const MOST: usize = 53265;
+
 // Room for the longest model line.
 const MODEL_ROOM: usize = 640;
 
@@ -41,7 +49,7 @@ const MODEL_ROOM: usize = 640;
 const OFF: i64 = -1;
 
 // The n bytes that were read become the library held, where they are a library.
-fn keep_library(
+pub fn keep_library(
     n: usize,
     read: &[u8; MOST],
     held: &mut [u8; MOST],
@@ -55,14 +63,6 @@ fn keep_library(
             put_answer(Answer::Library(cards), out, at);
         }
         Reading::Refused(f) => put_refused(f, out, at),
-    }
-}
-
-fn take_library(path: &[u8], held: &mut [u8; MOST], out: &mut [u8; ROOM], at: &mut usize) {
-    let mut read = [0u8; MOST];
-    match shelf::read_file(path, &mut read) {
-        File::Bytes(n) => keep_library(n, &read, held, out, at),
-        File::Failed => put_unreadable(path, out, at),
     }
 }
 
@@ -441,7 +441,7 @@ fn both_fit(line: &[u8], words: Words) -> bool {
 }
 
 // Two numbers written into the slices, as a host could, where that is allowed and the node is one of the board's.
-pub fn poke(
+fn poke(
     allowed: bool,
     c: Command,
     line: &[u8],
@@ -467,13 +467,13 @@ pub fn poke(
 }
 
 // Whom a line asks: the board, nobody but its two slices, or neither.
-pub enum Asks {
+enum Asks {
     Board,
     Slices,
     Neither,
 }
 
-pub fn asked_by(v: Verb) -> Asks {
+fn asked_by(v: Verb) -> Asks {
     match v {
         Verb::Nothing | Verb::TooLong | Verb::Error => Asks::Neither,
         Verb::Library | Verb::Find | Verb::Clip | Verb::Mend | Verb::Model => Asks::Neither,
@@ -482,7 +482,7 @@ pub fn asked_by(v: Verb) -> Asks {
     }
 }
 
-// A line about the library held, by its first word's argument: a path or a name, or none.
+// A line about the library held, by its first word's argument: a name, or none.
 fn obey_shelf(
     verb: Verb,
     word: &[u8],
@@ -491,7 +491,6 @@ fn obey_shelf(
     at: &mut usize,
 ) {
     match verb {
-        Verb::Library => take_library(word, held, out, at),
         Verb::Find => find(word, shelf::held(held), out, at),
         Verb::Mend => mend(held, out, at),
         Verb::Model => model(word, shelf::held(held), out, at),
@@ -500,7 +499,7 @@ fn obey_shelf(
 }
 
 // A line that asks nothing of the board.
-pub fn obey_apart(
+fn obey_apart(
     c: Command,
     line: &[u8],
     held: &mut [u8; MOST],
@@ -565,7 +564,7 @@ fn obey_numbers(
 }
 
 // A command that asks the board; the bytes that its hex digits spell begin `spelled`.
-pub fn obey(
+fn obey_board(
     board: Board,
     volts: &mut [i64],
     totals: &mut [i64],
@@ -594,5 +593,45 @@ pub fn obey(
         }
         Verb::Moves => move_all(board, volts, totals, list, out, at),
         _ => obey_numbers(board, volts, totals, verb, v, words.count, out, at),
+    }
+}
+
+// A command, by whether it may poke; the bytes that its hex digits spell begin `spelled`.
+pub fn obey(
+    board: Board,
+    volts: &mut [i64; NODES],
+    totals: &mut [i64; NODES],
+    pokes: bool,
+    c: Command,
+    line: &[u8],
+    spelled: &[u8; MOST_BYTES],
+    held: &mut [u8; MOST],
+    out: &mut [u8; ROOM],
+    at: &mut usize,
+) -> Board
+    requires { ⌜ Reached board ⌝ }
+    ensures { λ r. ⌜ Reached r ⌝ }
+{
+    let verb = c.verb;
+    match asked_by(verb) {
+        Asks::Board => obey_board(
+            board,
+            volts,
+            totals,
+            c,
+            line,
+            spelled,
+            shelf::held(held),
+            out,
+            at,
+        ),
+        Asks::Slices => {
+            poke(pokes, c, line, volts, totals, out, at);
+            board
+        }
+        Asks::Neither => {
+            obey_apart(c, line, held, out, at);
+            board
+        }
     }
 }

@@ -2,8 +2,8 @@
 use Prim.Native.Nat.{_≤_, _-_}
 use borrow.Author.Needs.{needs}
 use Rattle.answers.specs.Answers.{sheetNodes}
-use Rattle.desk.proofs.desk.put_rows.Statement.{statement}
-use Rattle.desk.proofs.desk.put_rows.Tie as tie
+use Rattle.obeying.proofs.put_rows.Statement.{statement}
+use Rattle.obeying.proofs.put_rows.Tie as tie
 
 abbrev Inv-loop : tie.InvT-loop
 Inv-loop board volts totals out₀ at₀ n₀ out at n = n ≤ sheetNodes

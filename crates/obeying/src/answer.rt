@@ -1,5 +1,5 @@
 // The answers to a line, as `answers`, `spaced` and `quoting` word them.
-use crate::out::ROOM;
+use crate::ROOM;
 use crate::out::part;
 use crate::out::puts;
 use answers::Answer;
@@ -9,9 +9,6 @@ use places::TRANSISTORS;
 use refusal::Refusal;
 use terms::BRANCHES;
 
-// Room for the answer to the longest path that an argument or a line gives.
-const PATH_ROOM: usize = 131104;
-
 // Room for the longest model line and its newline.
 const MODEL_ROOM: usize = 641;
 
@@ -20,31 +17,25 @@ fn put_part(text: &[u8; ANSWER_ROOM], n: usize, out: &mut [u8; ROOM], at: &mut u
     puts(part(text, 0, n), out, at);
 }
 
-pub fn put_answer(a: Answer, out: &mut [u8; ROOM], at: &mut usize) {
+pub(crate) fn put_answer(a: Answer, out: &mut [u8; ROOM], at: &mut usize) {
     let mut text = [0u8; ANSWER_ROOM];
     let n = answers::answer_line(a, &mut text);
     put_part(&text, n, out, at);
 }
 
-pub fn put_refused(f: Refusal, out: &mut [u8; ROOM], at: &mut usize) {
+pub(crate) fn put_refused(f: Refusal, out: &mut [u8; ROOM], at: &mut usize) {
     put_answer(Answer::Refused(f), out, at);
 }
 
 // To a line that is no command, by its first word.
-pub fn put_error(first: &[u8], out: &mut [u8; ROOM], at: &mut usize) {
+pub(crate) fn put_error(first: &[u8], out: &mut [u8; ROOM], at: &mut usize) {
     let mut text = [0u8; ANSWER_ROOM];
     let n = quoting::error_line(first, &mut text);
     put_part(&text, n, out, at);
 }
 
-pub fn put_unreadable(path: &[u8], out: &mut [u8; ROOM], at: &mut usize) {
-    let mut text = [0u8; PATH_ROOM];
-    let n = quoting::unreadable_line(path, &mut text);
-    puts(part(&text, 0, n), out, at);
-}
-
 // A model line.
-pub fn put_model(line: &[u8], out: &mut [u8; ROOM], at: &mut usize) {
+pub(crate) fn put_model(line: &[u8], out: &mut [u8; ROOM], at: &mut usize) {
     let mut text = [0u8; MODEL_ROOM];
     let n = quoting::model_line(line, &mut text);
     puts(part(&text, 0, n), out, at);
@@ -59,7 +50,7 @@ fn firsts(numbers: &[u64], n: usize) -> &[u64] {
 }
 
 // The currents of a transistor.
-pub fn put_currents(ticks: &[i64; BRANCHES], out: &mut [u8; ROOM], at: &mut usize) {
+pub(crate) fn put_currents(ticks: &[i64; BRANCHES], out: &mut [u8; ROOM], at: &mut usize) {
     let mut text = [0u8; ANSWER_ROOM];
     let n = spaced::currents_line(ticks, &mut text);
     put_part(&text, n, out, at);
@@ -70,7 +61,12 @@ fn widened(n: u32) -> u64 {
 }
 
 // Who names a node: the first of these issue numbers.
-pub fn put_who(list: &[u32; TRANSISTORS], count: usize, out: &mut [u8; ROOM], at: &mut usize) {
+pub(crate) fn put_who(
+    list: &[u32; TRANSISTORS],
+    count: usize,
+    out: &mut [u8; ROOM],
+    at: &mut usize,
+) {
     let mut issues = [0u64; TRANSISTORS];
     for k in 0..TRANSISTORS {
         let wide = widened(list[k]);
@@ -82,7 +78,13 @@ pub fn put_who(list: &[u32; TRANSISTORS], count: usize, out: &mut [u8; ROOM], at
 }
 
 // A node summed up.
-pub fn put_sum(transistors: u32, cards: u32, most: u64, out: &mut [u8; ROOM], at: &mut usize) {
+pub(crate) fn put_sum(
+    transistors: u32,
+    cards: u32,
+    most: u64,
+    out: &mut [u8; ROOM],
+    at: &mut usize,
+) {
     let mut text = [0u8; ANSWER_ROOM];
     let n = spaced::sum_line(transistors, cards, most, &mut text);
     put_part(&text, n, out, at);
@@ -111,7 +113,7 @@ fn narrowed(x: &[f64; clip::WIDTH]) -> [f64; clip::NARROW] {
 }
 
 // A clipped record: as many numbers as it has words.
-pub fn put_clipping(clipping: Clipping, wide: bool, out: &mut [u8; ROOM], at: &mut usize) {
+pub(crate) fn put_clipping(clipping: Clipping, wide: bool, out: &mut [u8; ROOM], at: &mut usize) {
     let numbers = clipping.numbers;
     let mut text = [0u8; ANSWER_ROOM];
     if wide {
