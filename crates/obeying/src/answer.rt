@@ -1,4 +1,4 @@
-// The answers to a line, as `answers`, `spaced` and `quoting` word them.
+// The answers to a line, as `answers`, `spaced`, `clipped` and `quoting` word them.
 use crate::ROOM;
 use crate::out::part;
 use crate::out::puts;
@@ -117,11 +117,11 @@ pub(crate) fn put_clipping(clipping: Clipping, wide: bool, out: &mut [u8; ROOM],
     let numbers = clipping.numbers;
     let mut text = [0u8; ANSWER_ROOM];
     if wide {
-        let n = spaced::clip_line(clipping.mask, true, &numbers, &mut text);
+        let n = clipped::clip_line(clipping.mask, true, &numbers, &mut text);
         put_part(&text, n, out, at);
     } else {
         let first = narrowed(&numbers);
-        let n = spaced::clip_line(clipping.mask, false, &first, &mut text);
+        let n = clipped::clip_line(clipping.mask, false, &first, &mut text);
         put_part(&text, n, out, at);
     }
 }

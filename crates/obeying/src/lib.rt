@@ -4,7 +4,7 @@ ghost use Rattle.board.specs.Promise.{Reached};
 
 mod out; // out.rt: bytes that wait to be written
 mod shelf; // shelf.rt: the library held
-mod answer; // answer.rt: the answers to a line, as `answers`, `spaced` and `quoting` word them
+mod answer; // answer.rt: the answers to a line, as `answers`, `spaced`, `clipped` and `quoting` word them
 
 use crate::answer::put_answer;
 use crate::answer::put_clipping;

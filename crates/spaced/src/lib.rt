@@ -1,18 +1,9 @@
-// The lines of as many numbers as there are: a clipped record, a transistor's currents, who names a node and its sum.
+// The lines of as many numbers as there are: a transistor's currents, who names a node and its sum.
 ghost use Rattle.page.specs.Page.{Writes};
-ghost use Rattle.spaced.specs.Spaced.{clipLine, currentsLine, whoLine, sumLine};
+ghost use Rattle.spaced.specs.Spaced.{currentsLine, whoLine, sumLine};
 use page::ANSWER_ROOM;
 
 mod parts; // parts.rt: numbers with a space before each
-
-// A clipped record: its mask, by whether it is of version 2, and the bits of its numbers.
-pub fn clip_line(mask: u32, wide: bool, numbers: &[f64], out: &mut [u8; ANSWER_ROOM]) -> usize
-    ensures { λ r. ⌜ Writes (clipLine mask wide (now (numbers .entry))) (now (out .entry)) 0 (now (out .exit)) r ⌝ }
-{
-    let start = page::put(b"clip ", out, 0);
-    let masked = texts::put_text(sheet::mask_digits(mask, wide), out, start);
-    parts::put_words(numbers, out, masked)
-}
 
 // The currents of a transistor, a number for each branch.
 pub fn currents_line(ticks: &[i64], out: &mut [u8; ANSWER_ROOM]) -> usize

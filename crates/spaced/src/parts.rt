@@ -1,30 +1,8 @@
 // Numbers with a space before each, and the newline after them.
-ghost use mathlib.Core.Path.{_≡_};
 ghost use Rattle.sheet.specs.Digits.{decimalOf, signedDigits};
 ghost use Rattle.page.specs.Page.{Writes};
-ghost use Rattle.spaced.specs.Spaced.{bitsOf, wordOf, spacedLine};
+ghost use Rattle.spaced.specs.Spaced.{spacedLine};
 use page::ANSWER_ROOM;
-
-// The bits of a number; a clipped one is never the one without a value.
-fn bits(x: f64) -> u64
-    ensures { λ r. ⌜ r ≡ bitsOf x ⌝ }
-{
-    if x == x { f64::to_bits(x) } else { 0 }
-}
-
-// The bits of each number, a space before each, and the newline.
-pub(crate) fn put_words(numbers: &[f64], out: &mut [u8; ANSWER_ROOM], at: usize) -> usize
-    ensures { λ r. ⌜ Writes (spacedLine wordOf (now (numbers .entry))) (now (out .entry)) at (now (out .exit)) r ⌝ }
-{
-    let mut used = at;
-    let mut i = 0;
-    while i < numbers.len() {
-        let spaced = page::put(b" ", out, used);
-        used = texts::put_text(sheet::word_digits(bits(numbers[i])), out, spaced);
-        i += 1;
-    }
-    page::put(b"\n", out, used)
-}
 
 // Each number with its sign, a space before each, and the newline.
 pub(crate) fn put_ticks(ticks: &[i64], out: &mut [u8; ANSWER_ROOM], at: usize) -> usize

@@ -3,11 +3,11 @@ use native.Mathlib.Omega.{arith}
 use borrow.Author.Needs.{needs}
 use Rattle.sheet.specs.Digits.{maskDigits}
 use Rattle.sheet.specs.laws.LinesFit.{hex-whole, mask-short}
-use Rattle.spaced.specs.Spaced.{clipLine}
+use Rattle.clipped.specs.Clipped.{clipLine}
 use Rattle.page.proofs.Pages.{then}
 use Rattle.texts.proofs.Written.{text-written}
-use Rattle.spaced.proofs.clip_line.Tie as tie
-use Rattle.spaced.proofs.clip_line.Statement.{statement}
+use Rattle.clipped.proofs.clip_line.Tie as tie
+use Rattle.clipped.proofs.clip_line.Statement.{statement}
 
 abbrev masked : tie.After-put-words → tie.After-put-text
 masked c = c .before .before

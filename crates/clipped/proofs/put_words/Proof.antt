@@ -8,11 +8,11 @@ use lib.Ieee.{nan}
 use Rattle.sheet.specs.Text.{textOf}
 use Rattle.sheet.specs.Digits.{wordDigits, hexDigits}
 use Rattle.sheet.specs.laws.LinesFit.{hex-whole}
-use Rattle.spaced.specs.Spaced.{wordOf}
+use Rattle.clipped.specs.Clipped.{wordOf}
 use Rattle.texts.proofs.Written.{text-written}
 use Rattle.spaced.proofs.Written.{SpacedLeft, spaced-all, spaced-on, spaced-end}
-use Rattle.spaced.proofs.parts.put_words.Tie as tie
-use Rattle.spaced.proofs.parts.put_words.Statement.{statement}
+use Rattle.clipped.proofs.put_words.Tie as tie
+use Rattle.clipped.proofs.put_words.Statement.{statement}
 
 abbrev Inv-loop : tie.InvT-loop
 Inv-loop numbers out₀ at used₀ i₀ t7 t8 out used i = SpacedLeft wordOf numbers out₀ used₀ out used i

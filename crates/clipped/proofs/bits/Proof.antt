@@ -3,9 +3,9 @@ use mathlib.Core.Path.{sym, subst}
 use mathlib.Core.Bool.{not}
 use lib.Dec.{T}
 use lib.Ieee.{Float, nan, inf, fin, eq, isNan}
-use Rattle.spaced.specs.Spaced.{bitsOf}
-use Rattle.spaced.proofs.parts.bits.Tie as tie
-use Rattle.spaced.proofs.parts.bits.Statement.{statement}
+use Rattle.clipped.specs.Clipped.{bitsOf}
+use Rattle.clipped.proofs.bits.Tie as tie
+use Rattle.clipped.proofs.bits.Statement.{statement}
 
 valued : (x : Float) → T (eq x x) → T (not (isNan x))
 unfolding eq isNan
