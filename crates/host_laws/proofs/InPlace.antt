@@ -7,7 +7,7 @@ use lib.IntN.{ℤ}
 use Rattle.lending.specs.Lending.{movedLent}
 use Rattle.board.specs.declared.Board.{Board}
 use Rattle.board.specs.Promise.{modelOf, boardOf, stateIn, handedAs, Reached}
-use Rattle.board.proofs.Whole.{withHeld, handed, moved-whole}
+use Rattle.board.proofs.Whole.{withHeld, handed}
 use Rattle.board.proofs.Reaches.{after-move}
 use Rattle.host_changes.proofs.Laws.{leaves}
 use Rattle.host_moves.specs.Moves.{Moved}
@@ -18,12 +18,11 @@ module _ (b : Board) (reached : Reached b) (v t pairs : List ℤ) {v′ t′ c�
       Moved (movedLent (stateIn b v t) pairs) (boardOf (withHeld (modelOf b) c′)) v′ t′ w w′ k k′ r
   in-place-moves p =
       let l = movedLent (stateIn b v t) pairs in
-      let whole =
-      moved-whole (stateIn b v t) pairs {answer = l .answer} {volts = v′} {totals = t′} {currents = c′}
+      let after =
+      after-move b reached v t pairs {answer = l .answer} {moved = v′} {left = t′} {currents = c′}
       (record { answer-is = refl; volts-are = p .volts; totals-are = p .totals; currents-are = p .currents }) in
-      let after = after-move reached v t pairs whole (p .volts) (p .totals) in
       record {
-        leaves = leaves (handedAs l) (handed (withHeld (modelOf b) c′) (l .answer)) whole (after .1 .0) (p .result);
+        leaves = leaves (handedAs l) (handed (withHeld (modelOf b) c′) (l .answer)) (after .0) (after .1 .0) (p .result);
         volts = p .volts;
         totals = p .totals;
         who = p .who;
