@@ -1,15 +1,13 @@
 // The places of a set brought to new voltages: what comes into the totals and what goes out, how they would stand, what
 // is held then, and the first of the places that overloads.
-ghost use mathlib.Core.List.{map};
 ghost use Prim.Native.Nat.{_*_, _<_};
 ghost use lib.IntN.{pos};
-ghost use Rattle.volts.specs.Volts.{givenBack};
 ghost use Rattle.terms.specs.Rows.{branches};
 ghost use Rattle.totals.specs.Gives.{nodesMost};
 ghost use Rattle.totals.specs.Flow.{ticksGive};
 ghost use Rattle.totals.specs.inner.Sums.{More, Givable};
 ghost use Rattle.deck.specs.Stretch.{stretch};
-ghost use Rattle.flows.specs.inner.Workable.{deckOf, cardOf, Workable, Works};
+ghost use Rattle.flows.specs.inner.Workable.{deckOf};
 ghost use Rattle.places.specs.Counts.{transistorsMost};
 ghost use Rattle.settle.specs.inner.Working.{roundOf, Settling, Going, Settled};
 use flows::put_in;
@@ -21,7 +19,6 @@ use places::TRANSISTORS;
 use polarity::Over;
 use settle::First;
 use settle::Judgement;
-use terms::BRANCHES;
 use terms::ROLES;
 use totals::NODES;
 
@@ -34,30 +31,6 @@ fn put_out(going: &mut [i64; NODES], on: &[u8; ROLES], currents: &[i64; ALL_CURR
 {
     let old = sets::currents_at(currents, i);
     put_in(going, on, &old);
-}
-
-// A transistor worked, with its currents in a lent array: by what it overloads first.
-fn work_into(
-    new: &mut [i64; BRANCHES],
-    table: &Table,
-    numbers: &[u32; deck::ALL_NUMBERS],
-    powers: &[u16; deck::ALL_POWERS],
-    ticks: &[u64; deck::ALL_TICKS],
-    switches: &[bool; deck::ALL_SWITCHES],
-    s: usize,
-    on: &[u8; ROLES],
-    volts: &[u32; NODES],
-) -> Over
-    requires { ⌜ Workable (now table) (deckOf (now numbers) (now powers) (now ticks) (now switches)) s (now on)
-        (now volts) ⌝ }
-    ensures { λ r. ⌜ Works (cardOf (deckOf (now (numbers .entry)) (now (powers .entry)) (now (ticks .entry))
-        (now (switches .entry))) s) (now (on .entry)) (map givenBack (now (volts .entry)))
-        (record { over = r; ticks = now (new .exit) }) ⌝ }
-{
-    let o = work(table, numbers, powers, ticks, switches, s, on, volts);
-    let own = o.ticks;
-    *new = own;
-    o.over
 }
 
 // Works the place i of the set and then those after it; after the last, the totals are judged as they would stand. A
@@ -96,20 +69,10 @@ fn settle_from(
     }
     let s = seats[i] as usize;
     let on = sets::nodes_at(nodes, i);
+    let o = work(table, numbers, powers, ticks, switches, s, &on, will);
     put_out(going, &on, currents, i);
-    let mut new = [0i64; BRANCHES];
-    let over = work_into(
-        &mut new,
-        table,
-        numbers,
-        powers,
-        ticks,
-        switches,
-        s,
-        &on,
-        will,
-    );
-    put_in(coming, &on, &new);
+    put_in(coming, &on, &o.ticks);
+    let over = o.over;
     let issue = issues[i];
     let found = settle::earlier_of(first, issue, over);
     let after = sets::next_in(set, i + 1);
@@ -133,7 +96,7 @@ fn settle_from(
         found,
     );
     if settle::is_taken(last) {
-        sets::put_currents(currents, i, &new);
+        sets::put_currents(currents, i, &o.ticks);
     }
     last
 }

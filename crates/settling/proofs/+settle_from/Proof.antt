@@ -12,7 +12,7 @@ use Rattle.settling.proofs.settle_from.Kinds as settle-from-kinds
 use Rattle.settling.proofs.+settle_from.Lts-settle_from as lts
 use Rattle.flows.proofs.put_in.Reads as put-in-reads
 use Rattle.settling.proofs.put_out.Reads as put-out-reads
-use Rattle.settling.proofs.work_into.Reads as work-into-reads
+use Rattle.flows.proofs.work.Reads as work-reads
 use Rattle.sets.proofs.next_in.Reads as next-in-reads
 use Rattle.stretches.proofs.nodes_at.Reads as nodes-at-reads
 use Rattle.stretches.proofs.put_currents.Reads as put-currents-reads
@@ -42,10 +42,10 @@ callees t = (
   stand-all-reads.Learnt,
   nodes-at-reads.Asked,
   nodes-at-reads.Learnt,
+  work-reads.Asked,
+  work-reads.Learnt,
   put-out-reads.Asked,
   put-out-reads.Learnt,
-  work-into-reads.Asked,
-  work-into-reads.Learnt,
   put-in-reads.Asked,
   put-in-reads.Learnt,
   earlier-of-reads.Asked,
@@ -61,27 +61,27 @@ callees t = (
 )
 
 module _ (t : ℕ) where
-  abbrev Put : Type 0
-  Put = lts.After-put-out (callees t) (settle-from-at t) settle-from.Post
+  abbrev Worked : Type 0
+  Worked = lts.After-work (callees t) (settle-from-at t) settle-from.Post
 
   abbrev Went : Type 0
   Went = lts.After-next-in (callees t) (settle-from-at t) settle-from.Post
 
   -- earlier places, from later ones
-  abbrev found : Put → lts.After-nodes-at (callees t) (settle-from-at t) settle-from.Post
-  found c = c .before .before .before .before
+  abbrev found : Worked → lts.After-nodes-at (callees t) (settle-from-at t) settle-from.Post
+  found c = c .before .before
 
-  abbrev left : Put → lts.Else1 (callees t) (settle-from-at t) settle-from.Post
+  abbrev left : Worked → lts.Else1 (callees t) (settle-from-at t) settle-from.Post
   left c = found c .before .before
 
   abbrev come : Went → lts.After-put-in (callees t) (settle-from-at t) settle-from.Post
   come c = c .before .before .before
 
-  abbrev worked : Went → lts.After-work-into (callees t) (settle-from-at t) settle-from.Post
-  worked c = come c .before .before .before .before
+  abbrev gone : Went → lts.After-put-out (callees t) (settle-from-at t) settle-from.Post
+  gone c = come c .before .before .before .before .before
 
-  abbrev gone : Went → Put
-  gone c = worked c .before .before .before
+  abbrev worked : Went → Worked
+  worked c = gone c .before .before .before .before
 
   abbrev went : lts.After-settle-from (callees t) (settle-from-at t) settle-from.Post → Went
   went c = c .before .before .before .before .before
@@ -106,25 +106,24 @@ module _ (t : ℕ) where
   nodes-at-requires : lts.Need-nodes-at-requires (callees t) (settle-from-at t) settle-from.Post
   nodes-at-requires c κs = c .before .if1 .left
 
-  put-out-requires : lts.Need-put-out-requires (callees t) (settle-from-at t) settle-from.Post
-  put-out-requires c κs =
-      let n = c .before .before .before in
+  work-requires : lts.Need-work-requires (callees t) (settle-from-at t) settle-from.Post
+  work-requires c κs =
+      let n = c .before in
       let e = n .before .before in
       let g = e .before .pre .1 in
-      (e .if1 .left, gone-goes _ _ (g .settling) (g .gone) (e .if1 .left) (n .nodes-at .ensures) refl .0)
+      gone-works _ _ (g .settling) (g .gone) (e .if1 .left) (n .nodes-at .ensures) _ (g .table-is)
 
-  work-into-requires : lts.Need-work-into-requires (callees t) (settle-from-at t) settle-from.Post
-  work-into-requires c κs =
-      let p = c .before .before in
-      let g = left p .before .pre .1 in
-      gone-works _ _ (g .settling) (g .gone) (left p .if1 .left) (found p .nodes-at .ensures) _ (g .table-is)
+  put-out-requires : lts.Need-put-out-requires (callees t) (settle-from-at t) settle-from.Post
+  put-out-requires c κs =
+      let w = c .before .before .before in
+      let g = left w .before .pre .1 in
+      (left w .if1 .left, gone-goes _ _ (g .settling) (g .gone) (left w .if1 .left) (found w .nodes-at .ensures) refl .0)
 
   put-in-requires : lts.Need-put-in-requires (callees t) (settle-from-at t) settle-from.Post
   put-in-requires c κs =
-      let w = c .before .before .before in
-      let p = w .before .before .before in
-      let g = left p .before .pre .1 in
-      gone-comes _ _ (g .settling) (g .gone) (left p .if1 .left) (found p .nodes-at .ensures) (w .work-into .ensures)
+      let w = c .before .before .before .before .before .before .before .before in
+      let g = left w .before .pre .1 in
+      gone-comes _ _ (g .settling) (g .gone) (left w .if1 .left) (found w .nodes-at .ensures) (w .work .ensures)
 
   mul-issue : lts.Need-mul-issue (callees t) (settle-from-at t) settle-from.Post
   mul-issue c = omega arith
@@ -144,14 +143,14 @@ module _ (t : ℕ) where
   settle-from-requires : lts.Need-settle-from-requires (callees t) (settle-from-at t) settle-from.Post
   settle-from-requires c κs =
       let n = c .before .before .before .before in
-      let e = left (gone n) in
+      let e = left (worked n) in
       let p = e .before .pre in (
         let m = p .0 in
             let h = e .if1 .left in
             let k = reach (omega arith) (n .next-in .ensures) in omega arith,
         goes-on _ _ (p .1) (e .if1 .left)
-            (found (gone n) .nodes-at .ensures) refl
-            (gone n .put-out .ensures) (worked n .work-into .ensures) (come n .put-in .ensures)
+            (found (worked n) .nodes-at .ensures) refl
+            (gone n .put-out .ensures) (worked n .work .ensures) (come n .put-in .ensures)
             (n .before .earlier-of .ensures) _ (n .next-in .ensures),
       )
 
@@ -160,26 +159,26 @@ module _ (t : ℕ) where
 
   put-currents-requires : lts.Need-put-currents-requires (callees t) (settle-from-at t) settle-from.Post
   put-currents-requires c κs =
-      let s = c .before .before .before .before in
+      let s = c .before .before .before .before .before in
       let n = went s in
-      let h = left (gone n) .if1 .left in search needs
+      let h = left (worked n) .if1 .left in search needs
 
   returns-2 : lts.Need-returns-2 (callees t) (settle-from-at t) settle-from.Post
   returns-2 c =
-      let f = c .before .before .before in
+      let f = c .before .before .before .before in
       let s = f .before .before in
       let n = went s in
-      let e = left (gone n) in
+      let e = left (worked n) in
       rw (c .put-currents .ensures)
       (back-held _ _ (e .if1 .left) (n .next-in .ensures) (s .settle-from .ensures)
       (sym (f .before .is-taken .ensures) ∙ f .if2 .taken) (e .before .pre .1 .gone .is (e .if1 .left))
-      (found (gone n) .nodes-at .ensures) (worked n .work-into .ensures))
+      (found (worked n) .nodes-at .ensures) (worked n .work .ensures))
 
   returns-3 : lts.Need-returns-3 (callees t) (settle-from-at t) settle-from.Post
   returns-3 c =
       let s = c .before .before in
       let n = went s in
-      let e = left (gone n) in
+      let e = left (worked n) in
       back-left _ _ (e .if1 .left) (n .next-in .ensures) (s .settle-from .ensures)
       (sym (c .before .is-taken .ensures) ∙ c .if2 .left)
 
@@ -187,7 +186,7 @@ pub +settle-from-spec : {M : Type 1} → statement M
 +settle-from-spec =
     close μ-settle-from
     (λ t. lts.spec (callees t) (settle-from-at t) settle-from.Post (stand-all-requires t) (returns t)
-    (element-copy-out-s t) (cast-s t) (nodes-at-requires t) (put-out-requires t) (work-into-requires t)
+    (element-copy-out-s t) (cast-s t) (nodes-at-requires t) (work-requires t) (put-out-requires t)
     (put-in-requires t) (mul-issue t) (element-copy-out-issue t) (earlier-of-requires t)
     (add-next-in t) (next-in-requires t) (settle-from-requires t) (is-taken-requires t) (put-currents-requires t)
     (returns-2 t) (returns-3 t))
