@@ -141,7 +141,9 @@ module _ (b : Board) (k : Reached b) (volts totals : List ℤ) where
         (handed (withPlaces (modelOf b) issues cards seats nodes naming currents next) answer) left
     unfolding lentOf
     after-place card on sized e {next} l =
-        let lent = subst (λ (n : ℤ). LeavesPlaces (placedLent found n on) answer issues cards seats nodes naming left currents next) e l in
+        let lent =
+        subst (λ (n : ℤ).
+        LeavesPlaces (placedLent found n on) answer issues cards seats nodes naming left currents next) e l in
         let w = placed-whole found card on lent in
         (w, (handed-on (placedLent found card on) w (one-more volts totals (place card on sized) k), lent .totals-are))
 
@@ -151,7 +153,9 @@ module _ (b : Board) (k : Reached b) (volts totals : List ℤ) where
         (handed (withPlaces (modelOf b) issues cards seats nodes naming currents (b .next)) answer) left
     unfolding lentOf
     after-lift n e l =
-        let lent = subst (λ (m : ℤ). LeavesPlaces (liftedLent found m) answer issues cards seats nodes naming left currents (b .next)) e l in
+        let lent =
+        subst (λ (m : ℤ).
+        LeavesPlaces (liftedLent found m) answer issues cards seats nodes naming left currents (b .next)) e l in
         let w = lifted-whole found n lent in
         (w, (handed-on (liftedLent found n) w (one-more volts totals (lift n) k), lent .totals-are))
 

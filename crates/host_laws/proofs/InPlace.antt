@@ -1,6 +1,6 @@
 -- A move on a board's own arrays is the move of that board: with the currents that it leaves, the board is the very one
 -- that `desk_move_all` would leave, so that calls leave it; and everything else that is told is the same too.
-use mathlib.Core.Path.{_≡_, refl}
+use mathlib.Core.Path.{refl}
 use mathlib.Core.List.{List}
 use Prim.Native.Nat.{ℕ}
 use lib.IntN.{ℤ}

@@ -101,7 +101,8 @@ ready c =
     let t = tested (e .before) in
     let a = entry e .args in
     let p = entry e .pre in
-    lent-settling (p .2) (a .volts .now) (a .totals .now) (a .pairs .now) (slices-good (turned-not t) .0) (p .1) (are-pairs t) (none-off e) _ (will-is e) _
+    lent-settling (p .2) (a .volts .now) (a .totals .now) (a .pairs .now) (slices-good (turned-not t) .0)
+    (p .1) (are-pairs t) (none-off e) _ (will-is e) _
     (c .naming-any .ensures)
 
 -- the slices' lengths
@@ -148,7 +149,8 @@ same-length-7 c =
     let t = told (c .before) in
     let e = named (t .before) .before in
     ⊎-elim
-    (λ w. ap length (w .1) ∙ length-map (e .before .keep-pairs .last .0) givenBack ∙ ready (named (t .before)) .will-are .long
+    (λ w. ap length (w .1) ∙ length-map (e .before .keep-pairs .last .0) givenBack
+    ∙ ready (named (t .before)) .will-are .long
     ∙ sym (long e .0))
     (λ w. ap length (w .1)) (stand-then (c .before))
 
