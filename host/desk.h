@@ -1,8 +1,9 @@
 /* The bias desk as a static library: transistor cards, a board of 32 nodes, and the current that each node must supply.
 
-   The caller owns all memory and lends it for the length of a call. A board is opaque: 12,536 bytes, aligned to 8.
-   Voltages (microvolts) and totals (ticks of 2^-50 ampere) stand in two slices of 32 numbers, a number for each node,
-   which the caller may read whenever no call is running, and may write too: every number in them has an answer.
+   The caller owns all memory and lends it for the length of a call. A board is 12,536 bytes, aligned to 8, and opaque:
+   its parts have names, but only calls write them. Voltages (microvolts) and totals (ticks of 2^-50 ampere) stand in
+   two slices of 32 numbers, a number for each node, which the caller may read whenever no call is running, and may
+   write too: every number in them has an answer.
 
    Every call answers with 0, or with the number of a refusal (docs/RULES.md has all of them). What it tells goes into
    the places that it was lent. A refused call leaves the board, both slices and all lent places and buffers as they
@@ -36,9 +37,39 @@ extern "C" {
 #define DESK_TRANSISTORS 64 /* as many as can stand on a node */
 #define DESK_STACK 102400
 
+/* The members are the library's own: its calls alone write them and tell what stands in them. They have names so that
+   desk_move_in_place can lend them one by one; another version of the library may have others. */
 struct desk_board {
-    uint64_t words[1567];
+    uint32_t numbers[480];
+    uint16_t powers[240];
+    uint64_t ticks[192];
+    uint8_t switches[80];
+    uint8_t names[256];
+    uint32_t held[16];
+    uint64_t next;
+    uint32_t issues[DESK_TRANSISTORS];
+    uint32_t cards[DESK_TRANSISTORS];
+    uint8_t seats[DESK_TRANSISTORS];
+    uint8_t nodes[704];
+    uint64_t naming[DESK_NODES];
+    int64_t currents[DESK_BRANCHES * DESK_TRANSISTORS];
 };
+
+/* Its size and alignment, and where the members stand that are lent, as the library has them. */
+#ifndef __cplusplus
+_Static_assert(sizeof(struct desk_board) == 12536 && _Alignof(struct desk_board) == 8, "a board is not the prover's");
+#define DESK_AT(member, at) _Static_assert(offsetof(struct desk_board, member) == (at), #member " stands elsewhere")
+DESK_AT(numbers, 0);
+DESK_AT(powers, 1920);
+DESK_AT(ticks, 2400);
+DESK_AT(switches, 3936);
+DESK_AT(issues, 4344);
+DESK_AT(seats, 4856);
+DESK_AT(nodes, 4920);
+DESK_AT(naming, 5624);
+DESK_AT(currents, 5880);
+#undef DESK_AT
+#endif
 
 /* ---- a library of cards */
 
@@ -80,6 +111,22 @@ uint32_t desk_move(struct desk_board *board, int64_t *volts, size_t volts_n, int
    13 for the slices, 1 where it is not 1 to 32 pairs, 13, 15 or 18, 10. */
 uint32_t desk_move_all(struct desk_board *board, int64_t *volts, size_t volts_n, int64_t *totals, size_t totals_n,
                        const int64_t *pairs, size_t pairs_n, uint32_t *who, uint32_t *branch);
+
+/* The same, and nothing of the board is copied: for a host that moves often. The library has it over a board's parts,
+   those that a move reads and the one that it changes, `currents`: each pointer is to the whole member of its name, all
+   of them of one board. */
+uint32_t desk_move_lent(int64_t *volts, size_t volts_n, int64_t *totals, size_t totals_n, int64_t *currents,
+                        const uint32_t *numbers, const uint16_t *powers, const uint64_t *ticks, const uint8_t *switches,
+                        const uint32_t *issues, const uint8_t *seats, const uint8_t *nodes, const uint64_t *naming,
+                        const int64_t *pairs, size_t pairs_n, uint32_t *who, uint32_t *branch);
+
+static inline uint32_t desk_move_in_place(struct desk_board *board, int64_t *volts, size_t volts_n, int64_t *totals,
+                                          size_t totals_n, const int64_t *pairs, size_t pairs_n, uint32_t *who,
+                                          uint32_t *branch) {
+    return desk_move_lent(volts, volts_n, totals, totals_n, board->currents, board->numbers, board->powers,
+                          board->ticks, board->switches, board->issues, board->seats, board->nodes, board->naming,
+                          pairs, pairs_n, who, branch);
+}
 
 /* A transistor taken off: 13 for the slices, 12, 10. */
 uint32_t desk_lift(struct desk_board *board, const int64_t *volts, size_t volts_n, int64_t *totals, size_t totals_n,

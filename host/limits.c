@@ -41,6 +41,7 @@ static void slices(uint32_t card, uint32_t transistor) {
                   "place");
             wants(desk_move(&board, more_volts, a, more_totals, b, 1, 1350000, &who, &branch), 13, "move");
             wants(desk_move_all(&board, more_volts, a, more_totals, b, pairs, 2, &who, &branch), 13, "moves");
+            wants(desk_move_in_place(&board, more_volts, a, more_totals, b, pairs, 2, &who, &branch), 13, "in place");
             wants(desk_lift(&board, more_volts, a, more_totals, b, transistor), 13, "lift");
             wants(desk_read_node(&board, more_volts, a, more_totals, b, 1, &v, &t), 13, "node");
         }
@@ -62,10 +63,13 @@ static void lists(void) {
     for (size_t i = 0; i < 67; i++) pairs[i] = i % 2 ? 0 : 20;
     for (size_t n = 0; n <= 67; n++) {
         keep();
-        if (n % 2)
+        if (n % 2) {
             wants(desk_move_all(&board, volts, DESK_NODES, totals, DESK_NODES, pairs, n, &who, &branch), 1, "moves");
-        else
+            wants(desk_move_in_place(&board, volts, DESK_NODES, totals, DESK_NODES, pairs, n, &who, &branch), 1,
+                  "in place");
+        } else {
             tell_moves(pairs, n);
+        }
     }
 }
 
@@ -208,6 +212,7 @@ int main(int count, char **given) {
     }
 
     /* slices as a host may write them: the lines cannot say these, so the board is asked alone */
+    static const int64_t nowhere[2] = {20, 0}, too_much[2] = {1, 600000};
     for (size_t i = 0; i < FAR; i++) {
         uint32_t who = 6, branch = 7;
         int64_t kept = volts[9], v = 8, t = 9;
@@ -216,12 +221,16 @@ int main(int count, char **given) {
         int outside = far[i] < -2500000 || far[i] > 2500000;
         wants(desk_read_node(&board, volts, DESK_NODES, totals, DESK_NODES, 0, &v, &t), outside ? 13 : 0, "node");
         wants(desk_move(&board, volts, DESK_NODES, totals, DESK_NODES, 20, 0, &who, &branch), outside ? 13 : 0, "move");
+        wants(desk_move_in_place(&board, volts, DESK_NODES, totals, DESK_NODES, nowhere, 2, &who, &branch),
+              outside ? 13 : 0, "in place");
         volts[9] = kept;
     }
     totals[1] = INT64_MAX;
     keep();
     uint32_t who = 6, branch = 7;
     wants(desk_move(&board, volts, DESK_NODES, totals, DESK_NODES, 1, 600000, &who, &branch), 10, "move");
+    wants(desk_move_in_place(&board, volts, DESK_NODES, totals, DESK_NODES, too_much, 2, &who, &branch), 10,
+          "in place");
     if (who != 6 || branch != 7) end("a place was changed");
     close_files();
     printf("every wrong length and number has its answer\n");

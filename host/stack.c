@@ -20,7 +20,7 @@ static void end(const char *why) {
 static struct {
     const char *name;
     size_t most;
-} calls[16];
+} calls[17];
 
 static uint8_t *low; /* the first byte that is painted */
 
@@ -57,7 +57,7 @@ static void took(const char *name, size_t bytes) {
 static const char LOAD[] = "load", LINE[] = "load_line", PLACE[] = "place", MOVE[] = "move", ALL[] = "move_all";
 static const char LIFT[] = "lift", OFF[] = "withdraw", LOOK[] = "look_up", NODE[] = "read_node";
 static const char OPEN[] = "read_currents", LIST[] = "list_node", SUM[] = "sum_up", FRESH[] = "fresh";
-static const char READ[] = "read_library", FIND[] = "find";
+static const char READ[] = "read_library", FIND[] = "find", PARTS[] = "move_in_place";
 
 int main(int count, char **given) {
     static const char line[] = ".model npn1f npn level=504 is=5.1e-18 ik=12e-3 bf=140 xibi=.18 ibf=0.4e-15 mlf=2. "
@@ -88,13 +88,19 @@ int main(int count, char **given) {
         pairs[2 * i] = i;
         pairs[2 * i + 1] = 1000 * (i % 7);
         MEASURE(MOVE, desk_move(&board, volts, DESK_NODES, totals, DESK_NODES, i, 1000 * i, &who, &branch));
+        MEASURE(PARTS, desk_move_in_place(&board, volts, DESK_NODES, totals, DESK_NODES, pairs + 2 * i, 2, &who,
+                                          &branch));
     }
     MEASURE(ALL, desk_move_all(&board, volts, DESK_NODES, totals, DESK_NODES, pairs, 2 * DESK_NODES, &who, &branch));
+    MEASURE(PARTS, desk_move_in_place(&board, volts, DESK_NODES, totals, DESK_NODES, pairs, 2 * DESK_NODES, &who,
+                                      &branch));
     for (int i = 0; i < DESK_NODES; i++) {
         pairs[2 * i + 1] = i % 2 ? 2500000 : -2500000;
         MEASURE(MOVE, desk_move(&board, volts, DESK_NODES, totals, DESK_NODES, i, pairs[2 * i + 1], &who, &branch));
     }
     MEASURE(ALL, desk_move_all(&board, volts, DESK_NODES, totals, DESK_NODES, pairs, 2 * DESK_NODES, &who, &branch));
+    MEASURE(PARTS, desk_move_in_place(&board, volts, DESK_NODES, totals, DESK_NODES, pairs, 2 * DESK_NODES, &who,
+                                      &branch));
     MEASURE(LOOK, desk_look_up(&board, (const uint8_t *)"npn1r", 5, &issue));
     MEASURE(NODE, desk_read_node(&board, volts, DESK_NODES, totals, DESK_NODES, 0, &v, &t));
     MEASURE(OPEN, desk_read_currents(&board, 3, ticks, DESK_BRANCHES));
@@ -104,7 +110,7 @@ int main(int count, char **given) {
     MEASURE(LIFT, desk_lift(&board, volts, DESK_NODES, totals, DESK_NODES, 3));
     MEASURE(OFF, desk_withdraw(&board, 1));
     int deep = 0;
-    for (int k = 0; k < 16 && calls[k].name; k++) {
+    for (int k = 0; calls[k].name; k++) {
         printf("%-14s %6zu\n", calls[k].name, calls[k].most);
         deep |= calls[k].most > DESK_STACK;
     }

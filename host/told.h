@@ -1,12 +1,11 @@
 /* A board with its two slices, and each call on it made twice over: by the library, and as a line of the desk program.
    The line goes to one file and what the library answered, in the desk's words, to another, so that the desk program's
-   own answers to the first can be laid beside the second. A refused call that changes anything ends the program. */
+   own answers to the first can be laid beside the second. A refused call that changes anything ends the program. Each
+   move is made once more, in place, on the board and slices that were: all must come out the same, to the last byte. */
 #ifndef TOLD_H
 #define TOLD_H
 #include "desk.h"
 #include "libc.h"
-
-_Static_assert(sizeof(struct desk_board) == 12536 && _Alignof(struct desk_board) == 8, "a board is not the prover's");
 
 static struct desk_board board;
 static int64_t volts[DESK_NODES], totals[DESK_NODES];
@@ -149,12 +148,23 @@ static inline void done(const char *what, uint32_t r, uint32_t who, uint32_t bra
         refused(r, who, branch);
 }
 
+/* the move that was just made, on what was there before it; by then it is known that a refused one changed nothing */
+static inline void in_place(const int64_t *pairs, size_t n, uint32_t r, uint32_t who, uint32_t branch) {
+    uint32_t its_who = 0, its_branch = 0;
+    uint32_t its = desk_move_in_place(&board_was, volts_were, DESK_NODES, totals_were, DESK_NODES, pairs, n, &its_who,
+                                      &its_branch);
+    if (its != r || its_who != who || its_branch != branch) end("a move in place answers otherwise");
+    if (changed()) end("a move in place leaves something else");
+}
+
 static inline uint32_t tell_move(int64_t node, int64_t microvolts) {
     uint32_t who = 0, branch = 0;
     keep();
     uint32_t r = desk_move(&board, volts, DESK_NODES, totals, DESK_NODES, node, microvolts, &who, &branch);
     fprintf(lines, "move %lld %lld\n", (long long)node, (long long)microvolts);
     done("moved", r, who, branch);
+    const int64_t pair[2] = {node, microvolts};
+    in_place(pair, 2, r, who, branch);
     return r;
 }
 
@@ -166,6 +176,7 @@ static inline uint32_t tell_moves(const int64_t *pairs, size_t n) {
     for (size_t i = 0; i < n; i++) fprintf(lines, " %lld", (long long)pairs[i]);
     fprintf(lines, "\n");
     done("moved", r, who, branch);
+    in_place(pairs, n, r, who, branch);
     return r;
 }
 

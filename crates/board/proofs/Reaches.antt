@@ -3,8 +3,11 @@ use mathlib.Core.Path.{_≡_, refl, sym, ap, _∙_, subst}
 use mathlib.Core.Bool.{Bool, true, false, _||_}
 use mathlib.Core.List.{List, [], _∷_}
 use Prim.Native.Nat.{ℕ}
+use native.Mathlib.Omega.{arith}
 use lib.ListN.{length}
 use lib.IntN.{ℤ}
+use mir.Syntax.{w32}
+use mir.Val.{Fits}
 use Rattle.bytes_le.specs.Buffer.{over}
 use Rattle.refusal.specs.declared.Refusal.the-variants.{OutOfRange}
 use Rattle.refusal.specs.Order.{Verdict, no, yes, refuseIf}
@@ -16,14 +19,17 @@ use Rattle.model.specs.declared.Answer.{Answer}
 use Rattle.model.specs.declared.Answer.the-variants.{Done, Refused}
 use Rattle.model.specs.Desk.{Call, load, place, move, lift, withdraw, lookUp, node, currents, who, sumUp}
 use Rattle.model.specs.Model.{noTicks, loadedOf, withdrawnOf, lookedOf, openedOf, listedOf, summedOf}
-use Rattle.lending.specs.Rest.{Rest, bare}
+use Rattle.lending.specs.Rest.{Rest, State, bare}
 use Rattle.lending.specs.Lending.{Lent, freshRest, freshBy, freshLent, placedLent, movedLent, liftedLent, showedLent, lentOf}
 use Rattle.lending.specs.Reached as lending
-use Rattle.lending.specs.inner.Lent.{stateWith}
+use Rattle.lending.specs.inner.Lent.{stateWith, LeavesLevels, LeavesPlaces}
+use Rattle.lending.proofs.Footing.{footing-reached}
 use Rattle.board.specs.declared.Board.{Board}
 use Rattle.board.specs.declared.Answered.{Answered}
 use Rattle.board.specs.Promise.{modelOf, boardOf, stateIn, givenAs, handedAs, Reached}
 use Rattle.board.specs.Unique.{Allows, AllowsLent, AllowsTotals, AllowsBoth, AllowsList}
+use Rattle.board.proofs.Whole.{withPlaces, withHeld, handed, placed-whole, lifted-whole, moved-whole}
+use Rattle.board.proofs.Whole.{showed-lent-whole}
 
 one-more : {r : Rest} (volts totals : List ℤ) (c : Call) → lending.Reached r →
     lending.Reached (lentOf (stateWith r volts totals) c .state .rest)
@@ -33,6 +39,10 @@ one-more volts totals c k =
       calls = record { volts = volts; totals = totals; call = c } ∷ k .calls;
       leaves = ap (λ (r : Rest). lentOf (stateWith r volts totals) c .state .rest) (k .leaves);
     }
+
+-- the next number is one above the last at most, so that 32 bits hold it
+pub next-fits : {b : Board} → Reached b → Fits w32 (b .next)
+next-fits k = let h = footing-reached k .footed .numbered in record { fits = omega arith }
 
 -- what is handed back is reached, where what it was handed is
 handed-on : (l : Lent) {r : Answered} → r ≡ handedAs l → lending.Reached (l .state .rest) → Reached (r .board)
@@ -117,33 +127,56 @@ module _ {b : Board} {r : Answered} (k : Reached b) where
   unfolding lentOf
   after-list n old e d l = let w = e ∙ ap givenAs d in (w, (gives (who n (length old)) w, l))
 
-  -- ---- calls that take them
+-- ---- calls that take them, from what was left in the arrays that were lent; a number is handed on as `given`
 
-  module _ (volts totals : List ℤ) where
-    pub after-place : (card : ℤ) (nodes : List ℤ) → length nodes ≡ roles →
-        r ≡ handedAs (placedLent (stateIn b volts totals) card nodes) → {t : List ℤ} →
-        t ≡ placedLent (stateIn b volts totals) card nodes .state .totals →
-        AllowsTotals (placedLent (stateIn b volts totals) card nodes) r t
-    unfolding lentOf
-    after-place card nodes sized e t =
-        (e, (handed-on (placedLent (stateIn b volts totals) card nodes) e (one-more volts totals (place card nodes sized) k), t))
+module _ (b : Board) (k : Reached b) (volts totals : List ℤ) where
+  -- the state that the call finds
+  abbrev found : State
+  found = stateIn b volts totals
 
-    pub after-move : (pairs : List ℤ) → r ≡ handedAs (movedLent (stateIn b volts totals) pairs) → {v t : List ℤ} →
-        v ≡ movedLent (stateIn b volts totals) pairs .state .volts →
-        t ≡ movedLent (stateIn b volts totals) pairs .state .totals →
-        AllowsBoth (movedLent (stateIn b volts totals) pairs) r v t
+  module _ {answer : Answer} {issues cards seats nodes naming : List ℕ} {left currents : List ℤ} where
+    pub after-place : (card : ℤ) (on : List ℤ) → length on ≡ roles → {given : ℤ} → given ≡ card →
+        {next : ℕ} → LeavesPlaces (placedLent found given on) answer issues cards seats nodes naming left currents next →
+        AllowsTotals (placedLent found card on)
+        (handed (withPlaces (modelOf b) issues cards seats nodes naming currents next) answer) left
     unfolding lentOf
-    after-move pairs e v t =
-        (e, (handed-on (movedLent (stateIn b volts totals) pairs) e (one-more volts totals (move pairs) k), (v, t)))
+    after-place card on sized e {next} l =
+        let lent =
+        subst (λ (n : ℤ).
+        LeavesPlaces (placedLent found n on) answer issues cards seats nodes naming left currents next) e l in
+        let w = placed-whole found card on lent in
+        (w, (handed-on (placedLent found card on) w (one-more volts totals (place card on sized) k), lent .totals-are))
 
-    pub after-lift : (n : ℤ) → r ≡ handedAs (liftedLent (stateIn b volts totals) n) → {t : List ℤ} →
-        t ≡ liftedLent (stateIn b volts totals) n .state .totals → AllowsTotals (liftedLent (stateIn b volts totals) n) r t
+    pub after-lift : (n : ℤ) {given : ℤ} → given ≡ n →
+        LeavesPlaces (liftedLent found given) answer issues cards seats nodes naming left currents (b .next) →
+        AllowsTotals (liftedLent found n)
+        (handed (withPlaces (modelOf b) issues cards seats nodes naming currents (b .next)) answer) left
     unfolding lentOf
-    after-lift n e t =
-        (e, (handed-on (liftedLent (stateIn b volts totals) n) e (one-more volts totals (lift n) k), t))
+    after-lift n e l =
+        let lent =
+        subst (λ (m : ℤ).
+        LeavesPlaces (liftedLent found m) answer issues cards seats nodes naming left currents (b .next)) e l in
+        let w = lifted-whole found n lent in
+        (w, (handed-on (liftedLent found n) w (one-more volts totals (lift n) k), lent .totals-are))
 
-    pub after-node : (n : ℤ) → r ≡ handedAs (showedLent (stateIn b volts totals) n) →
-        AllowsLent (showedLent (stateIn b volts totals) n) r
-    unfolding lentOf
-    after-node n e =
-        (e, handed-on (showedLent (stateIn b volts totals) n) e (one-more volts totals (node n) k))
+  pub after-move : (pairs : List ℤ) {answer : Answer} {moved left currents : List ℤ} →
+      LeavesLevels (movedLent found pairs) answer moved left currents →
+      AllowsBoth (movedLent found pairs) (handed (withHeld (modelOf b) currents) answer) moved left
+  unfolding lentOf
+  after-move pairs l =
+      let w = moved-whole found pairs l in
+      (w, (handed-on (movedLent found pairs) w (one-more volts totals (move pairs) k), (l .volts-are, l .totals-are)))
+
+  pub after-node : (n : ℤ) {given : ℤ} → given ≡ n → {answer : Answer} → answer ≡ showedLent found given .answer →
+      AllowsLent (showedLent found n) (handed (modelOf b) answer)
+  unfolding lentOf
+  after-node n e {answer} l =
+      let w = showed-lent-whole found n (l ∙ ap (λ (m : ℤ). showedLent found m .answer) e) in
+      (w, handed-on (showedLent found n) w (one-more volts totals (node n) k))
+
+-- a pair handed on as another two numbers
+pub same-pair : (s : State) {r : Answered} {v t : List ℤ} {a b n microvolts : ℤ} → a ≡ n → b ≡ microvolts →
+    AllowsBoth (movedLent s (a ∷ b ∷ [])) r v t → AllowsBoth (movedLent s (n ∷ microvolts ∷ [])) r v t
+same-pair s {r} {v} {t} {a} {b} {n} e f p =
+    subst (λ (x : ℤ). AllowsBoth (movedLent s (n ∷ x ∷ [])) r v t) f
+    (subst (λ (x : ℤ). AllowsBoth (movedLent s (x ∷ b ∷ [])) r v t) e p)

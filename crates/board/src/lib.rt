@@ -14,7 +14,7 @@ use terms::BRANCHES;
 use terms::ROLES;
 
 // Flat arrays of numbers, so that each can be lent. The first six hold the cards by their places; then come the transistors, with a set of their places for each node; what a move changes stands last.
-// A method that changes arrays on one side of `next` alone reads it and puts it back: there the compiler parts the struct, and what does not change is not copied.
+// A method that changes arrays on one side of `next` alone reads it and puts it back: there the compiler parts the struct, and what does not change is not copied. `next` has 64 bits, though 32 hold every number, so that what follows it begins at a multiple of eight: a part that begins between two is copied more often.
 #[repr(C)]
 pub struct Board {
     pub numbers: [u32; deck::ALL_NUMBERS],
@@ -23,7 +23,7 @@ pub struct Board {
     pub switches: [bool; deck::ALL_SWITCHES],
     pub names: [u8; places::ALL_NAMES],
     pub held: [u32; Board::CARDS],
-    pub next: u32,
+    pub next: u64,
     pub issues: [u32; Board::TRANSISTORS],
     pub cards: [u32; Board::TRANSISTORS],
     pub seats: [u8; Board::TRANSISTORS],
@@ -101,8 +101,8 @@ impl Board {
         let mut switches = self.switches;
         let mut names = self.names;
         let mut held = self.held;
-        let mut issue = self.next;
-        let answer = holding::load(
+        let mut issue = self.next as u32;
+        let answer = taking::load(
             &mut numbers,
             &mut powers,
             &mut ticks,
@@ -119,7 +119,7 @@ impl Board {
         self.switches = switches;
         self.names = names;
         self.held = held;
-        self.next = issue;
+        self.next = issue as u64;
         Answered {
             board: self,
             answer,
@@ -145,14 +145,14 @@ impl Board {
         let ticks = self.ticks;
         let switches = self.switches;
         let held = self.held;
-        let mut next = self.next;
+        let mut next = self.next as u32;
         let mut issues = self.issues;
         let mut cards = self.cards;
         let mut seats = self.seats;
         let mut on = self.nodes;
         let mut naming = self.naming;
         let mut currents = self.currents;
-        let answer = aside::place(
+        let answer = place_aside::place(
             &mut issues,
             &mut cards,
             &mut seats,
@@ -170,7 +170,7 @@ impl Board {
             card,
             nodes,
         );
-        self.next = next;
+        self.next = next as u64;
         self.issues = issues;
         self.cards = cards;
         self.seats = seats;
@@ -202,7 +202,7 @@ impl Board {
         let naming = self.naming;
         let number = self.next;
         let mut held = self.currents;
-        let answer = aside::move_all(
+        let answer = move_aside::move_all(
             volts,
             totals,
             &mut held,
@@ -256,7 +256,7 @@ impl Board {
         let mut nodes = self.nodes;
         let mut sets = self.naming;
         let mut left = self.currents;
-        let answer = aside::lift(
+        let answer = lift_aside::lift(
             &mut issues,
             &mut cards,
             &mut seats,
@@ -327,7 +327,7 @@ impl Board {
     {
         let held = self.held;
         let names = self.names;
-        let answer = holding::look_up(&held, &names, name);
+        let answer = looking::look_up(&held, &names, name);
         Answered {
             board: self,
             answer,

@@ -1,21 +1,18 @@
 // A script obeyed, line by line.
 ghost use Rattle.board.specs.Promise.{Reached};
-use crate::answer::put_unreadable;
-use crate::desk::Asks;
-use crate::desk::asked_by;
-use crate::desk::obey;
-use crate::desk::obey_apart;
-use crate::desk::poke;
 use crate::options::Options;
-use crate::out::ROOM;
 use crate::out::flush;
-use crate::out::part;
-use crate::shelf;
-use crate::shelf::MOST;
+use crate::out::write_unreadable;
+use crate::shelf::clear;
+use crate::shelf::take_library;
 use crate::showing::begin;
 use crate::showing::end;
 use board::Board;
+use obeying::MOST;
+use obeying::ROOM;
+use obeying::part;
 use script::MOST_BYTES;
+use script::Verb;
 use totals::NODES;
 
 // One byte more than the longest line: one that is longer is cut there, and is too long all the same.
@@ -69,27 +66,14 @@ fn obey_line(
 {
     let text = part(line, 0, k);
     let c = script::read(text, spelled);
+    let words = c.words;
     let verb = c.verb;
-    match asked_by(verb) {
-        Asks::Board => obey(
-            board,
-            volts,
-            totals,
-            c,
-            text,
-            spelled,
-            shelf::held(held),
-            out,
-            at,
-        ),
-        Asks::Slices => {
-            poke(pokes, c, text, volts, totals, out, at);
+    match verb {
+        Verb::Library => {
+            take_library(script::word(text, words, 1), held, out, at);
             board
         }
-        Asks::Neither => {
-            obey_apart(c, text, held, out, at);
-            board
-        }
+        _ => obeying::obey(board, volts, totals, pokes, c, text, spelled, held, out, at),
     }
 }
 
@@ -142,12 +126,12 @@ fn feed(
     current
 }
 
-// Writes what waits, after a word on a read that failed.
-fn write_out(got: isize, path: &[u8], out: &mut [u8; ROOM], at: &mut usize) {
-    if got < 0 {
-        put_unreadable(path, out, at);
-    }
+// Writes what waits, and a word on a read that failed.
+fn write_out(got: isize, path: &[u8], out: &[u8; ROOM], at: &mut usize) {
     flush(out, at);
+    if got < 0 {
+        write_unreadable(path);
+    }
 }
 
 // Obeys all that can be read. Nothing says that the input ends: the turns are counted down from a number that no run
@@ -163,7 +147,7 @@ pub fn run(fd: i32, path: &[u8], asked: Options) {
     let mut totals = [0i64; NODES];
     let begun = Board::fresh(&mut volts, &mut totals);
     let mut board = begun.board;
-    shelf::clear(&mut held);
+    clear(&mut held);
     let mut turns = u64::MAX;
     while turns > 0 {
         let got = read(fd, &mut bytes);
@@ -181,7 +165,7 @@ pub fn run(fd: i32, path: &[u8], asked: Options) {
             &mut at,
         );
         board = next;
-        write_out(got, path, &mut out, &mut at);
+        write_out(got, path, &out, &mut at);
         if got <= 0 {
             return;
         }

@@ -2,11 +2,9 @@
 // standard input where none is named. An option holds for the scripts after it.
 mod options; // options.rt: what the arguments ask for
 mod help; // help.rt: the options and the commands, as they are printed
-mod out; // out.rt: bytes that wait to be written
-mod shelf; // shelf.rt: the library held
-mod answer; // answer.rt: the answers to a line, as `answers` words them
+mod out; // out.rt: what waits, written
+mod shelf; // shelf.rt: the library held, none at first, then read from a file
 mod showing; // showing.rt: a line repeated, and a refusal explained
-mod desk; // desk.rt: a line obeyed
 mod lines; // lines.rt: a script obeyed, line by line
 
 use options::Argument;

@@ -1,19 +1,12 @@
-// Bytes that wait to be written. `at` is how many wait; they are written when there is no room for another, and when a
-// script has been obeyed as far as it was read.
+// What waits is written before a line whose answer might have no room, and when a script has been obeyed as far as it
+// was read.
 use libc::STDOUT_FILENO;
-use sheet::Text;
+use obeying::ANSWERS;
+use obeying::ROOM;
+use obeying::part;
 
-pub const ROOM: usize = 65536;
-
-// The n bytes from a place on; none where there are not so many.
-pub fn part(s: &[u8], at: usize, n: usize) -> &[u8] {
-    if at <= s.len() {
-        if n <= s.len() - at {
-            return &s[at..at + n];
-        }
-    }
-    &s[..0]
-}
+// Room for the answer to the longest path that an argument gives.
+const PATH_ROOM: usize = 131104;
 
 // Writes what waits.
 pub fn flush(out: &[u8; ROOM], at: &mut usize) {
@@ -21,25 +14,22 @@ pub fn flush(out: &[u8; ROOM], at: &mut usize) {
     *at = 0;
 }
 
-pub fn put(b: u8, out: &mut [u8; ROOM], at: &mut usize) {
-    if ROOM <= *at {
+// Writes what waits where it leaves less room than the longest answer has.
+pub fn make_room(out: &[u8; ROOM], at: &mut usize) {
+    if ROOM - ANSWERS < *at {
         flush(out, at);
     }
-    let n = *at;
-    if n < ROOM {
-        out[n] = b;
-        *at = n + 1;
-    }
 }
 
-pub fn puts(text: &[u8], out: &mut [u8; ROOM], at: &mut usize) {
-    for i in 0..text.len() {
-        put(text[i], out, at);
-    }
+// Puts the first n bytes of a text to those that wait.
+pub fn put_part(text: &[u8], n: usize, out: &mut [u8; ROOM], at: &mut usize) {
+    let k = page::put(part(text, 0, n), out, *at);
+    *at = k;
 }
 
-pub fn put_text(t: Text, out: &mut [u8; ROOM], at: &mut usize) {
-    let n = t.len;
-    let bytes = t.bytes;
-    puts(part(&bytes, 0, n), out, at);
+// Writes that a script cannot be read.
+pub fn write_unreadable(path: &[u8]) {
+    let mut text = [0u8; PATH_ROOM];
+    let n = quoting::unreadable_line(path, &mut text);
+    io::write_all(STDOUT_FILENO, part(&text, 0, n));
 }

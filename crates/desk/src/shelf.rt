@@ -1,11 +1,12 @@
-// The library held. It fills the start of a buffer, and its own header says how long it is.
-use crate::out::part;
-use library::Reading;
+// The library held: none at first, then what is read from a file.
+use crate::out::put_part;
+use obeying::MOST;
+use obeying::ROOM;
 
-// One byte more than the longest library.
-pub const MOST: usize = 53265;
+// Room for the answer to the longest path that a line gives.
+const PATH_ROOM: usize = 4128;
 
-pub enum File {
+enum File {
     Bytes(usize),
     Failed,
 }
@@ -13,10 +14,6 @@ pub enum File {
 // Puts the library without cards on the shelf.
 pub fn clear(shelf: &mut [u8; MOST]) {
     library::write(1, b"", &[0u64; 0], shelf);
-}
-
-pub fn held(shelf: &[u8]) -> &[u8] {
-    part(shelf, 0, bytes_le::u32_at(shelf, 12) as usize)
 }
 
 // One read, to the place n and on.
@@ -49,24 +46,24 @@ fn read_whole(fd: i32, bytes: &mut [u8; MOST]) -> File {
     File::Bytes(n)
 }
 
-pub fn read_file(path: &[u8], bytes: &mut [u8; MOST]) -> File {
+fn read_file(path: &[u8], bytes: &mut [u8; MOST]) -> File {
     let fd = os::open_read(path);
     let file = read_whole(fd, bytes);
     libc::close(fd);
     file
 }
 
-// How many cards a library has, or why it is none.
-pub fn judge(bytes: &[u8]) -> Reading {
-    let mut names = [0u8; 4096];
-    let mut words = [0u64; 6144];
-    library::read(bytes, &mut names, &mut words)
+fn put_unreadable(path: &[u8], out: &mut [u8; ROOM], at: &mut usize) {
+    let mut text = [0u8; PATH_ROOM];
+    let n = quoting::unreadable_line(path, &mut text);
+    put_part(&text, n, out, at);
 }
 
-pub fn keep(bytes: &[u8], shelf: &mut [u8; MOST]) {
-    for i in 0..bytes.len() {
-        if i < MOST {
-            shelf[i] = bytes[i];
-        }
+// The library that a file holds becomes the library held.
+pub fn take_library(path: &[u8], held: &mut [u8; MOST], out: &mut [u8; ROOM], at: &mut usize) {
+    let mut read = [0u8; MOST];
+    match read_file(path, &mut read) {
+        File::Bytes(n) => obeying::keep_library(n, &read, held, out, at),
+        File::Failed => put_unreadable(path, out, at),
     }
 }

@@ -1,12 +1,13 @@
 // A line repeated before its answer, and a refusal explained after it. For these the answer stands alone among the
 // bytes that wait: what waited before is written first, and no answer fills their room.
 use crate::options::Options;
-use crate::out::ROOM;
 use crate::out::flush;
-use crate::out::part;
-use crate::out::puts;
+use crate::out::make_room;
+use crate::out::put_part;
 use explaining::EXPLANATION_ROOM;
 use libc::STDOUT_FILENO;
+use obeying::ROOM;
+use obeying::part;
 
 // Before a line is obeyed.
 pub fn begin(o: Options, out: &[u8; ROOM], at: &mut usize) {
@@ -14,6 +15,8 @@ pub fn begin(o: Options, out: &[u8; ROOM], at: &mut usize) {
         flush(out, at);
     } else if o.echoes {
         flush(out, at);
+    } else {
+        make_room(out, at);
     }
 }
 
@@ -25,16 +28,16 @@ fn echo(line: &[u8]) {
     }
 }
 
-// The first n bytes of a text.
-fn put_part(text: &[u8; EXPLANATION_ROOM], n: usize, out: &mut [u8; ROOM], at: &mut usize) {
-    puts(part(text, 0, n), out, at);
+// The first n bytes of an explanation.
+fn put_text(text: &[u8; EXPLANATION_ROOM], n: usize, out: &mut [u8; ROOM], at: &mut usize) {
+    put_part(text, n, out, at);
 }
 
 // Puts what explains the answer of n bytes and a newline after it.
 fn explain(n: usize, out: &mut [u8; ROOM], at: &mut usize) {
     let mut text = [0u8; EXPLANATION_ROOM];
     let k = explaining::explain_line(part(out, 0, n), &mut text);
-    put_part(&text, k, out, at);
+    put_text(&text, k, out, at);
 }
 
 // After a line was obeyed. Where nothing waits it had no answer.

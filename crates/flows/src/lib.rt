@@ -57,7 +57,7 @@ pub fn work(
         (now (switches .entry))) s) (now (on .entry)) (map givenBack (now (volts .entry))) r ⌝ }
 {
     let v = role_volts(volts, on);
-    let r = deck::ready_at(numbers, powers, ticks, switches, s);
+    let r = dealing::ready_at(numbers, powers, ticks, switches, s);
     polarity::work_out(table, r, &v)
 }
 

@@ -1,37 +1,32 @@
--- Where the tests of loading and withdrawing lead: what is left in the arrays of a board's cards.
+-- What loading and withdrawing leave in the arrays of a board's cards, and where the tests of withdrawing lead.
 use mathlib.Core.Path.{_≡_, refl, sym, ap, _∙_}
 use mathlib.Core.Bool.{Bool, true, false}
 use mathlib.Core.List.{List}
-use Prim.Native.Nat.{ℕ, _+_, _≤_, _<_}
+use Prim.Native.Nat.{ℕ, _≤_, _<_}
 use native.Mathlib.Omega.{arith}
 use lib.Dec.{eqb}
 use lib.ListN.{replicate}
 use lib.IntN.{ℤ}
 use Rattle.refusal.specs.declared.Refusal.{Refusal}
 use Rattle.refusal.specs.declared.Refusal.the-variants.{Unknown, CardInUse}
-use Rattle.name.specs.Name.{padded, nameLength}
-use Rattle.card.specs.declared.WorkedCard.{WorkedCard}
+use Rattle.name.specs.Name.{nameLength}
 use Rattle.terms.specs.declared.Ready.{Ready}
-use Rattle.terms.specs.inner.Ready.{readyOf, noReady}
+use Rattle.terms.specs.inner.Ready.{noReady}
 use Rattle.given.specs.Lists.{anyOf}
 use Rattle.given.specs.Arguments.{some, issueOf}
 use Rattle.places.specs.Gathered.{Card}
-use Rattle.places.specs.Finding.{cardPlace, freeCard, standsOn}
+use Rattle.places.specs.Finding.{cardPlace, standsOn}
 use Rattle.places.specs.inner.Parts.{placeOr}
 use Rattle.places.specs.inner.Flat.{firstAt, numberPlace, anyOn}
 use Rattle.places.specs.laws.Founds.{not-there, is-there}
-use Rattle.places.specs.laws.Gather.{first-card, card-place, any-on-flat}
+use Rattle.places.specs.laws.Gather.{card-place, any-on-flat}
 use Rattle.model.specs.Board.{Board, Answered}
 use Rattle.model.specs.declared.Answer.{Answer}
-use Rattle.model.specs.declared.Answer.the-variants.{Issue, Done, Refused}
+use Rattle.model.specs.declared.Answer.the-variants.{Done, Refused}
 use Rattle.model.specs.Counts.{cardsMost}
 use Rattle.model.specs.Verdict.{withdrawVerdict}
-use Rattle.model.specs.Model.{cardsOf, transistorsOf, holding, plain, refuse, loadedOf, mayLoad, withdrawnOf}
-use Rattle.holding.specs.declared.Loading.{Loading}
-use Rattle.holding.specs.declared.Loading.the-variants.{Go, Stop}
+use Rattle.model.specs.Model.{cardsOf, transistorsOf, holding, plain, refuse, withdrawnOf}
 use Rattle.holding.specs.inner.Lent.{CardArrays, LeavesCards, Holds, cardOf}
-use Rattle.holding.specs.inner.Loading.{loading}
-use Rattle.holding.proofs.Ways.{verdict, way-stops, way-goes}
 
 -- ---- what the flat arrays answer
 
@@ -39,10 +34,6 @@ module _ (b : Board) where
   place-of : (n : ℕ) → cardPlace n (cardsOf b) ≡ numberPlace cardsMost n (b .held)
   unfolding cardsOf
   place-of n = card-place _ _ _ _ _ _ n
-
-  free-of : freeCard (cardsOf b) ≡ firstAt cardsMost 0 (b .held)
-  unfolding cardsOf
-  free-of = first-card _ _ _ _ _ _ 0
 
   on-of : (n : ℕ) → anyOf (standsOn n) (transistorsOf b) ≡ anyOn n (b .issues) (b .cards)
   unfolding transistorsOf
@@ -52,11 +43,11 @@ module _ {b : Board} {numbers powers ticks : List ℕ} {switches : List Bool} {n
     (l : CardArrays b numbers powers ticks switches names held) where
   -- ---- the arrays as they were, and with one card written
 
-  cards-stay : {next : ℕ} {f : Refusal} (a : Answered) → next ≡ b .next → refuse b f ≡ a →
+  pub cards-stay : {next : ℕ} {f : Refusal} (a : Answered) → next ≡ b .next → refuse b f ≡ a →
       LeavesCards a (Refused f) numbers powers ticks switches names held next
   cards-stay a p e = rw (← e) (record { answer-is = refl; cards-are = l; next-is = p })
 
-  cards-hold : {i : ℕ} {c : Card} {numbers′ powers′ ticks′ : List ℕ} {switches′ : List Bool} {names′ held′ : List ℕ} →
+  pub cards-hold : {i : ℕ} {c : Card} {numbers′ powers′ ticks′ : List ℕ} {switches′ : List Bool} {names′ held′ : List ℕ} →
       Holds i c numbers powers ticks switches names held numbers′ powers′ ticks′ switches′ names′ held′ →
       (next : ℕ) (answer : Answer) (a : Answered) →
       plain (holding b i c next) answer ≡ a →
@@ -76,32 +67,6 @@ module _ {b : Board} {numbers powers ticks : List ℕ} {switches : List Bool} {n
             };
         next-is = refl;
       })
-
-  -- ---- loading
-
-  module _ {next : ℕ} (p : next ≡ b .next) (name bytes : List ℕ) {w : Loading}
-      (way-is : w ≡ loading held next name bytes) where
-    free-is : freeCard (cardsOf b) ≡ firstAt cardsMost 0 held
-    free-is = rw (l .held-are) (free-of b)
-
-    may-is : mayLoad b name bytes ≡ verdict held next name bytes
-    may-is = rw (free-is, p)
-
-    pub lent-stops : {f : Refusal} → w ≡ Stop f →
-        LeavesCards (loadedOf b name bytes) (Refused f) numbers powers ticks switches names held next
-    unfolding loadedOf
-    lent-stops e = cards-stay (loadedOf b name bytes) p (rw (may-is, way-stops held next name bytes way-is e))
-
-    pub lent-loads : {i : ℕ} {c : WorkedCard} → w ≡ Go i c → {own : List ℕ} → own ≡ padded name → {ready : Ready} →
-        ready ≡ readyOf c → {numbers′ powers′ ticks′ : List ℕ} {switches′ : List Bool} {names′ held′ : List ℕ} →
-        Holds i (cardOf next own ready) numbers powers ticks switches names held numbers′ powers′ ticks′ switches′
-        names′ held′ →
-        LeavesCards (loadedOf b name bytes) (Issue next) numbers′ powers′ ticks′ switches′ names′ held′ (next + 1)
-    unfolding loadedOf
-    lent-loads e o r h =
-        let g = way-goes held next name bytes way-is e in
-        cards-hold h (next + 1) (Issue next) (loadedOf b name bytes)
-        (rw (may-is, g .0, free-is, ← (g .1), o, r, p))
 
   -- ---- withdrawing
 

@@ -1,4 +1,2 @@
-pub mod Ways
 pub mod Cards
-pub mod Shows
 pub mod Whole

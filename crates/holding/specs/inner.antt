@@ -1,3 +1,2 @@
--- Words of the contracts: the cards' arrays as they are lent and left, and where loading's tests lead.
+-- Words of the contracts: the cards' arrays as they are lent and left.
 pub mod Lent
-pub mod Loading

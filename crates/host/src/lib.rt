@@ -1,12 +1,15 @@
 // The desk as a static library: functions that a program in another language calls over memory that it owns and lends. Its header is host/desk.h.
-// The board stands behind a reference. A call that changes it hands a copy to its worker and writes back the board that comes out; a call that only reads lends what it reads, and the copy is never made.
+// The board stands behind a reference. A call that changes it hands a copy to its worker and writes back the board that comes out; a call that only reads lends what it reads, and the copy is never made. One call takes a board's arrays one by one, and nothing is copied.
 // 0 is done; any other result is a refusal's number. What a host has to keep is asked once: that the board is one that desk_fresh began and these calls left.
 ghost use mathlib.Core.List.{[], _∷_};
 ghost use lib.ListN.{length};
 ghost use Rattle.model.specs.Model.{loadedOf, withdrawnOf, lookedOf, openedOf, listedOf, summedOf};
-ghost use Rattle.lending.specs.Rest.{bare};
+ghost use Rattle.lending.specs.Rest.{Rest, bare};
 ghost use Rattle.lending.specs.Lending.{movedLent, liftedLent, showedLent};
+ghost use Rattle.lending.specs.Reached as lending;
+ghost use Rattle.lending.specs.inner.Lent.{stateWith, Lends};
 ghost use Rattle.board.specs.Promise.{modelOf, stateIn, givenAs, Reached};
+ghost use Rattle.host_lent.specs.InPlace.{MovedInPlace};
 ghost use Rattle.host_changes.specs.Changes.{Leaves, Begun, Loaded};
 ghost use Rattle.host_moves.specs.Moves.{Moved, Lifted};
 ghost use Rattle.host_placing.specs.Placing.{placingOf, Placed};
@@ -14,6 +17,8 @@ ghost use Rattle.host_queries.specs.Queries.{LookedUp, Shown, Opened, Listed, S
 ghost use Rattle.host_lines.specs.Lines.{lineLoadedOf};
 ghost use Rattle.host_shelf.specs.Shelf.{ReadOut, Found};
 use board::Board;
+use places::TRANSISTORS;
+use totals::NODES;
 
 // ---- the library
 
@@ -120,6 +125,45 @@ pub extern "C" fn desk_move_all(
     let o = host_moves::move_all(*board, volts, totals, pairs, who, branch);
     *board = o.board;
     o.code
+}
+
+// The same on a board's own arrays: of a board that calls left, these are what a move reads, and the currents held are all that it changes.
+#[no_mangle]
+pub extern "C" fn desk_move_lent(
+    volts: &mut [i64],
+    totals: &mut [i64],
+    currents: &mut [i64; places::ALL_CURRENTS],
+    numbers: &[u32; deck::ALL_NUMBERS],
+    powers: &[u16; deck::ALL_POWERS],
+    ticks: &[u64; deck::ALL_TICKS],
+    switches: &[bool; deck::ALL_SWITCHES],
+    issues: &[u32; TRANSISTORS],
+    seats: &[u8; TRANSISTORS],
+    nodes: &[u8; places::ALL_NODES],
+    naming: &[u64; NODES],
+    pairs: &[i64],
+    who: &mut u32,
+    branch: &mut u32,
+) -> u32
+    requires { ⌜ ((b : Rest) × lending.Reached b × Lends b (now numbers) (now powers) (now ticks) (now switches) (now issues) (now seats) (now nodes) (now naming) (now currents)) ⌝ }
+    ensures { λ r. ⌜ ((b : Rest) → lending.Reached b → Lends b (now (numbers .entry)) (now (powers .entry)) (now (ticks .entry)) (now (switches .entry)) (now (issues .entry)) (now (seats .entry)) (now (nodes .entry)) (now (naming .entry)) (now (currents .entry)) → MovedInPlace (movedLent (stateWith b (now (volts .entry)) (now (totals .entry))) (now (pairs .entry))) (now (volts .exit)) (now (totals .exit)) (now (currents .exit)) (now (who .entry)) (now (who .exit)) (now (branch .entry)) (now (branch .exit)) r) ⌝ }
+{
+    host_lent::move_lent(
+        volts,
+        totals,
+        currents,
+        numbers,
+        powers,
+        ticks,
+        switches,
+        issues,
+        seats,
+        nodes,
+        naming,
+        pairs,
+        who,
+        branch,
+    )
 }
 
 #[no_mangle]

@@ -21,15 +21,17 @@ use Rattle.model.specs.Board as model
 use Rattle.model.specs.declared.Answer.{Answer}
 use Rattle.model.specs.declared.Answer.the-variants.{Issue, Done, Node, Currents, Listed, Summed, Refused}
 use Rattle.model.specs.Model as calls
-use Rattle.lending.specs.Rest.{State, boardIn, bare, restOf}
+use Rattle.lending.specs.Rest.{Rest, State, boardIn, bare, restOf}
 use Rattle.lending.specs.Lending as lending
 use Rattle.lending.specs.Lending.{refusalIn, changeVerdict, lentBy, changing, freshBy}
+use Rattle.lending.specs.inner.Lent.{stateWith}
 use Rattle.board.specs.declared.Board.{Board}
 use Rattle.board.specs.Promise.{modelOf, boardOf, stateIn, givenAs}
 use Rattle.host_words.specs.Words.{resultOf, issueOver, whoIn, branchIn, whoOver, branchOver}
 use Rattle.line.specs.Line.{Model}
 use Rattle.line.specs.Answers.{readingOf, nameLeft, recordLeft}
 use Rattle.listed.specs.Listed.{unpadded}
+use Rattle.host_lent.specs.InPlace.{MovedInPlace}
 use Rattle.host_changes.specs.Changes.{Leaves, Begun, Loaded}
 use Rattle.host_moves.specs.Moves.{Moved, Lifted}
 use Rattle.host_placing.specs.Placing as placing
@@ -146,6 +148,17 @@ module _ {b b′ : Board} {r : ℕ} where
             changing-stays (λ (x : model.Board). calls.placedOf x card (placing.rolesOf nodes)) (stateIn b v t) i k
         go false k = (refl, refl)
 
+-- of a board that lends its arrays it is the currents held that a move could change
+pub refused-in-place : (b : Rest) (v t pairs : List ℤ) {v′ t′ c′ : List ℤ} {w w′ k k′ r : ℕ} →
+    MovedInPlace (lending.movedLent (stateWith b v t) pairs) v′ t′ c′ w w′ k k′ r → (r ≡ 0 → ⊥) →
+    (v′ ≡ v) × ((t′ ≡ t) × (c′ ≡ b .currents))
+unfolding lending.movedLent
+refused-in-place b v t pairs p n =
+    let left = changing-stays (λ (x : model.Board). calls.movedOf x pairs) (stateWith b v t) 0 (λ z. n (p .result ∙ z)) .0 in (
+      p .volts ∙ ap (λ (s : State). s .volts) left,
+      (p .totals ∙ ap (λ (s : State). s .totals) left, p .currents ∙ ap (λ (s : State). s .rest .currents) left),
+    )
+
 -- ---- who overloads in which branch
 
 module _ (w k : ℕ) where
@@ -183,13 +196,18 @@ module _ (w k : ℕ) where
   untold (Summed t c l) over inject = (refl, refl)
   untold (Refused f) over inject = alone f over inject
 
-module _ {l : lending.Lent} {b′ : Board} {t′ : List ℤ} {w w′ k k′ r : ℕ} (over : r ≡ 15 → ⊥) (inject : r ≡ 18 → ⊥) where
-  pub told-by-no-move : {v′ : List ℤ} → Moved l b′ v′ t′ w w′ k k′ r → (w′ ≡ w) × (k′ ≡ k)
+module _ {l : lending.Lent} {t′ : List ℤ} {w w′ k k′ r : ℕ} (over : r ≡ 15 → ⊥) (inject : r ≡ 18 → ⊥) where
+  pub told-by-no-move : {b′ : Board} {v′ : List ℤ} → Moved l b′ v′ t′ w w′ k k′ r → (w′ ≡ w) × (k′ ≡ k)
   told-by-no-move p =
       let same = untold w k (l .answer) (λ z. over (p .leaves .result ∙ z)) (λ z. inject (p .leaves .result ∙ z)) in
       (p .who ∙ same .0, p .branch ∙ same .1)
 
-  pub told-by-no-place : {i i′ : ℕ} → Placed l b′ t′ i i′ w w′ k k′ r → (w′ ≡ w) × (k′ ≡ k)
+  pub told-by-no-move-in-place : {v′ c′ : List ℤ} → MovedInPlace l v′ t′ c′ w w′ k k′ r → (w′ ≡ w) × (k′ ≡ k)
+  told-by-no-move-in-place p =
+      let same = untold w k (l .answer) (λ z. over (p .result ∙ z)) (λ z. inject (p .result ∙ z)) in
+      (p .who ∙ same .0, p .branch ∙ same .1)
+
+  pub told-by-no-place : {b′ : Board} {i i′ : ℕ} → Placed l b′ t′ i i′ w w′ k k′ r → (w′ ≡ w) × (k′ ≡ k)
   told-by-no-place p =
       let same = untold w k (l .answer) (λ z. over (p .leaves .result ∙ z)) (λ z. inject (p .leaves .result ∙ z)) in
       (p .who ∙ same .0, p .branch ∙ same .1)

@@ -11,6 +11,7 @@ use Rattle.lending.specs.Lending.{Lent, freshLent}
 use Rattle.board.specs.declared.Board.{Board}
 use Rattle.board.specs.declared.Answered.{Answered}
 use Rattle.board.specs.Promise.{handedAs}
+use Rattle.host_lent.specs.InPlace.{MovedInPlace}
 use Rattle.host_changes.specs.Changes.{Leaves, Begun, Loaded}
 use Rattle.host_moves.specs.Moves.{Moved, Lifted}
 use Rattle.host_placing.specs.Placing.{Placed}
@@ -80,6 +81,24 @@ module _ {b′ b″ : Board} {r s : ℕ} where
   unique-lifted p q =
       let same = unique-leaves (p .leaves) (q .leaves) in
       (same .0, (same .1, unique-by-equation (p .totals) (q .totals)))
+
+-- a move on a board's own arrays; what it leaves of them besides the currents is what it was lent
+pub unique-moved-in-place : {l : Lent} {v′ v″ t′ t″ c′ c″ : List ℤ} {w w′ w″ k k′ k″ r s : ℕ} →
+    MovedInPlace l v′ t′ c′ w w′ k k′ r → MovedInPlace l v″ t″ c″ w w″ k k″ s →
+    (r ≡ s) × ((v′ ≡ v″) × ((t′ ≡ t″) × ((c′ ≡ c″) × ((w′ ≡ w″) × (k′ ≡ k″)))))
+unique-moved-in-place p q = (
+  unique-by-equation (p .result) (q .result),
+  (
+    unique-by-equation (p .volts) (q .volts),
+    (
+      unique-by-equation (p .totals) (q .totals),
+      (
+        unique-by-equation (p .currents) (q .currents),
+        (unique-by-equation (p .who) (q .who), unique-by-equation (p .branch) (q .branch)),
+      ),
+    ),
+  ),
+)
 
 -- ---- calls that only read it
 

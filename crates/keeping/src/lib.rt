@@ -1,37 +1,40 @@
 // The lent slices tested, and their voltages kept.
 ghost use mathlib.Core.Path.{_≡_};
+ghost use mathlib.Core.Bool.{not};
 ghost use lib.ListN.{length};
+ghost use Rattle.volts.specs.Volts.{offVolts};
 ghost use Rattle.totals.specs.Gives.{nodesMost};
-ghost use Rattle.slices.specs.Slices.{rightLengths, noneKept, keptOf, keptSlices};
-use slices::Kept;
+ghost use Rattle.given.specs.Lists.{anyOf};
+ghost use Rattle.slices.specs.Slices.{offSlices, rightLengths, KeepsVolts, Keeps};
 use totals::NODES;
 use volts::Voltage;
 
-fn none_kept() -> Kept
-    ensures { λ r. ⌜ r ≡ noneKept ⌝ }
+// Whether every voltage of 32 is in range.
+fn in_range(volts: &[i64]) -> bool
+    requires { ⌜ length (now volts) ≡ nodesMost ⌝ }
+    ensures { λ r. ⌜ r ≡ not (anyOf offVolts (now (volts .entry))) ⌝ }
 {
-    Kept {
-        good: false,
-        volts: [volts::ZERO; NODES],
+    for k in 0..NODES {
+        let Voltage::Kept(_) = volts::keep(volts[k]) else {
+            return false;
+        };
     }
+    true
 }
 
-// A slice of 32 voltages kept, all or none.
-fn keep_slice(volts: &[i64]) -> Kept
+// That, and each of them kept, written to `kept` as it goes.
+fn keep_slice(kept: &mut [u32; NODES], volts: &[i64]) -> bool
     requires { ⌜ length (now volts) ≡ nodesMost ⌝ }
-    ensures { λ r. ⌜ r ≡ keptOf (now (volts .entry)) ⌝ }
+    ensures { λ r. ⌜ KeepsVolts (now (volts .entry)) r (now (kept .exit)) ⌝ }
 {
-    let mut kept = [volts::ZERO; NODES];
+    *kept = [volts::ZERO; NODES];
     for k in 0..NODES {
         let Voltage::Kept(x) = volts::keep(volts[k]) else {
-            return none_kept();
+            return false;
         };
         kept[k] = x;
     }
-    Kept {
-        good: true,
-        volts: kept,
-    }
+    true
 }
 
 // Whether both slices have 32 numbers.
@@ -46,11 +49,21 @@ pub fn right_lengths(volts: &[i64], totals: &[i64]) -> bool
 }
 
 // Good slices have 32 numbers each, and every voltage in its range.
-pub fn keep_slices(volts: &[i64], totals: &[i64]) -> Kept
-    ensures { λ r. ⌜ r ≡ keptSlices (now (volts .entry)) (now (totals .entry)) ⌝ }
+pub fn good_slices(volts: &[i64], totals: &[i64]) -> bool
+    ensures { λ r. ⌜ r ≡ not (offSlices (now (volts .entry)) (now (totals .entry))) ⌝ }
 {
     if !right_lengths(volts, totals) {
-        return none_kept();
+        return false;
     }
-    keep_slice(volts)
+    in_range(volts)
+}
+
+// Whether the slices are good; where they are, their voltages as they are kept are in `kept`.
+pub fn keep_slices(kept: &mut [u32; NODES], volts: &[i64], totals: &[i64]) -> bool
+    ensures { λ r. ⌜ Keeps (now (volts .entry)) (now (totals .entry)) r (now (kept .exit)) ⌝ }
+{
+    if !right_lengths(volts, totals) {
+        return false;
+    }
+    keep_slice(kept, volts)
 }

@@ -1,41 +1,36 @@
 -- What judging the totals tells: whether one would leave 64 bits, and where none would, all of them as they would
 -- stand.
 use mathlib.Core.Path.{_≡_, refl, sym, ap, _∙_}
-use mathlib.Core.Bool.{Bool, true, false}
+use mathlib.Core.Bool.{Bool, true, false, cond, not}
 use mathlib.Core.List.{List}
 use Prim.Native.Nat.{ℕ}
-use lib.ListN.{length, getD, length-replicate}
+use lib.ListN.{length, getD, replicate, length-replicate}
 use lib.IntN.{ℤ, pos, _-ℤ_}
 use Rattle.refusal.specs.Clash.{clash}
 use Rattle.totals.specs.Gives.{nodesMost}
-use Rattle.slices.specs.declared.Stood.{Stood}
-use Rattle.slices.specs.Slices.{someOutside, changed, stoodUnless, stoodOf}
+use Rattle.slices.specs.Slices.{someOutside, changed, Stands}
 use Rattle.model.proofs.Gains.{more-long}
 
-module _ (totals coming going : List ℤ) {x : Stood} (e : x ≡ stoodOf totals coming going) where
-  pub stood-bad : x .good ≡ false → someOutside (changed totals coming going) ≡ true
-  stood-bad h = go (someOutside (changed totals coming going)) (sym (ap (λ (k : Stood). k .good) e) ∙ h)
+module _ {totals coming going : List ℤ} {fits : Bool} {next : List ℤ} (s : Stands totals coming going fits next) where
+  pub stood-bad : fits ≡ false → someOutside (changed totals coming going) ≡ true
+  stood-bad h = go (someOutside (changed totals coming going)) (sym (s .told) ∙ h)
     where
-      go : (out : Bool) → stoodUnless out (changed totals coming going) .good ≡ false → out ≡ true
+      go : (out : Bool) → not out ≡ false → out ≡ true
       go true p = refl
       go false p = clash cc
 
-  pub stood-good : x .good ≡ true →
-      (someOutside (changed totals coming going) ≡ false) × (x .totals ≡ changed totals coming going)
-  stood-good h =
-      go (someOutside (changed totals coming going)) (sym (ap (λ (k : Stood). k .good) e) ∙ h)
-      (ap (λ (k : Stood). k .totals) e)
+  pub stood-good : fits ≡ true →
+      (someOutside (changed totals coming going) ≡ false) × (next ≡ changed totals coming going)
+  stood-good h = (go (someOutside (changed totals coming going)) (sym (s .told) ∙ h), s .next-is ∙ rw h)
     where
-      go : (out : Bool) → stoodUnless out (changed totals coming going) .good ≡ true →
-          x .totals ≡ stoodUnless out (changed totals coming going) .totals →
-          (out ≡ false) × (x .totals ≡ changed totals coming going)
-      go true p q = clash cc
-      go false p q = (refl, q)
+      go : (out : Bool) → not out ≡ true → out ≡ false
+      go true p = clash cc
+      go false p = refl
 
   -- 32 numbers either way
-  pub stood-long : length (x .totals) ≡ nodesMost
-  stood-long = ap (λ (k : Stood). length (k .totals)) e ∙ go (someOutside (changed totals coming going))
+  pub stood-long : length next ≡ nodesMost
+  stood-long = ap length (s .next-is) ∙ go fits
     where
-      go : (out : Bool) → length (stoodUnless out (changed totals coming going) .totals) ≡ nodesMost
-      go true = length-replicate nodesMost (pos 0)
-      go false = more-long totals (λ (n : ℕ). getD coming n (pos 0) -ℤ getD going n (pos 0))
+      go : (t : Bool) → length (cond t (changed totals coming going) (replicate nodesMost (pos 0))) ≡ nodesMost
+      go true = more-long totals (λ (n : ℕ). getD coming n (pos 0) -ℤ getD going n (pos 0))
+      go false = length-replicate nodesMost (pos 0)

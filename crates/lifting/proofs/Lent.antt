@@ -1,6 +1,6 @@
 -- Lifting on arrays that are a board's, beside two slices: each end of a call, with what it leaves in them.
 use mathlib.Core.Path.{_≡_, sym, subst}
-use mathlib.Core.Bool.{true, false}
+use mathlib.Core.Bool.{Bool, true, false}
 use mathlib.Core.List.{List}
 use Prim.Native.Nat.{ℕ, _*_, _≤_}
 use lib.Dec.{eqb}
@@ -13,8 +13,7 @@ use Rattle.totals.specs.Flow.{ticksGive}
 use Rattle.totals.specs.inner.Sums.{More, Givable}
 use Rattle.given.specs.Arguments.{some, issueOf}
 use Rattle.deck.specs.Stretch.{written}
-use Rattle.slices.specs.declared.Stood.{Stood}
-use Rattle.slices.specs.Slices.{offSlices, changed, stoodOf}
+use Rattle.slices.specs.Slices.{offSlices, changed, Stands}
 use Rattle.places.specs.Naming.{parted}
 use Rattle.places.specs.inner.Flat.{firstAt, numberPlace}
 use Rattle.places.specs.inner.Parts.{placeOr, Entering}
@@ -121,25 +120,25 @@ module _ {r : Rest} {issues cards seats nodes naming : List ℕ} {currents : Lis
         lift-taken : Taken (liftedOf (boardIn was) z .answer)
         lift-taken = rw (lift-goes (boardIn was) (ground .footing) z i e)
 
-        module _ {x : Stood} (x-is : x ≡ stoodOf totals none going) where
-          pub lift-long : length (x .totals) ≡ nodesMost
-          lift-long = stood-long totals none going x-is
+        module _ {fits : Bool} {next : List ℤ} (stands : Stands totals none going fits next) where
+          pub lift-long : length next ≡ nodesMost
+          lift-long = stood-long stands
 
-          pub lift-leaves-64 : x .good ≡ false →
+          pub lift-leaves-64 : fits ≡ false →
               Lifts r (Refused OutOfReach) issues cards seats nodes naming totals currents
           unfolding liftedLent
           lift-leaves-64 bad =
               turned
               (leaves-64 (λ (b : Board). liftedOf b z) was good lift-taken
-              (rw (← lift-changed) (stood-bad totals none going x-is bad)))
+              (rw (← lift-changed) (stood-bad stands bad)))
 
-          pub lift-done : x .good ≡ true → {t : List ℤ} → t ≡ x .totals →
+          pub lift-done : fits ≡ true → {t : List ℤ} → t ≡ next →
               Lifts r Done (set issues i 0) (set cards i 0) (set seats i 0)
               (written 0 nodes (roles * i) (replicate roles 0) roles) (parted naming i on) t
               (written (pos 0) currents (branches * i) (replicate branches (pos 0)) branches)
           unfolding liftedLent
-          lift-done fits {t} q =
-              let y = stood-good totals none going x-is fits in
+          lift-done so {t} q =
+              let y = stood-good stands so in
               subst
               (λ (m : Rest). Lifts m Done (set issues i 0) (set cards i 0) (set seats i 0)
               (written 0 nodes (roles * i) (replicate roles 0) roles) (parted naming i on) t

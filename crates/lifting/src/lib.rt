@@ -25,8 +25,7 @@ pub fn lift(
     requires { ⌜ ((r : Rest) × Reached r × LendsStanding r (now issues) (now cards) (now seats) (now nodes) (now naming) (now currents)) ⌝ }
     ensures { λ a. ⌜ ((r : Rest) → Reached r → LendsStanding r (now (issues .entry)) (now (cards .entry)) (now (seats .entry)) (now (nodes .entry)) (now (naming .entry)) (now (currents .entry)) → LeavesPlaces (liftedLent (stateWith r (now (volts .entry)) (now (totals .entry))) transistor) a (now (issues .exit)) (now (cards .exit)) (now (seats .exit)) (now (nodes .exit)) (now (naming .exit)) (now (totals .exit)) (now (currents .exit)) (r .next)) ⌝ }
 {
-    let kept = keeping::keep_slices(volts, totals);
-    if !kept.good {
+    if !keeping::good_slices(volts, totals) {
         return Answer::Refused(Refusal::OutOfRange);
     }
     let n = given::issue_of(transistor);
@@ -39,12 +38,11 @@ pub fn lift(
     let coming = [0i64; NODES];
     let mut going = [0i64; NODES];
     settle::put_in(&mut going, &on, &own);
-    let stood = standing::stand_all(totals, &coming, &going);
-    if !stood.good {
+    let mut next = [0i64; NODES];
+    if !standing::stand_all(&mut next, totals, &coming, &going) {
         return Answer::Refused(Refusal::OutOfReach);
     }
-    let all = stood.totals;
-    putting::put_totals(totals, &all);
+    putting::put_totals(totals, &next);
     issues[i] = 0;
     cards[i] = 0;
     seats[i] = 0;

@@ -1,15 +1,16 @@
 -- The footing of every board that calls leave, whatever voltages and totals each of them was handed: who stands where
--- and on which card, that no held number is above its limit, and that each node's set is a scan of what stands.
+-- and on which card, that no held number is above its limit and the next number one above the last at most, and that
+-- each node's set is a scan of what stands.
 use mathlib.Core.Path.{_≡_, refl, sym, ap, _∙_, subst}
 use mathlib.Core.Bool.{Bool, true, false, cond}
 use mathlib.Core.List.{List}
-use Prim.Native.Nat.{ℕ, zero, _+_, _≤_, _<_}
+use Prim.Native.Nat.{ℕ, zero, suc, _+_, _≤_, _<_}
 use native.Mathlib.Omega.{arith}
 use lib.Dec.{leb, lit≤}
 use lib.ListN.{length, getD, set, replicate, length-set, length-replicate, length-map}
 use lib.Seq.{getD-set-other}
 use lib.IntN.{ℤ, pos, natAbs}
-use borrow.Author.Tests.{eqb-true, eqb-false, ne-eqb, leb-false}
+use borrow.Author.Tests.{eqb-true, eqb-false, ne-eqb, leb-false, ltb-false}
 use Rattle.refusal.specs.Order.{Verdict, no, yes}
 use Rattle.name.specs.Name.{nameLength, padded}
 use Rattle.name.proofs.Laws.{padded-long}
@@ -21,7 +22,7 @@ use Rattle.terms.specs.Rows.{roles, branches}
 use Rattle.terms.specs.Looked.{lookedAt}
 use Rattle.totals.specs.inner.Sums.{Within}
 use Rattle.given.specs.Lists.{anyOf}
-use Rattle.given.specs.Arguments.{issueOf}
+use Rattle.given.specs.Arguments.{issuesMost, issueOf}
 use Rattle.given.specs.Pairs.{Shift}
 use Rattle.deck.specs.laws.Stretches.{getD-none}
 use Rattle.places.specs.Gathered.{Card, Transistor, emptyCard, emptyTransistor, noCard, noTransistor}
@@ -61,6 +62,7 @@ pub record Footed (cards : List Card) (ts : List Transistor) (next : ℕ) : Type
   pub cards-long : length cards ≡ cardsMost
   pub transistors-long : length ts ≡ transistorsMost
   pub begun : 1 ≤ next
+  pub numbered : next ≤ suc issuesMost
   pub transistor : (i : ℕ) → (getD ts i noTransistor .issue ≡ 0 → ⊥) → Standing cards (getD ts i noTransistor)
   pub ready : (i : ℕ) → (getD cards i noCard .issue ≡ 0 → ⊥) → IsReady (getD cards i noCard .ready)
 
@@ -84,6 +86,7 @@ footed-fresh =
       cards-long = length-replicate cardsMost emptyCard;
       transistors-long = length-replicate transistorsMost emptyTransistor;
       begun = lit≤ tt;
+      numbered = lit≤ tt;
       transistor =
           λ i h. absurd
           (h (each-replicate (λ (t : Transistor). t .issue ≡ 0) transistorsMost i emptyTransistor noTransistor refl
@@ -152,26 +155,28 @@ module _ {cards : List Card} {ts : List Transistor} {next : ℕ} (g : Footed car
       (sym (g .transistor i h .card-there) ∙ ap (λ (j : ℕ). getD cards j noCard .issue) q ∙ a .issue-is)
 
   -- another card at a place on which nobody stands
-  footed-card : (p next′ : ℕ) (c : Card) → 1 ≤ next′ → Away ts p → ((c .issue ≡ 0 → ⊥) → IsReady (c .ready)) →
-      Footed (set cards p c) ts next′
-  footed-card p next′ c first away made =
+  footed-card : (p next′ : ℕ) (c : Card) → 1 ≤ next′ → next′ ≤ suc issuesMost → Away ts p →
+      ((c .issue ≡ 0 → ⊥) → IsReady (c .ready)) → Footed (set cards p c) ts next′
+  footed-card p next′ c first last away made =
       record {
         cards-long = length-set cards p c ∙ g .cards-long;
         transistors-long = g .transistors-long;
         begun = first;
+        numbered = last;
         transistor = λ i h. standing-keeps cards p c (getD ts i noTransistor) (away i h) (g .transistor i h);
         ready =
             λ i. each-set (λ (x : Card). (x .issue ≡ 0 → ⊥) → IsReady (x .ready)) cards p i c noCard made (g .ready i);
       }
 
   -- another transistor at a place
-  footed-transistor : (p next′ : ℕ) (t : Transistor) → 1 ≤ next′ → ((t .issue ≡ 0 → ⊥) → Standing cards t) →
-      Footed cards (set ts p t) next′
-  footed-transistor p next′ t first s =
+  footed-transistor : (p next′ : ℕ) (t : Transistor) → 1 ≤ next′ → next′ ≤ suc issuesMost →
+      ((t .issue ≡ 0 → ⊥) → Standing cards t) → Footed cards (set ts p t) next′
+  footed-transistor p next′ t first last s =
       record {
         cards-long = g .cards-long;
         transistors-long = length-set ts p t ∙ g .transistors-long;
         begun = first;
+        numbered = last;
         transistor =
             λ j. each-set (λ (u : Transistor). (u .issue ≡ 0 → ⊥) → Standing cards u) ts p j t noTransistor s
             (g .transistor j);
@@ -209,11 +214,12 @@ module _ {b : Board} (g : Footing b) (name bytes : List ℕ) {c : WorkedCard}
   pub load-footing : Footing (loaded b name (yes c) .board)
   load-footing =
       let same = transistors-holding b (g .sized) (freeCard (cardsOf b)) arrival (b .next + 1) in
+      let left = ltb-false issuesMost (b .next) (loads name e .number) in
       record {
         sized = sized-holding b (g .sized) (freeCard (cardsOf b)) arrival (b .next + 1);
         footed =
             rw (load-cards, same)
-            (footed-card (g .footed) (freeCard (cardsOf b)) (b .next + 1) arrival (omega arith) load-away
+            (footed-card (g .footed) (freeCard (cardsOf b)) (b .next + 1) arrival (omega arith) (omega arith) load-away
             (λ h. made-ready bytes c (loads name e .judged)));
         named = rw same (g .named);
       }
@@ -250,7 +256,8 @@ module _ {b : Board} (g : Footing b) (n : ℤ) {p : ℕ} (e : mayWithdraw b n �
         sized = sized-holding b (g .sized) p emptyCard (b .next);
         footed =
             rw (withdraw-cards, same)
-            (footed-card (g .footed) p (b .next) emptyCard (g .footed .begun) withdraw-away (λ h. absurd (h refl)));
+            (footed-card (g .footed) p (b .next) emptyCard (g .footed .begun) (g .footed .numbered) withdraw-away
+            (λ h. absurd (h refl)));
         named = rw same (g .named);
       }
 
@@ -304,11 +311,12 @@ module _ {b : Board} (g : Footing b) (card : ℤ) (nodes : List ℤ) (sized : le
   place-footing =
       let free = freeTransistor (transistorsOf b) in
       let t = newcomer b i nodes in
+      let left = ltb-false issuesMost (b .next) (places (cardPlace (issueOf card) (cardsOf b)) (b .next) e .number) in
       record {
         sized = sized-standing b (g .sized) free t _ _ (b .next + 1) (at-nodes-long _ _ _);
         footed =
             rw (cards-standing b (g .sized) free t _ _ (b .next + 1), place-transistors)
-            (footed-transistor (g .footed) free (b .next + 1) t (omega arith) (λ h. newcomer-stands));
+            (footed-transistor (g .footed) free (b .next + 1) t (omega arith) (omega arith) (λ h. newcomer-stands));
         named =
             rw place-transistors
             (scans-joined (g .named) free t (rw (g .footed .transistors-long) place-below) (free-empty g place-below)
@@ -342,7 +350,8 @@ module _ {b : Board} (g : Footing b) (n : ℤ) {i : ℕ} (e : mayLift b n ≡ ye
         sized = sized-standing b (g .sized) i emptyTransistor _ _ (b .next) (at-nodes-long _ _ _);
         footed =
             rw (cards-standing b (g .sized) i emptyTransistor _ _ (b .next), lift-transistors)
-            (footed-transistor (g .footed) i (b .next) emptyTransistor (g .footed .begun) (λ h. absurd (h refl)));
+            (footed-transistor (g .footed) i (b .next) emptyTransistor (g .footed .begun) (g .footed .numbered)
+            (λ h. absurd (h refl)));
         named = rw lift-transistors (scans-parted (g .named) i emptyTransistor (at-lifted .below) refl);
       }
 
@@ -390,6 +399,7 @@ module _ {b : Board} (g : Footing b) (shifts : List Shift) where
               cards-long = g .footed .cards-long;
               transistors-long = transistors-count (g .sized) shifts;
               begun = g .footed .begun;
+              numbered = g .footed .numbered;
               transistor =
                   λ j h. let p = stood j h in
                   let s = g .footed .transistor j (p .1) in

@@ -46,14 +46,13 @@ pub fn move_all(
     requires { ⌜ ((r : Rest) × Reached r × Lends r (now numbers) (now powers) (now ticks) (now switches) (now issues) (now seats) (now nodes) (now naming) (now currents)) ⌝ }
     ensures { λ a. ⌜ ((r : Rest) → Reached r → Lends r (now (numbers .entry)) (now (powers .entry)) (now (ticks .entry)) (now (switches .entry)) (now (issues .entry)) (now (seats .entry)) (now (nodes .entry)) (now (naming .entry)) (now (currents .entry)) → LeavesLevels (movedLent (stateWith r (now (volts .entry)) (now (totals .entry))) (now (pairs .entry))) a (now (volts .exit)) (now (totals .exit)) (now (currents .exit))) ⌝ }
 {
-    let kept = keeping::keep_slices(volts, totals);
-    if !kept.good {
+    let mut will = [volts::ZERO; NODES];
+    if !keeping::keep_slices(&mut will, volts, totals) {
         return Answer::Refused(Refusal::OutOfRange);
     }
     if !pairs::are_pairs(pairs) {
         return Answer::Refused(Refusal::Malformed);
     }
-    let mut will = kept.volts;
     if !pairs::keep_pairs(&mut will, pairs) {
         return Answer::Refused(Refusal::OutOfRange);
     }

@@ -10,6 +10,10 @@ use lib.ListN.{length, drop, getD, set, length-set, drop-of-length-le}
 use lib.Seq.{drop-cons}
 use Rattle.page.specs.Page.{Page, page, byteIf, withByte, withBytes, Writes}
 
+-- the same bytes by another name
+pub as-bytes : {x y old new : List ℕ} {at end : ℕ} → x ≡ y → Writes x old at new end → Writes y old at new end
+as-bytes e w = rw e at w
+
 pub write-two : (p : Page) (a b : List ℕ) → withBytes p (a ++ b) ≡ withBytes (withBytes p a) b
 unfolding withBytes
 write-two p [] b = refl

@@ -47,16 +47,14 @@ pub fn read_node(volts: &[i64], totals: &[i64], node: i64) -> Answer
     ensures { λ r. ⌜ ((b : Rest) → r ≡ showedLent (stateWith b (now (volts .entry)) (now (totals .entry)))
         node .answer) ⌝ }
 {
-    let kept = keeping::keep_slices(volts, totals);
-    if !kept.good {
+    if !keeping::good_slices(volts, totals) {
         return Answer::Refused(Refusal::OutOfRange);
     }
     let n = given::node_of(node) as usize;
     if NODES <= n {
         return Answer::Refused(Refusal::OutOfRange);
     }
-    let levels = kept.volts;
-    let v = volts::give_back(levels[n]);
+    let v = volts[n];
     let t = totals[n];
     Answer::Node(v, t)
 }

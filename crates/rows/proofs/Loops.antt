@@ -1,9 +1,9 @@
--- What a loop over the rows knows once k are done: T's added up, the largest floor of a ratio, and that none overloads.
+-- What a loop over the rows knows once k are done: a number that none of theirs is above, and that none overloads.
 use mathlib.Core.Path.{_≡_, refl, sym, ap, subst, _∙_}
 use mathlib.Core.Bool.{true, false}
 use mathlib.Core.List.{List, [], _∷_}
 use mathlib.Core.Logic.{_⊎_, inl, inr}
-use Prim.Native.Nat.{ℕ, suc, _+_, _-_, _*_, _/_, _^_, _≤_, _<_}
+use Prim.Native.Nat.{ℕ, suc, _+_, _-_, _≤_, _<_}
 use native.Mathlib.Omega.{arith}
 use lib.ListN.{getD, replicate}
 use lib.IntN.{ℤ, pos}
@@ -14,8 +14,7 @@ use Rattle.rows.specs.declared.Outcome.{Outcome}
 use Rattle.terms.specs.declared.Terms.{Terms}
 use Rattle.terms.specs.Rows.{branches}
 use Rattle.rows.specs.Outcome.{tickLimit, ratioLimit, someAbove, outcomeAt}
-use Rattle.rows.specs.inner.FromTerms.{Small, lastPlaces, Below, Most, rowOver, overUp}
-use Rattle.rows.specs.inner.FromTerms.{listUp, allTicks, outcomeFrom}
+use Rattle.rows.specs.inner.FromTerms.{Most, rowOver, overUp, listUp, allTicks, outcomeFrom}
 
 -- what is so below k, and at k, is so below k + 1
 each-more : (P : ℕ → Type 0) {k : ℕ} → ((i : ℕ) → i < k → P i) → P k → (i : ℕ) → i < k + 1 → P i
@@ -25,22 +24,27 @@ each-more P {k} old new i h = go (below-or-not i k)
     go (inl q) = old i q
     go (inr q) = let e : k ≡ i = omega arith in subst P e new
 
--- ---- T's added up, without their last places
+-- ---- at least every number
 
--- more than a row adds: two numbers below 2^62 without their last places
-abbrev pub rowAdds : ℕ
-rowAdds = 2 * 2 ^ (62 - lastPlaces)
+pub record MostTo (a b : List ℕ) (k most : ℕ) : Type 0 where
+  pub first : (i : ℕ) → i < k → getD a i 0 ≤ most
+  pub second : (i : ℕ) → i < k → getD b i 0 ≤ most
 
-pub record SumTo (x : Terms) (k sum : ℕ) : Type 0 where
-  pub plus : (i : ℕ) → i < k → getD (x .plus) i 0 / 2 ^ lastPlaces ≤ sum
-  pub minus : (i : ℕ) → i < k → getD (x .minus) i 0 / 2 ^ lastPlaces ≤ sum
-  pub small : sum ≤ k * rowAdds
+module _ {a b : List ℕ} where
+  pub most-none : MostTo a b 0 0
+  most-none = record { first = λ i h. absurd (omega arith); second = λ i h. absurd (omega arith) }
 
--- ---- the largest floor
+  -- m is at least both numbers of row k, n at least that and those before it
+  pub most-more : {k most m n : ℕ} → MostTo a b k most → getD a k 0 ≤ m → getD b k 0 ≤ m → most ≤ n → m ≤ n →
+      MostTo a b (k + 1) n
+  most-more {k} {most} {m} {n} t l r o u =
+      record {
+        first = each-more (λ (i : ℕ). getD a i 0 ≤ n) (λ i q. let p = t .first i q in omega arith) (omega arith);
+        second = each-more (λ (i : ℕ). getD b i 0 ≤ n) (λ i q. let p = t .second i q in omega arith) (omega arith);
+      }
 
-pub record MostTo (x : Terms) (k most : ℕ) : Type 0 where
-  pub left : (i : ℕ) → i < k → getD (x .left) i 0 ≤ most
-  pub right : (i : ℕ) → i < k → getD (x .right) i 0 ≤ most
+  pub most-all : {k most : ℕ} → branches ≤ k → MostTo a b k most → Most a b most
+  most-all h t = record { first = λ i q. t .first i (omega arith); second = λ i q. t .second i (omega arith) }
 
 -- ---- no row overloads: the first of all that does is the first of those left
 
@@ -56,48 +60,6 @@ unfolding overUp
 over-end x k = refl
 
 module _ {x : Terms} where
-  pub sum-none : SumTo x 0 0
-  sum-none = record { plus = λ i h. absurd (omega arith); minus = λ i h. absurd (omega arith); small = omega arith }
-
-  pub sum-more : {k sum : ℕ} → Small x → k < branches → SumTo x k sum →
-      SumTo x (k + 1) (sum + getD (x .plus) k 0 / 2 ^ lastPlaces + getD (x .minus) k 0 / 2 ^ lastPlaces)
-  sum-more {k} {sum} s h t =
-      let p = s .plus k h in
-      let m = s .minus k h in
-      let l = t .small in
-      record {
-        plus =
-            each-more (λ (i : ℕ). getD (x .plus) i 0 / 2 ^ lastPlaces ≤ now)
-            (λ i q. let o = t .plus i q in omega arith) (omega arith);
-        minus =
-            each-more (λ (i : ℕ). getD (x .minus) i 0 / 2 ^ lastPlaces ≤ now)
-            (λ i q. let o = t .minus i q in omega arith) (omega arith);
-        small = omega arith;
-      }
-    where
-      now : ℕ
-      now = sum + getD (x .plus) k 0 / 2 ^ lastPlaces + getD (x .minus) k 0 / 2 ^ lastPlaces
-
-  pub sum-all : {k sum : ℕ} → branches ≤ k → SumTo x k sum → Below x sum
-  sum-all h t = record { plus = λ i q. t .plus i (omega arith); minus = λ i q. t .minus i (omega arith) }
-
-  pub most-none : MostTo x 0 0
-  most-none = record { left = λ i h. absurd (omega arith); right = λ i h. absurd (omega arith) }
-
-  -- m is the larger floor of row k, n the larger of that and those before it
-  pub most-more : {k most m n : ℕ} → MostTo x k most → getD (x .left) k 0 ≤ m → getD (x .right) k 0 ≤ m →
-      most ≤ n → m ≤ n → MostTo x (k + 1) n
-  most-more {k} {most} {m} {n} t l r o u =
-      record {
-        left =
-            each-more (λ (i : ℕ). getD (x .left) i 0 ≤ n) (λ i q. let b = t .left i q in omega arith) (omega arith);
-        right =
-            each-more (λ (i : ℕ). getD (x .right) i 0 ≤ n) (λ i q. let b = t .right i q in omega arith) (omega arith);
-      }
-
-  pub most-all : {k most : ℕ} → branches ≤ k → MostTo x k most → Most x most
-  most-all h t = record { left = λ i q. t .left i (omega arith); right = λ i q. t .right i (omega arith) }
-
   pub looked-none : Looked x 0
   looked-none = record { rest = refl }
 

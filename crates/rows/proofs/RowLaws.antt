@@ -3,7 +3,7 @@
 use mathlib.Core.Path.{_≡_, refl, ap₂, _∙_}
 use mathlib.Core.Bool.{Bool, false, _||_}
 use mathlib.Core.List.{List, [], _∷_, map}
-use Prim.Native.Nat.{ℕ, zero, suc, _+_, _^_, _≤_, _<_}
+use Prim.Native.Nat.{ℕ, zero, suc, _+_, _≤_, _<_}
 use mathlib.Core.Logic.{_⊎_, inl, inr}
 use native.Mathlib.Omega.{arith}
 use lib.ListN.{getD, length}
@@ -22,7 +22,7 @@ use Rattle.terms.specs.inner.Terms.{leftOf, rightOf, ticksOf, Counted, RowTerms
 use Rattle.rows.specs.Ticks.{rootFor, summandOf, dividedBy, rowTicks}
 use Rattle.rows.specs.Outcome.{tickLimit, ratioLimit, someAbove, ratiosIn, overTicks, firstOver}
 use Rattle.rows.specs.Outcome.{outcomeAt}
-use Rattle.rows.specs.inner.FromTerms.{Small, Below, Most, overUp, dividedOf, ticksAt, listUp, NotOver, Fine}
+use Rattle.rows.specs.inner.FromTerms.{Most, overUp, dividedOf, ticksAt, listUp, NotOver, Fine}
 use Rattle.rows.specs.inner.FromTerms.{outcomeFrom}
 use Rattle.rows.proofs.Tests.{Passes, passes, BothWithin, both-within, none-above}
 use Rattle.rows.proofs.Roots.{root-unit, divided-plain}
@@ -45,11 +45,6 @@ module _ (c : WorkedCard) (v : Role → Role → ℤ) where
     counted-over undivided t = same-test (t .0) (t .1)
     counted-over (sumOf s u) t = same-test (t .0) (t .1)
     counted-over (exps x a b) t = t .over
-
-    counted-small : (d : Divisor) → Counted c v r d p m → (p < 2 ^ 62) × (m < 2 ^ 62)
-    counted-small undivided t = (t .0 .small, t .1 .small)
-    counted-small (sumOf s u) t = (t .0 .small, t .1 .small)
-    counted-small (exps x a b) t = (t .plus-small, t .minus-small)
 
   pub over-is : {x : Terms} {k : ℕ} {rows : List Row} → RowsAt c v x k rows
       → overUp x (length rows) k ≡ firstOver c v (suc k) rows
@@ -97,26 +92,6 @@ module _ (c : WorkedCard) (v : Role → Role → ℤ) where
       let here = row-is t (both-within _ _ _ (f .ticks)) (both-within _ _ _ (f .ratio)) in
       let later = ticks-are rest (f .later) in
       λ i. here i ∷ later i
-
-  -- ---- sizes
-
-  small-at : {x : Terms} {k : ℕ} {rows : List Row} → RowsAt c v x k rows → (i : ℕ) → k ≤ i → i < k + length rows →
-      (getD (x .plus) i 0 < 2 ^ 62) × (getD (x .minus) i 0 < 2 ^ 62)
-  small-at {k = k} none i a b = absurd (omega arith)
-  small-at {x} (more {k = k} {r = r} {rs = rs} t rest) i a b = go (below-or-not k i)
-      (λ h. small-at rest i h (omega arith))
-    where
-      go : (k < i) ⊎ (i ≤ k) → (k < i → (getD (x .plus) i 0 < 2 ^ 62) × (getD (x .minus) i 0 < 2 ^ 62)) →
-          (getD (x .plus) i 0 < 2 ^ 62) × (getD (x .minus) i 0 < 2 ^ 62)
-      go (inl h) later = later h
-      go (inr h) later = let e : k ≡ i = omega arith in rw (← e) (counted-small r _ _ (r .divisor) (t .counted))
-
-  pub terms-small : {x : Terms} → TermsOf c v x → Small x
-  terms-small t =
-      record {
-        plus = λ k h. small-at (t .rows) k (omega arith) (omega arith) .0;
-        minus = λ k h. small-at (t .rows) k (omega arith) (omega arith) .1;
-      }
 
   pub outcome-is : {x : Terms} → TermsOf c v x
       → outcomeFrom x ≡ outcomeAt (firstOver c v 1 (rowsFor (c .exsub))) (map (rowTicks c v) (rowsFor (c .exsub)))
@@ -170,15 +145,15 @@ module _ (x : Terms) where
   pub fine : overUp x branches 0 ≡ Within → Fine x
   fine e = record { at = λ k h. not-over branches 0 e k (omega arith) (omega arith) }
 
-  -- a low sum of T's, and floors that are within
-  pub low-within : (sum most : ℕ) → Below x sum → sum < 2 ^ 43 → Most x most → most ≤ ratioLimit
-      → overUp x branches 0 ≡ Within
-  low-within sum most b l m h = none-over branches 0 (λ i p q. at i (omega arith))
+  -- numbers that no T, and none that no floor, is above
+  pub low-within : {ticks parts : ℕ} → Most (x .plus) (x .minus) ticks → ticks ≤ tickLimit →
+      Most (x .left) (x .right) parts → parts ≤ ratioLimit → overUp x branches 0 ≡ Within
+  low-within t a p b = none-over branches 0 (λ i l q. at i (omega arith))
     where
       at : (i : ℕ) → i < branches → NotOver x i
       at i q =
-          let p1 = b .plus i q in
-          let p2 = b .minus i q in
-          let m1 = m .left i q in
-          let m2 = m .right i q in
+          let t1 = t .first i q in
+          let t2 = t .second i q in
+          let p1 = p .first i q in
+          let p2 = p .second i q in
           record { plus = omega arith; minus = omega arith; left = omega arith; right = omega arith }

@@ -4,7 +4,7 @@ ghost use Prim.Native.Nat.{_≤_, _<_};
 ghost use Rattle.terms.specs.Rows.{branches};
 ghost use Rattle.rows.specs.Ticks.{rootFor};
 ghost use Rattle.rows.specs.Outcome.{tickLimit, ratioLimit};
-ghost use Rattle.rows.specs.inner.FromTerms.{Small, Below, Most, Fine, overUp, dividedOf, allTicks, outcomeFrom};
+ghost use Rattle.rows.specs.inner.FromTerms.{Most, Fine, overUp, dividedOf, allTicks, outcomeFrom};
 use crate::BRANCHES;
 use crate::Outcome;
 use crate::Over;
@@ -20,45 +20,29 @@ const SHIFT: u64 = PART_PLACES + 1;
 
 const TICKS_OVER: u64 = TICKS_MOST + 1;
 
-// Sums of T's are taken without their last ten places, so that they stay within 64 bits.
-const PLACES: u64 = 1024;
-
-const LOW: u64 = TICKS_MOST / PLACES;
-
 // How many of the rows are junctions'; those of the leads follow.
 const JUNCTIONS: usize = 8;
 
 // Below this floor, a ratio of 1/64, three terms of the root's series are the root or one less.
 const NEAR: u64 = UNIT / 64;
 
-fn larger(a: u64, b: u64) -> u64
+// The binary digits of both numbers, so that neither is above it.
+fn digits(a: u64, b: u64) -> u64
     ensures { λ r. ⌜ (a ≤ r) × (b ≤ r) ⌝ }
 {
-    if a < b { b } else { a }
+    a | b
 }
 
-// The sum of all T's without their last places: where it is low, so is each.
-fn sum_of_ticks(x: Terms) -> u64
-    requires { ⌜ Small x ⌝ }
-    ensures { λ r. ⌜ Below x r ⌝ }
+// The binary digits of all numbers of two lists, so that none is above it.
+fn all_digits(a: &[u64; BRANCHES], b: &[u64; BRANCHES]) -> u64
+    ensures { λ r. ⌜ Most (now (a .entry)) (now (b .entry)) r ⌝ }
 {
-    let mut sum: u64 = 0;
+    let mut all: u64 = 0;
     for k in 0..BRANCHES {
-        sum = sum + x.plus[k] / PLACES + x.minus[k] / PLACES;
+        let both = digits(a[k], b[k]);
+        all = digits(all, both);
     }
-    sum
-}
-
-// The largest floor of a ratio.
-fn largest_ratio(x: Terms) -> u64
-    ensures { λ r. ⌜ Most x r ⌝ }
-{
-    let mut most: u64 = 0;
-    for k in 0..BRANCHES {
-        let m = larger(x.left[k], x.right[k]);
-        most = larger(most, m);
-    }
-    most
+    all
 }
 
 // The first row that overloads.
@@ -150,14 +134,17 @@ fn all_divided(x: Terms) -> [i64; BRANCHES]
     ticks
 }
 
-// The first row that overloads. Where the sum of T's is low and no floor is over its limit, none does, and no row is
-// looked at by itself.
-fn judged(x: Terms, most: u64) -> Over
-    requires { ⌜ Small x × Most x most ⌝ }
+// The first row that overloads. Where the digits of all floors and of all T's stay within the limits, none does, and no
+// row is looked at by itself.
+fn judged(x: Terms) -> Over
     ensures { λ r. ⌜ r ≡ overUp x branches 0 ⌝ }
 {
-    if most <= PARTS_MOST {
-        if sum_of_ticks(x) < LOW {
+    let left = x.left;
+    let right = x.right;
+    if all_digits(&left, &right) <= PARTS_MOST {
+        let plus = x.plus;
+        let minus = x.minus;
+        if all_digits(&plus, &minus) <= TICKS_MOST {
             return Over::Within;
         }
     }
@@ -165,11 +152,9 @@ fn judged(x: Terms, most: u64) -> Over
 }
 
 pub(crate) fn outcome(x: Terms) -> Outcome
-    requires { ⌜ Small x ⌝ }
     ensures { λ r. ⌜ r ≡ outcomeFrom x ⌝ }
 {
-    let most = largest_ratio(x);
-    let o = judged(x, most);
+    let o = judged(x);
     match o {
         Over::Within => {
             let ticks = all_divided(x);

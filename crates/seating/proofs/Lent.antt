@@ -19,8 +19,7 @@ use Rattle.totals.specs.inner.Sums.{More, Givable}
 use Rattle.given.specs.Arguments.{issueOf, issuesMost, usedUp, wideBy}
 use Rattle.given.specs.inner.Nodes.{nodeOf}
 use Rattle.deck.specs.Stretch.{written}
-use Rattle.slices.specs.declared.Stood.{Stood}
-use Rattle.slices.specs.Slices.{offSlices, changed, stoodOf}
+use Rattle.slices.specs.Slices.{offSlices, changed, Stands}
 use Rattle.placing.specs.declared.Way.{Way}
 use Rattle.placing.specs.declared.Way.the-variants.{Go, Stop}
 use Rattle.placing.specs.inner.Placing.{placing, wayOf}
@@ -164,27 +163,27 @@ module _ {r : Rest} {numbers powers ticks : List ℕ} {switches : List Bool}
             taken : Taken (placedOf (boardIn found) card given .answer)
             taken = rw (place-goes (boardIn found) g card given seen-is long on-are way-is e own-works h)
 
-            module _ {x : Stood} (x-is : x ≡ stoodOf totals coming none) where
-              pub lent-long : length (x .totals) ≡ nodesMost
-              lent-long = stood-long totals coming none x-is
+            module _ {fits : Bool} {after : List ℤ} (judged : Stands totals coming none fits after) where
+              pub lent-long : length after ≡ nodesMost
+              lent-long = stood-long judged
 
-              pub lent-leaves-64 : x .good ≡ false →
+              pub lent-leaves-64 : fits ≡ false →
                   Leaves r (Refused OutOfReach) issues cards seats nodes naming totals currents next
               unfolding placedLent
               lent-leaves-64 bad =
                   refused
                   (leaves-64 (λ (b : Board). placedOf b card given) found good taken
-                  (rw (← stands) (stood-bad totals coming none x-is bad)))
+                  (rw (← stands) (stood-bad judged bad)))
 
               -- whatever was left in the arrays that others write
-              pub lent-places : x .good ≡ true → {t : List ℤ} → t ≡ x .totals → {n s : List ℕ} {c : List ℤ} →
+              pub lent-places : fits ≡ true → {t : List ℤ} → t ≡ after → {n s : List ℕ} {c : List ℤ} →
                   n ≡ written 0 nodes (roles * free) on roles → s ≡ joined naming free on →
                   c ≡ written (pos 0) currents (branches * free) (o .ticks) branches →
                   Leaves r (Issue next) (set issues free next) (set cards free (getD held i 0)) (set seats free i) n s t
                   c (next + 1)
               unfolding placedLent
-              lent-places fits {t} p {n} {s} {c} q u v =
-                  let y = stood-good totals coming none x-is fits in
+              lent-places so {t} p {n} {s} {c} q u v =
+                  let y = stood-good judged so in
                   subst
                   (λ (m : Rest). Leaves m (Issue next) (set issues free next) (set cards free (getD held i 0))
                   (set seats free i) n s t c (next + 1)) own-is

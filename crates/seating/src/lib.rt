@@ -32,11 +32,10 @@ pub fn place(
     requires { ⌜ ((r : Rest) × Reached r × LendsPlaces r (now numbers) (now powers) (now ticks) (now switches) (now held) (now issues) (now cards) (now seats) (now nodes) (now naming) (now currents) (now next)) ⌝ }
     ensures { λ a. ⌜ ((r : Rest) → Reached r → LendsPlaces r (now (numbers .entry)) (now (powers .entry)) (now (ticks .entry)) (now (switches .entry)) (now (held .entry)) (now (issues .entry)) (now (cards .entry)) (now (seats .entry)) (now (nodes .entry)) (now (naming .entry)) (now (currents .entry)) (now (next .entry)) → LeavesPlaces (placedLent (stateWith r (now (volts .entry)) (now (totals .entry))) card roles) a (now (issues .exit)) (now (cards .exit)) (now (seats .exit)) (now (nodes .exit)) (now (naming .exit)) (now (totals .exit)) (now (currents .exit)) (now (next .exit))) ⌝ }
 {
-    let kept = keeping::keep_slices(volts, totals);
-    if !kept.good {
+    let mut kept = [volts::ZERO; NODES];
+    if !keeping::keep_slices(&mut kept, volts, totals) {
         return Answer::Refused(Refusal::OutOfRange);
     }
-    let kept_volts = kept.volts;
     let n = given::issue_of(card);
     let wide = placing::is_wide(held, switches, n);
     let seen = ends::looked_at(wide, roles);
@@ -48,22 +47,13 @@ pub fn place(
         Way::Go(at, free) => {
             let mut table = [0u32; octave::ENTRIES];
             octave::lay_table(&mut table);
-            let o = settle::work(
-                &table,
-                numbers,
-                powers,
-                ticks,
-                switches,
-                at,
-                &on,
-                &kept_volts,
-            );
+            let o = settle::work(&table, numbers, powers, ticks, switches, at, &on, &kept);
             let own = o.ticks;
             let mut coming = [0i64; NODES];
             settle::put_in(&mut coming, &on, &own);
             let going = [0i64; NODES];
-            let stood = standing::stand_all(totals, &coming, &going);
-            let fits = stood.good;
+            let mut after = [0i64; NODES];
+            let fits = standing::stand_all(&mut after, totals, &coming, &going);
             let over = o.over;
             if settle::is_over(over) {
                 return Answer::Refused(settle::refusal_of(issue, over));
@@ -71,8 +61,7 @@ pub fn place(
             if !fits {
                 return Answer::Refused(Refusal::OutOfReach);
             }
-            let all = stood.totals;
-            putting::put_totals(totals, &all);
+            putting::put_totals(totals, &after);
             issues[free] = issue;
             cards[free] = held[at];
             seats[free] = at as u8;

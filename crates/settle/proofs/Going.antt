@@ -1,13 +1,14 @@
 -- Going from place to place of a set: what has come and what has gone, who overloads first, and what is held, once the
 -- places below i are passed.
-use mathlib.Core.Path.{_≡_, refl, sym, ap, _∙_, subst}
+use mathlib.Core.Path.{_≡_, refl, sym, ap, _∙_}
 use mathlib.Core.Bool.{Bool, true, false, cond, not}
 use mathlib.Core.Logic.{_⊎_, inl, inr}
 use mathlib.Core.List.{List, map}
-use Prim.Native.Nat.{ℕ, zero, suc, _+_, _-_, _*_, _≤_, _<_, zero-le}
-use native.Mathlib.Nat.{suc-mul, mul-le-mul-right}
+use Prim.Native.Nat.{ℕ, zero, suc, _+_, _-_, _*_, _%_, _^_, _≤_, _<_, zero-le}
+use native.Mathlib.Nat.{suc-mul, mul-le-mul-right, zero-div}
 use native.Mathlib.Numerals.{add-one}
 use native.Mathlib.Omega.{arith}
+use lib.Dec.{eqb}
 use lib.ListN.{length, getD, replicate, length-replicate, List·getD-eq-default}
 use lib.IntN.{ℤ, pos, natAbs, negℤ, _+ℤ_, _-ℤ_, +ℤ-idr, +ℤ-comm, negℤ-+ℤ}
 use Rattle.whole.specs.laws.Biased.{below-or-not}
@@ -25,8 +26,7 @@ use Rattle.totals.proofs.Integers.{abs-add, swap-inner}
 use Rattle.deck.specs.Stretch.{written}
 use Rattle.deck.specs.laws.Stretches.{length-stretch, getD-none}
 use Rattle.deck.specs.laws.Ups.{up-same}
-use Rattle.slices.specs.declared.Stood.{Stood}
-use Rattle.slices.specs.Slices.{someOutside, changed, stoodUnless, stoodOf}
+use Rattle.slices.specs.Slices.{someOutside, changed, Stands}
 use Rattle.flows.specs.Back.{ticksBack}
 use Rattle.flows.specs.inner.Workable.{Workable, Works, cardOf}
 use Rattle.flows.proofs.Currents.{ticks-within, ticks-count, ticks-small-give}
@@ -281,37 +281,41 @@ module _ (r : Round) (currents : List ℤ) where
 
   -- ---- none is left, and on the way back
 
-  -- what standing tells
-  told-by : (after : List ℤ) (out : Bool) →
-      (stoodUnless out after .good ≡ not out)
-      × (stoodUnless out after .totals ≡ cond (stoodUnless out after .good) after (replicate nodesMost (pos 0)))
-  told-by after true = (refl, refl)
-  told-by after false = (refl, refl)
-
   pub gone-all : {totals : List ℤ} {i : ℕ} {coming going : List ℤ} {first : First} →
-      Gone r currents i coming going first → transistorsMost ≤ i → {s : Stood} → s ≡ stoodOf totals coming going →
-      Settled r currents totals i (record { first = first; fits = s .good }) (s .totals) currents
+      Gone r currents i coming going first → transistorsMost ≤ i → {fits : Bool} {next : List ℤ} →
+      Stands totals coming going fits next →
+      Settled r currents totals i (record { first = first; fits = fits }) next currents
   unfolding renewed
-  gone-all {totals} {i} {coming} {going} {first} g h {s} stands =
+  gone-all {totals} {i} {coming} {going} {first} g h {fits} {next} stands =
       let m = g .most in
       let e : i ≡ transistorsMost = omega arith in
-      let after = standing r currents totals in
-      let is : s ≡ stoodUnless (someOutside after) after =
-      stands
-      ∙ ap (λ (l : List ℤ). stoodUnless (someOutside l) l)
-      (changed-is totals (rw e at (g .comes)) (rw e at (g .goes))) in
-      let tells = told-by after (someOutside after) in
+      let same = changed-is totals (rw e at (g .comes)) (rw e at (g .goes)) in
       record {
         first-is = rw e at (g .first-is);
-        fits-is = ap (λ (x : Stood). x .good) is ∙ tells .0;
-        next-is =
-            subst (λ (x : Stood). x .totals ≡ cond (x .good) after (replicate nodesMost (pos 0))) (sym is) (tells .1);
-        held = rw e (sym (either (isTaken (record { first = first; fits = s .good }))));
+        fits-is = stands .told ∙ ap (λ (l : List ℤ). not (someOutside l)) same;
+        next-is = stands .next-is ∙ ap (λ (l : List ℤ). cond fits l (replicate nodesMost (pos 0))) same;
+        held = rw e (sym (either (isTaken (record { first = first; fits = fits }))));
       }
     where
       either : (t : Bool) → cond t currents currents ≡ currents
       either true = refl
       either false = refl
+
+  -- a set without places: nobody overloads, nothing comes and nothing goes, and what is held is held on
+  pub settled-none : r .marked ≡ 0 → {totals after : List ℤ} →
+      Stands totals (replicate nodesMost (pos 0)) (replicate nodesMost (pos 0)) true after →
+      Settled r currents totals 0 (record { first = nobody; fits = true }) after currents
+  settled-none e stands =
+      held-start transistorsMost last (gone-all (gone-none transistorsMost last) (omega arith) stands)
+    where
+      last : NextIn (r .marked) 0 transistorsMost
+      last =
+          record {
+            most = omega arith;
+            later = λ q. zero-le;
+            is = λ q. absurd (omega arith);
+            between = λ j p q. rw e (ap (λ (x : ℕ). eqb (x % 2) 1) (zero-div (2 ^ j)));
+          }
 
   module _ {i next : ℕ} (h : i < transistorsMost) (n : NextIn (r .marked) (i + 1) next) {totals : List ℤ}
       {told : Judgement} {after held : List ℤ} (s : Settled r currents totals next told after held) where

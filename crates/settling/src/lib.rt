@@ -1,6 +1,14 @@
 // The places of a set brought to new voltages: what comes into the totals and what goes out, how they would stand, what
 // is held then, and the first of the places that overloads.
+ghost use Prim.Native.Nat.{_*_, _<_};
+ghost use lib.IntN.{pos};
+ghost use Rattle.terms.specs.Rows.{branches};
+ghost use Rattle.totals.specs.Gives.{nodesMost};
+ghost use Rattle.totals.specs.Flow.{ticksGive};
+ghost use Rattle.totals.specs.inner.Sums.{More, Givable};
+ghost use Rattle.deck.specs.Stretch.{stretch};
 ghost use Rattle.flows.specs.inner.Workable.{deckOf};
+ghost use Rattle.places.specs.Counts.{transistorsMost};
 ghost use Rattle.settle.specs.inner.Working.{roundOf, Settling, Going, Settled};
 use flows::put_in;
 use flows::work;
@@ -11,7 +19,19 @@ use places::TRANSISTORS;
 use polarity::Over;
 use settle::First;
 use settle::Judgement;
+use terms::ROLES;
 use totals::NODES;
+
+// What is held at the place i goes out at its nodes. Apart, so that a copy of it is not kept while later places are worked.
+fn put_out(going: &mut [i64; NODES], on: &[u8; ROLES], currents: &[i64; ALL_CURRENTS], i: usize)
+    requires { ⌜ (i < transistorsMost)
+        × Givable (now going) (now on) (stretch (pos 0) (now currents) (branches * i) branches) ⌝ }
+    ensures { λ _. ⌜ More nodesMost (now (going .entry)) (now (going .exit))
+        (ticksGive (now (on .entry)) (stretch (pos 0) (now (currents .entry)) (branches * i) branches)) ⌝ }
+{
+    let old = sets::currents_at(currents, i);
+    put_in(going, on, &old);
+}
 
 // Works the place i of the set and then those after it; after the last, the totals are judged as they would stand. A
 // place's new currents are held on the way back, when nothing has turned out to be refused, so that nothing is to be
@@ -44,23 +64,16 @@ fn settle_from(
         (now (currents .entry)) (now (totals .entry)) i r (now (next .exit)) (now (currents .exit)) ⌝ }
 {
     if TRANSISTORS <= i {
-        let stood = standing::stand_all(totals, coming, going);
-        let all = stood.totals;
-        *next = all;
-        return Judgement {
-            first,
-            fits: stood.good,
-        };
+        let fits = standing::stand_all(next, totals, coming, going);
+        return Judgement { first, fits };
     }
     let s = seats[i] as usize;
     let on = sets::nodes_at(nodes, i);
-    let old = sets::currents_at(currents, i);
     let o = work(table, numbers, powers, ticks, switches, s, &on, will);
-    let new = o.ticks;
-    put_in(going, &on, &old);
-    put_in(coming, &on, &new);
-    let issue = issues[i];
+    put_out(going, &on, currents, i);
+    put_in(coming, &on, &o.ticks);
     let over = o.over;
+    let issue = issues[i];
     let found = settle::earlier_of(first, issue, over);
     let after = sets::next_in(set, i + 1);
     let last = settle_from(
@@ -83,7 +96,7 @@ fn settle_from(
         found,
     );
     if settle::is_taken(last) {
-        sets::put_currents(currents, i, &new);
+        sets::put_currents(currents, i, &o.ticks);
     }
     last
 }
@@ -91,7 +104,7 @@ fn settle_from(
 // Brings the places of the set to the new voltages: at their nodes what they hold goes out of the totals and what they
 // will have comes in, and that is held then. Tells the first of them that overloads then, and whether every total as it
 // would stand is in range; where one overloads or a total is not, what was held is held on. The totals as they would
-// stand are written to `next`, and those lent are left.
+// stand are written to `next`, and those lent are left. Where the set has no places, nothing is worked.
 pub fn settle(
     currents: &mut [i64; ALL_CURRENTS],
     next: &mut [i64; NODES],
@@ -114,14 +127,18 @@ pub fn settle(
         (now (issues .entry)) (now (seats .entry)) (now (nodes .entry)) set (now (will .entry)))
         (now (currents .entry)) (now (totals .entry)) 0 r (now (next .exit)) (now (currents .exit)) ⌝ }
 {
-    let mut table = [0u32; octave::ENTRIES];
-    octave::lay_table(&mut table);
-    let mut coming = [0i64; NODES];
-    let mut going = [0i64; NODES];
     let first = First {
         issue: 0,
         over: Over::Within,
     };
+    if set == 0 {
+        standing::stand_still(next, totals);
+        return Judgement { first, fits: true };
+    }
+    let mut table = [0u32; octave::ENTRIES];
+    octave::lay_table(&mut table);
+    let mut coming = [0i64; NODES];
+    let mut going = [0i64; NODES];
     let i = sets::next_in(set, 0);
     settle_from(
         currents,

@@ -1,6 +1,6 @@
--- What `keep_slices` tells: whether the slices are turned away, and where they are not, their lengths and their voltages as
--- they are kept.
-use mathlib.Core.Path.{_≡_, refl, ap, _∙_}
+-- What the test of the slices tells: whether they are turned away, and where they are not, their lengths and their
+-- voltages as they are kept.
+use mathlib.Core.Path.{_≡_, refl, sym, _∙_}
 use mathlib.Core.Bool.{Bool, true, false, not, _||_}
 use mathlib.Core.List.{List, [], _∷_, map}
 use Prim.Native.Nat.{ℕ, zero, suc, _≤_, zero-le}
@@ -13,29 +13,22 @@ use Rattle.volts.specs.Volts.{offVolts, keptAs, givenBack, span, AllNear}
 use Rattle.volts.specs.laws.Keeping.{kept}
 use Rattle.totals.specs.Gives.{nodesMost}
 use Rattle.given.specs.Lists.{anyOf}
-use Rattle.slices.specs.declared.Kept.{Kept}
-use Rattle.slices.specs.Slices.{otherLength, offSlices, keptUnless, keptSlices}
+use Rattle.slices.specs.Slices.{otherLength, offSlices}
 
-module _ (volts totals : List ℤ) {k : Kept} (e : k ≡ keptSlices volts totals) where
-  kept-as : (t : Bool) → offSlices volts totals ≡ t → k ≡ keptUnless t volts
-  kept-as t f = e ∙ ap (λ (u : Bool). keptUnless u volts) f
-
-  pub kept-off : k .good ≡ false → offSlices volts totals ≡ true
-  kept-off h = go (offSlices volts totals) refl
+module _ (volts totals : List ℤ) {r : Bool} (e : r ≡ not (offSlices volts totals)) where
+  pub slices-off : r ≡ false → offSlices volts totals ≡ true
+  slices-off h = go (offSlices volts totals) (sym e ∙ h)
     where
-      go : (t : Bool) → offSlices volts totals ≡ t → offSlices volts totals ≡ true
-      go true f = f
-      go false f = clash (let a = kept-as false f in cc)
+      go : (t : Bool) → not t ≡ false → t ≡ true
+      go true f = refl
+      go false f = clash cc
 
-  pub kept-on : k .good ≡ true → offSlices volts totals ≡ false
-  kept-on h = go (offSlices volts totals) refl
+  pub slices-on : r ≡ true → offSlices volts totals ≡ false
+  slices-on h = go (offSlices volts totals) (sym e ∙ h)
     where
-      go : (t : Bool) → offSlices volts totals ≡ t → offSlices volts totals ≡ false
-      go true f = clash (let a = kept-as true f in cc)
-      go false f = f
-
-  pub kept-volts : k .good ≡ true → k .volts ≡ map keptAs volts
-  kept-volts h = ap (λ (x : Kept). x .volts) (kept-as false (kept-on h))
+      go : (t : Bool) → not t ≡ true → t ≡ false
+      go true f = clash cc
+      go false f = refl
 
 -- ---- slices that are not turned away
 

@@ -6,8 +6,10 @@ use mathlib.Core.Logic.{_⊎_, inl, inr}
 use Prim.Native.Nat.{ℕ, zero, suc, _+_, _≤_, _<_}
 use native.Mathlib.Omega.{arith}
 use lib.Dec.{eqb}
-use lib.ListN.{length, getD, set}
+use lib.ListN.{length, getD, set, replicate}
 use lib.IntN.{ℤ, pos, _+ℤ_, _-ℤ_}
+use mir.Syntax.{w64}
+use mir.Val.{SFits}
 use borrow.Author.Tests.{eqb-true}
 use Rattle.whole.specs.laws.Biased.{below-or-not}
 use Rattle.whole.specs.laws.Machine.{held}
@@ -17,34 +19,41 @@ use Rattle.rows.specs.laws.Filled.{Filled, filled-none, filled-more, filled-all
 use Rattle.totals.specs.Gives.{nodesMost}
 use Rattle.totals.specs.Flow.{withMore}
 use Rattle.given.specs.Lists.{anyOf}
+use Rattle.deck.specs.laws.Stretches.{getD-none}
 use Rattle.deck.specs.laws.Ups.{length-up, getD-up}
-use Rattle.slices.specs.declared.Kept.{Kept}
 use Rattle.slices.specs.declared.Total.{Total}
 use Rattle.slices.specs.declared.Total.the-variants.{At, Leaves}
-use Rattle.slices.specs.Slices.{rightLengths, noneKept, keptUnless, keptOf, keptSlices, outside64, standingAt}
-use Rattle.slices.specs.Slices.{noneStand}
-use Rattle.slices.specs.Slices.{stoodUnless, stoodOf, changed}
-use Rattle.slices.proofs.Raised.{inside-held}
+use Rattle.slices.specs.Slices.{offSlices, rightLengths, KeepsVolts, Keeps, outside64, standingAt, changed, Stands}
+use Rattle.slices.proofs.Raised.{inside-held, same-stands}
 
 -- ---- while it is filled
 
--- the first k places hold f, and none of them was turned away
+-- none of the first k places was turned away
+pub record AllOn (off : ℕ → Bool) (k : ℕ) : Type 0 where
+  pub each : (i : ℕ) → i < k → off i ≡ false
+
+pub on-none : {off : ℕ → Bool} → AllOn off 0
+on-none = record { each = λ i q. absurd (omega arith) }
+
+pub on-more : {off : ℕ → Bool} {k : ℕ} → off k ≡ false → AllOn off k → AllOn off (k + 1)
+on-more {off} {k} o s = record { each = λ i q. go i q (below-or-not i k) }
+  where
+    go : (i : ℕ) → i < k + 1 → (i < k) ⊎ (k ≤ i) → off i ≡ false
+    go i q (inl b) = s .each i b
+    go i q (inr b) = let same : i ≡ k = omega arith in rw same o
+
+-- that, and these places hold f
 pub record Passing {A : Type 0} (d : A) (n : ℕ) (off : ℕ → Bool) (f : ℕ → A) (k : ℕ) (r : List A) : Type 0 where
   pub filled : Filled d n f k r
-  pub on : (i : ℕ) → i < k → off i ≡ false
+  pub on : AllOn off k
 
 module _ {A : Type 0} {d : A} {n : ℕ} {off : ℕ → Bool} {f : ℕ → A} where
   pub passing-none : {r : List A} → length r ≡ n → Passing d n off f 0 r
-  passing-none h = record { filled = filled-none h; on = λ i q. absurd (omega arith) }
+  passing-none h = record { filled = filled-none h; on = on-none }
 
   pub passing-more : {r : List A} {k : ℕ} (v : A) → k < n → v ≡ f k → off k ≡ false → Passing d n off f k r →
       Passing d n off f (k + 1) (set r k v)
-  passing-more {r} {k} v h e o s =
-      record { filled = filled-more v h e (s .filled); on = λ i q. go i q (below-or-not i k) }
-    where
-      go : (i : ℕ) → i < k + 1 → (i < k) ⊎ (k ≤ i) → off i ≡ false
-      go i q (inl b) = s .on i b
-      go i q (inr b) = let same : i ≡ k = omega arith in rw same o
+  passing-more v h e o s = record { filled = filled-more v h e (s .filled); on = on-more o (s .on) }
 
 -- ---- a test of a whole list
 
@@ -74,27 +83,31 @@ abbrev pub keptAt : List ℤ → ℕ → ℕ
 keptAt volts i = keptAs (getD volts i (pos 0))
 
 module _ (volts : List ℤ) (long : length volts ≡ nodesMost) where
-  pub kept-all : {k : ℕ} {r : List ℕ} → nodesMost ≤ k → Passing 0 nodesMost (offAt volts) (keptAt volts) k r →
-      record { good = true; volts = r } ≡ keptOf volts
-  kept-all {k} {r} h s =
-      let on = none-passes offVolts (pos 0) volts (λ i q. s .on i (omega arith)) in
-      ap (λ (l : List ℕ). record { good = true; volts = l }) (filled-map keptAs (pos 0) volts long h (s .filled))
-      ∙ ap (λ (off : Bool). keptUnless off volts) (sym on)
+  -- all of them in range, or one of them out of it
+  pub all-on : {k : ℕ} → nodesMost ≤ k → AllOn (offAt volts) k → true ≡ not (anyOf offVolts volts)
+  all-on h on = rw (none-passes offVolts (pos 0) volts (λ i q. on .each i (omega arith)))
 
-  pub kept-none : (k : ℕ) → k < nodesMost → offAt volts k ≡ true → noneKept ≡ keptOf volts
-  kept-none k h e =
-      ap (λ (off : Bool). keptUnless off volts) (sym (one-passes offVolts (pos 0) volts k (omega arith) e))
+  pub one-off : (k : ℕ) → k < nodesMost → offAt volts k ≡ true → false ≡ not (anyOf offVolts volts)
+  one-off k h e = rw (one-passes offVolts (pos 0) volts k (omega arith) e)
+
+  pub kept-all : {k : ℕ} {r : List ℕ} → nodesMost ≤ k → Passing 0 nodesMost (offAt volts) (keptAt volts) k r →
+      KeepsVolts volts true r
+  kept-all h s =
+      record { told = all-on h (s .on); volts-are = λ e. filled-map keptAs (pos 0) volts long h (s .filled) }
+
+  pub kept-none : (k : ℕ) → k < nodesMost → offAt volts k ≡ true → {r : List ℕ} → KeepsVolts volts false r
+  kept-none k h e = record { told = one-off k h e; volts-are = λ q. clash cc }
 
 -- ---- both slices, by their lengths
 
 module _ (volts totals : List ℤ) where
-  abbrev kept-if : Bool → Bool → Kept
-  kept-if v t = keptUnless (not v || (not t || anyOf offVolts volts)) volts
+  abbrev off-if : Bool → Bool → Bool
+  off-if v t = not v || (not t || anyOf offVolts volts)
 
-  pub wrong-lengths : rightLengths volts totals ≡ false → noneKept ≡ keptSlices volts totals
+  pub wrong-lengths : rightLengths volts totals ≡ false → false ≡ not (offSlices volts totals)
   wrong-lengths h = go (eqb (length volts) nodesMost) (eqb (length totals) nodesMost) h
     where
-      go : (v t : Bool) → not (not v || not t) ≡ false → noneKept ≡ kept-if v t
+      go : (v t : Bool) → not (not v || not t) ≡ false → false ≡ not (off-if v t)
       go true true h = clash cc
       go true false h = refl
       go false t h = refl
@@ -102,7 +115,7 @@ module _ (volts totals : List ℤ) where
   pub record RightLengths : Type 0 where
     pub volts-long : length volts ≡ nodesMost
     pub totals-long : length totals ≡ nodesMost
-    pub same : keptOf volts ≡ keptSlices volts totals
+    pub same : anyOf offVolts volts ≡ offSlices volts totals
 
   pub right-lengths : rightLengths volts totals ≡ true → RightLengths
   right-lengths h = go (eqb (length volts) nodesMost) (eqb (length totals) nodesMost) refl refl h
@@ -113,10 +126,17 @@ module _ (volts totals : List ℤ) where
           record {
             volts-long = eqb-true _ _ p;
             totals-long = eqb-true _ _ q;
-            same = sym (ap (λ (v : Bool). kept-if v (eqb (length totals) nodesMost)) p ∙ ap (kept-if true) q);
+            same = sym (ap (λ (v : Bool). off-if v (eqb (length totals) nodesMost)) p ∙ ap (off-if true) q);
           }
       go true false p q h = clash cc
       go false t p q h = clash cc
+
+  -- nothing kept of slices of another length, and of those of their length what is kept of the voltages
+  pub keeps-none : rightLengths volts totals ≡ false → {kept : List ℕ} → Keeps volts totals false kept
+  keeps-none h = record { told = wrong-lengths h; volts-are = λ q. clash cc }
+
+  pub keeps-so : RightLengths → {r : Bool} {kept : List ℕ} → KeepsVolts volts r kept → Keeps volts totals r kept
+  keeps-so l k = record { told = k .told ∙ ap not (l .same); volts-are = k .volts-are }
 
 -- ---- totals that would stand
 
@@ -160,20 +180,31 @@ module _ (totals coming going : List ℤ) where
   changed-long = length-up wouldAt nodesMost 0
 
   pub stood-all : {k : ℕ} {r : List ℤ} → nodesMost ≤ k → Passing (pos 0) nodesMost outAt wouldAt k r →
-      record { good = true; totals = r } ≡ stoodOf totals coming going
+      Stands totals coming going true r
   unfolding withMore
   stood-all {k} {r} h s =
       let long = changed-long in
       let inside = none-passes outside64 (pos 0) (changed totals coming going) (λ i q. here i (omega arith)) in
-      ap (λ (l : List ℤ). record { good = true; totals = l }) (filled-all h (s .filled))
-      ∙ ap (λ (leaves : Bool). stoodUnless leaves (changed totals coming going)) (sym inside)
+      record { told = ap not (sym inside); next-is = filled-all h (s .filled) }
     where
       here : (i : ℕ) → i < nodesMost → outside64 (getD (changed totals coming going) i (pos 0)) ≡ false
-      here i q = ap outside64 (changed-at i q) ∙ s .on i (omega arith)
+      here i q = ap outside64 (changed-at i q) ∙ s .on .each i (omega arith)
 
-  pub stood-none : (k : ℕ) → k < nodesMost → outAt k ≡ true → noneStand ≡ stoodOf totals coming going
+  pub stood-none : (k : ℕ) → k < nodesMost → outAt k ≡ true →
+      Stands totals coming going false (replicate nodesMost (pos 0))
   stood-none k h e =
       let long = changed-long in
       let out =
       one-passes outside64 (pos 0) (changed totals coming going) k (omega arith) (ap outside64 (changed-at k h) ∙ e) in
-      ap (λ (leaves : Bool). stoodUnless leaves (changed totals coming going)) (sym out)
+      record { told = ap not (sym out); next-is = refl }
+
+-- where nothing comes and nothing goes a total stands as it is
+abbrev pub none : List ℤ
+none = replicate nodesMost (pos 0)
+
+no-more : (i : ℕ) → SFits w64 (getD none i (pos 0))
+no-more i = rw (getD-none (pos 0) nodesMost i) (record { sfits = omega arith })
+
+pub still-at : (totals : List ℤ) (i : ℕ) → SFits w64 (getD totals i (pos 0)) →
+    StandsAt totals none none i (getD totals i (pos 0))
+still-at totals i fits = in-by totals none none i refl (same-stands fits (no-more i) refl refl) refl

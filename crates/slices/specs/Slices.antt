@@ -1,7 +1,7 @@
 -- The two lent slices of a board, a voltage in microvolts and a total in ticks for each node: what turns them away,
 -- what is kept of the voltages, and totals as they would stand.
 use mathlib.Core.Path.{_≡_}
-use mathlib.Core.Bool.{Bool, true, false, cond, not, _||_}
+use mathlib.Core.Bool.{Bool, true, cond, not, _||_}
 use mathlib.Core.List.{List, map}
 use Prim.Native.Nat.{ℕ, suc, _+_, _-_}
 use lib.Dec.{eqb}
@@ -13,10 +13,8 @@ use Rattle.volts.specs.Volts.{offVolts, keptAs}
 use Rattle.totals.specs.Gives.{nodesMost}
 use Rattle.totals.specs.Flow.{withMore}
 use Rattle.given.specs.Lists.{anyOf}
-use Rattle.slices.specs.declared.Kept.{Kept}
 use Rattle.slices.specs.declared.Total.{Total}
 use Rattle.slices.specs.declared.Total.the-variants.{At, Leaves}
-use Rattle.slices.specs.declared.Stood.{Stood}
 
 -- ---- 13: slices of another length, or a voltage outside its range
 
@@ -30,18 +28,15 @@ offSlices volts totals = otherLength volts || (otherLength totals || anyOf offVo
 abbrev pub rightLengths : List ℤ → List ℤ → Bool
 rightLengths volts totals = not (otherLength volts || otherLength totals)
 
--- the voltages as they are kept, or none
-abbrev pub noneKept : Kept
-noneKept = record { good = false; volts = replicate nodesMost (keptAs (pos 0)) }
+-- r tells whether every voltage is in range; where it is, kept are the voltages as they are kept
+pub record KeepsVolts (volts : List ℤ) (r : Bool) (kept : List ℕ) : Type 0 where
+  pub told : r ≡ not (anyOf offVolts volts)
+  pub volts-are : r ≡ true → kept ≡ map keptAs volts
 
-abbrev pub keptUnless : Bool → List ℤ → Kept
-keptUnless off volts = cond off noneKept (record { good = true; volts = map keptAs volts })
-
-abbrev pub keptOf : List ℤ → Kept
-keptOf volts = keptUnless (anyOf offVolts volts) volts
-
-abbrev pub keptSlices : List ℤ → List ℤ → Kept
-keptSlices volts totals = keptUnless (offSlices volts totals) volts
+-- the same of both slices
+pub record Keeps (volts totals : List ℤ) (r : Bool) (kept : List ℕ) : Type 0 where
+  pub told : r ≡ not (offSlices volts totals)
+  pub volts-are : r ≡ true → kept ≡ map keptAs volts
 
 -- ---- slices cleared, where both have their length: whether they have, and what stands in them then
 
@@ -65,18 +60,14 @@ someOutside totals = anyOf outside64 totals
 abbrev pub standingAt : ℤ → Total
 standingAt z = cond (outside64 z) Leaves (At z)
 
--- all of them, each with what comes in at its node and less what goes out there, or none
-abbrev pub noneStand : Stood
-noneStand = record { good = false; totals = replicate nodesMost (pos 0) }
-
+-- all of them, each with what comes in at its node and less what goes out there
 abbrev pub changed : List ℤ → List ℤ → List ℤ → List ℤ
 changed totals coming going = withMore totals (λ (n : ℕ). getD coming n (pos 0) -ℤ getD going n (pos 0))
 
-abbrev pub stoodUnless : Bool → List ℤ → Stood
-stoodUnless leaves totals = cond leaves noneStand (record { good = true; totals = totals })
-
-abbrev pub stoodOf : List ℤ → List ℤ → List ℤ → Stood
-stoodOf totals coming going = stoodUnless (someOutside (changed totals coming going)) (changed totals coming going)
+-- r tells whether all of them stay in range; next are they then, else 0 at every node
+pub record Stands (totals coming going : List ℤ) (r : Bool) (next : List ℤ) : Type 0 where
+  pub told : r ≡ not (someOutside (changed totals coming going))
+  pub next-is : next ≡ cond r (changed totals coming going) (replicate nodesMost (pos 0))
 
 -- ---- a number raised by the largest size, so that none is negative
 

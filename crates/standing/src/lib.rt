@@ -1,11 +1,11 @@
 // Totals judged as they would stand.
 ghost use mathlib.Core.Path.{_≡_};
-ghost use lib.ListN.{length};
-ghost use lib.IntN.{subℕ, _+ℤ_, _-ℤ_};
+ghost use mathlib.Core.Bool.{true};
+ghost use lib.ListN.{length, replicate};
+ghost use lib.IntN.{pos, subℕ, _+ℤ_, _-ℤ_};
 ghost use Rattle.whole.specs.Signed.{signedSpan};
 ghost use Rattle.totals.specs.Gives.{nodesMost};
-ghost use Rattle.slices.specs.Slices.{raisedBy, standingAt, noneStand, stoodOf};
-use slices::Stood;
+ghost use Rattle.slices.specs.Slices.{raisedBy, standingAt, Stands};
 use slices::Total;
 use totals::NODES;
 use whole::Int;
@@ -64,29 +64,35 @@ pub fn stand(total: i64, coming: i64, going: i64) -> Total
     }
 }
 
-fn none_stand() -> Stood
-    ensures { λ r. ⌜ r ≡ noneStand ⌝ }
-{
-    Stood {
-        good: false,
-        totals: [0i64; NODES],
-    }
-}
-
-// Each of 32 totals with what comes in at its node and less what goes out there, all or none.
-pub fn stand_all(totals: &[i64], coming: &[i64; NODES], going: &[i64; NODES]) -> Stood
+// Each of 32 totals with what comes in at its node and less what goes out there, all or none: written to `next`, which
+// has 0 at every node where one leaves the 64-bit range.
+pub fn stand_all(
+    next: &mut [i64; NODES],
+    totals: &[i64],
+    coming: &[i64; NODES],
+    going: &[i64; NODES],
+) -> bool
     requires { ⌜ length (now totals) ≡ nodesMost ⌝ }
-    ensures { λ r. ⌜ r ≡ stoodOf (now (totals .entry)) (now (coming .entry)) (now (going .entry)) ⌝ }
+    ensures { λ r. ⌜ Stands (now (totals .entry)) (now (coming .entry)) (now (going .entry)) r (now (next .exit)) ⌝ }
 {
-    let mut next = [0i64; NODES];
+    *next = [0i64; NODES];
     for k in 0..NODES {
         let Total::At(x) = stand(totals[k], coming[k], going[k]) else {
-            return none_stand();
+            *next = [0i64; NODES];
+            return false;
         };
         next[k] = x;
     }
-    Stood {
-        good: true,
-        totals: next,
+    true
+}
+
+// The same where nothing comes and nothing goes: each total stands as it is.
+pub fn stand_still(next: &mut [i64; NODES], totals: &[i64])
+    requires { ⌜ length (now totals) ≡ nodesMost ⌝ }
+    ensures { λ _. ⌜ Stands (now (totals .entry)) (replicate nodesMost (pos 0)) (replicate nodesMost (pos 0)) true (now (next .exit)) ⌝ }
+{
+    *next = [0i64; NODES];
+    for k in 0..NODES {
+        next[k] = totals[k];
     }
 }

@@ -1,2 +1,2 @@
 -- Laws over plain numbers, on which the functions' proofs rest.
-pub mod Halves
+pub mod Raised

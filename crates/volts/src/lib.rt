@@ -1,10 +1,14 @@
 // Voltages as they are kept: in microvolts, raised by the largest of them, so that none is negative.
 ghost use mathlib.Core.Path.{_≡_};
 ghost use Rattle.volts.specs.Volts.{keeping, givenBack, acrossOf, Near};
-use whole::Int;
 
 // The largest voltage of a node, of either sign.
 pub const VOLTS_MOST: u64 = 2500000;
+
+// The same, and the least, with a sign.
+const MOST: i64 = 2500000;
+
+const LEAST: i64 = -2500000;
 
 // The largest kept voltage; also the largest voltage from one node to another, of either sign.
 pub const SPAN: u64 = 2 * VOLTS_MOST;
@@ -21,30 +25,20 @@ pub enum Voltage {
 pub fn keep(microvolts: i64) -> Voltage
     ensures { λ r. ⌜ r ≡ keeping microvolts ⌝ }
 {
-    let i = whole::open(microvolts);
-    match i {
-        Int::Pos(n) => {
-            if n <= VOLTS_MOST {
-                Voltage::Kept((VOLTS_MOST + n) as u32)
-            } else {
-                Voltage::Outside
-            }
-        }
-        Int::NegSuc(n) => {
-            if n < VOLTS_MOST {
-                Voltage::Kept((VOLTS_MOST - 1 - n) as u32)
-            } else {
-                Voltage::Outside
-            }
-        }
+    if MOST < microvolts {
+        return Voltage::Outside;
     }
+    if microvolts < LEAST {
+        return Voltage::Outside;
+    }
+    Voltage::Kept((microvolts + MOST) as u32)
 }
 
 // The voltage that is kept as x.
 pub fn give_back(x: u32) -> i64
     ensures { λ r. ⌜ r ≡ givenBack x ⌝ }
 {
-    whole::difference(x as u64, VOLTS_MOST)
+    x as i64 - MOST
 }
 
 // The voltage from one node to another, from what is kept of theirs, raised by SPAN.

@@ -1,9 +1,7 @@
--- The lines of a refusal and of an error are short, so that they have room where they are written.
-use mathlib.Core.List.{List}
-use Prim.Native.Nat.{ℕ, _+_, _≤_}
-use native.Mathlib.Omega.{arith}
+-- The line of a refusal is short, so that it has room where it is written.
+use Prim.Native.Nat.{_≤_}
 use lib.Dec.{lit≤}
-use lib.ListN.{length, length-append, length-take}
+use lib.ListN.{length}
 use Rattle.refusal.specs.declared.Refusal.{Refusal}
 use Rattle.refusal.specs.declared.Refusal.the-variants.{Malformed, BadName, NameTwice, NameNotHeld, ShortOutput}
 use Rattle.refusal.specs.declared.Refusal.the-variants.{NotFinite, WrongLevel, BadExsub, BadOctave, OutOfReach}
@@ -13,7 +11,7 @@ use Rattle.refusal.specs.declared.Refusal.the-variants.{BadKey, BadNumber, KeyM
 use Rattle.refusal.specs.Told.{told}
 use Rattle.sheet.specs.laws.LinesFit.{told-long}
 use Rattle.answers.specs.declared.Answer.the-variants.{Refused}
-use Rattle.answers.specs.Answers.{shownBytes, answerLine, errorLine}
+use Rattle.answers.specs.Answers.{answerLine}
 
 -- a refusal tells its number, and two values at most
 told-few : (f : Refusal) → length (told f) ≤ 3
@@ -45,8 +43,3 @@ told-few BadLine = lit≤ tt
 pub refused-room : (f : Refusal) → length (answerLine (Refused f)) ≤ 71
 unfolding answerLine
 refused-room f = told-long (told f) (told-few f)
-
--- the answer to a line that is no command
-pub error-room : (first : List ℕ) → length (errorLine first) ≤ 7 + shownBytes
-unfolding errorLine
-error-room first = simp (length-append, length-take) (omega arith)

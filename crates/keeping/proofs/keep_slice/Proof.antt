@@ -1,5 +1,5 @@
 -- `keep_slice` has kept the first k voltages, all of them in their range.
-use mathlib.Core.Path.{_≡_, _∙_}
+use mathlib.Core.Path.{_≡_}
 use Prim.Native.Nat.{_≤_, _-_}
 use native.Mathlib.Omega.{arith}
 use lib.ListN.{getD}
@@ -13,10 +13,10 @@ use Rattle.keeping.proofs.keep_slice.Statement.{statement}
 use Rattle.keeping.proofs.keep_slice.Tie as tie
 
 abbrev Inv-loop : tie.InvT-loop
-Inv-loop volts kept₀ k₀ kept k = (k ≤ nodesMost) × Passing 0 nodesMost (offAt volts) (keptAt volts) k kept
+Inv-loop kept₀ volts k₀ kept k = (k ≤ nodesMost) × Passing 0 nodesMost (offAt volts) (keptAt volts) k kept
 
 abbrev μ-loop : tie.MeasureT-loop
-μ-loop volts kept₀ k₀ kept k = nodesMost - k
+μ-loop kept₀ volts k₀ kept k = nodesMost - k
 
 loop-holds : tie.Need-loop-holds Inv-loop μ-loop
 loop-holds c = (search needs, passing-none (search needs))
@@ -24,17 +24,16 @@ loop-holds c = (search needs, passing-none (search needs))
 -- what the voltage that the loop has come to is to `keep`
 volts-held : (c : tie.After-keep Inv-loop μ-loop) →
     let l = c .before .before .before in
-    let z = getD (l .before .args .volts .now) (l .loop .k) (pos 0) in held z ≡ z
+    let z = getD (l .before .before .args .volts .now) (l .loop .k) (pos 0) in held z ≡ z
 volts-held c = search needs
 
 returns : tie.Need-returns Inv-loop μ-loop
 returns c =
-    let k = c .before .before .before in
+    let k = c .before .before in
     let l = k .before .before .before in
-    let s = l .before in
-    c .none-kept .ensures
-    ∙ kept-none (s .args .volts .now) (s .pre) (l .loop .k) (k .before .before .loop-test .taken)
-    (outside-is (volts-held k) (k .keep .ensures) (c .before .enum-told .given .1))
+    let s = l .before .before in
+    kept-none (s .args .volts .now) (s .pre) (l .loop .k) (k .before .before .loop-test .taken)
+    (outside-is (volts-held k) (k .keep .ensures) (c .enum-told .given .1))
 
 loop-again : tie.Need-loop-again Inv-loop μ-loop
 loop-again c =
@@ -45,12 +44,12 @@ loop-again c =
 
 returns-2 : tie.Need-returns-2 Inv-loop μ-loop
 returns-2 c =
-    let s = c .before .before in
+    let s = c .before .before .before in
     kept-all (s .args .volts .now) (s .pre) (omega arith) (c .before .loop .inv .1)
 
 pub keep-slice-spec : {M : Type 1} → statement M
 keep-slice-spec =
     tie.close
     (tie.spec Inv-loop μ-loop loop-holds (λ c. search needs) (λ c. search needs) (λ c κs. search needs)
-    (λ c. search needs) (λ c. search needs) (λ c κs. search needs) returns (λ c. search needs) (λ c. search needs)
+    (λ c. search needs) (λ c. search needs) returns (λ c. search needs) (λ c. search needs)
     (λ c. search needs) (λ c. omega arith) loop-again returns-2)

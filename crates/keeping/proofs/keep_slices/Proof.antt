@@ -2,7 +2,7 @@
 use mathlib.Core.Path.{sym, _∙_}
 use borrow.Author.Needs.{needs}
 use borrow.Author.Tests.{not-true, not-false}
-use Rattle.slices.proofs.Passing.{wrong-lengths, RightLengths, right-lengths}
+use Rattle.slices.proofs.Passing.{RightLengths, right-lengths, keeps-none, keeps-so}
 use Rattle.keeping.proofs.keep_slices.Statement.{statement}
 use Rattle.keeping.proofs.keep_slices.Tie as tie
 
@@ -13,15 +13,13 @@ long c =
 
 returns : tie.Need-returns
 returns c =
-    let r = c .before .before in
-    c .none-kept .ensures
-    ∙ wrong-lengths (r .before .args .volts .now) (r .before .args .totals .now)
-    (sym (r .right-lengths .ensures) ∙ not-true _ (c .before .if1 .taken))
+    let r = c .before in
+    keeps-none (r .before .args .volts .now) (r .before .args .totals .now)
+    (sym (r .right-lengths .ensures) ∙ not-true _ (c .if1 .taken))
 
 returns-2 : tie.Need-returns-2
-returns-2 c = c .keep-slice .ensures ∙ long (c .before) .same
+returns-2 c = keeps-so _ _ (long (c .before .before)) (c .keep-slice .ensures)
 
 pub keep-slices-spec : {M : Type 1} → statement M
 keep-slices-spec =
-    tie.close
-    (tie.spec (λ c κs. search needs) (λ c κs. search needs) returns (λ c κs. long c .volts-long) returns-2)
+    tie.close (tie.spec (λ c κs. search needs) returns (λ c κs. long (c .before) .volts-long) returns-2)

@@ -9,7 +9,7 @@ use mir.Syntax.{w64}
 use mir.ValLaws.{toZ-ofZ}
 use Rattle.given.specs.Arguments.{issueOf, some}
 use Rattle.slices.specs.Slices.{offSlices}
-use Rattle.slices.proofs.Keeping.{kept-off, kept-on, totals-long}
+use Rattle.slices.proofs.Keeping.{slices-off, slices-on, totals-long}
 use Rattle.places.specs.inner.Parts.{placeOr}
 use Rattle.places.specs.inner.Flat.{numberPlace}
 use Rattle.places.specs.laws.Founds.{is-there}
@@ -19,8 +19,8 @@ use Rattle.lifting.proofs.lift.Statement.{statement}
 use Rattle.lifting.proofs.lift.Tie as tie
 
 -- earlier places, from later ones
-abbrev start : tie.After-struct-known → tie.Start
-start c = c .before .before .before
+abbrev start : tie.After-good-slices → tie.Start
+start c = c .before .before
 
 abbrev tested : tie.After-transistor-at → tie.Else1
 tested c = c .before .before .before
@@ -34,13 +34,13 @@ noted c = c .before .before .before .before .before
 abbrev read : tie.After-own → tie.After-currents-at
 read c = c .before .before .before
 
-abbrev put : tie.After-struct-known2 → tie.After-put-in
+abbrev put : tie.After-stand-all → tie.After-put-in
 put c = c .before .before .before .before .before
 
-abbrev fitted : tie.After-all2 → tie.Else3
-fitted c = c .before .before .before
+abbrev fitted : tie.After-next2 → tie.Else3
+fitted c = c .before .before
 
-abbrev totalled : tie.After-on2 → tie.After-all2
+abbrev totalled : tie.After-on2 → tie.After-next2
 totalled c = c .before .before .before .before .before .before .before
 
 -- what the tests have shown
@@ -48,7 +48,7 @@ good : (c : tie.Else1) →
     offSlices (start (c .before) .args .volts .now) (start (c .before) .args .totals .now) ≡ false
 good c =
     let s = start (c .before) in
-    kept-on (s .args .volts .now) (s .args .totals .now) (c .before .before .keep-slices .ensures)
+    slices-on (s .args .volts .now) (s .args .totals .now) (c .before .good-slices .ensures)
     (not-false _ (c .if1 .left))
 
 number : (c : tie.After-issue-of) → c .issue-of .result ≡ issueOf (start (c .before .before) .args .transistor)
@@ -77,7 +77,7 @@ returns : tie.Need-returns
 returns c =
     let s = start (c .before) in
     λ r k l. lift-off l k (s .args .volts .now) (s .args .totals .now) (s .args .transistor)
-    (kept-off (s .args .volts .now) (s .args .totals .now) (c .before .before .keep-slices .ensures)
+    (slices-off (s .args .volts .now) (s .args .totals .now) (c .before .good-slices .ensures)
     (not-true _ (c .if1 .taken)))
 
 returns-2 : tie.Need-returns-2
@@ -98,7 +98,7 @@ put-in-requires c κs =
 
 stand-all-requires : tie.Need-stand-all-requires
 stand-all-requires c κs =
-    let t = tested (found (c .before .before .before .before) .before) in
+    let t = tested (found (c .before .before .before .before .before) .before) in
     let s = start (t .before) in totals-long (s .args .volts .now) (s .args .totals .now) (good t)
 
 returns-3 : tie.Need-returns-3
@@ -109,7 +109,7 @@ returns-3 c =
     let s = start (t .before) in
     λ r k l. lift-leaves-64 l k (s .args .volts .now) (s .args .totals .now) (s .args .transistor) (good t) _
     (there (found o)) (noted o .nodes-at .ensures) (read o .currents-at .ensures) (u .put-in .ensures)
-    (c .before .before .stand-all .ensures) (not-true _ (c .if3 .taken))
+    (c .before .stand-all .ensures) (not-true _ (c .if3 .taken))
 
 put-totals-requires : tie.Need-put-totals-requires
 put-totals-requires c κs =
@@ -122,7 +122,7 @@ put-totals-requires c κs =
       totals-long (s .args .volts .now) (s .args .totals .now) (good t),
       lift-long (p .2) (p .1) (s .args .volts .now) (s .args .totals .now) (s .args .transistor) (good t) _
           (there (found o)) (noted o .nodes-at .ensures) (read o .currents-at .ensures) (u .put-in .ensures)
-          (f .before .stand-all .ensures),
+          (f .stand-all .ensures),
     )
 
 leave-requires : tie.Need-leave-requires
@@ -150,7 +150,7 @@ returns-4 c =
     λ r k l. rw (n .put-nodes .ensures, v .leave .ensures, c .put-currents .ensures)
     (lift-done l k (s .args .volts .now) (s .args .totals .now) (s .args .transistor) (good t) _ (there (found o))
     (noted o .nodes-at .ensures) (read o .currents-at .ensures) (u .put-in .ensures)
-    (e .before .before .stand-all .ensures) (not-false _ (e .if3 .left))
+    (e .before .stand-all .ensures) (not-false _ (e .if3 .left))
     (n .before .before .before .before .put-totals .ensures))
 
 pub lift-spec : {M : Type 1} → statement M

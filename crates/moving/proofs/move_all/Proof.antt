@@ -12,7 +12,7 @@ use Rattle.refusal.specs.Clash.{clash}
 use Rattle.volts.specs.Volts.{givenBack, keptAs}
 use Rattle.given.specs.Pairs.{arePairs, somePairOff, shiftsOf}
 use Rattle.slices.specs.Slices.{offSlices}
-use Rattle.slices.proofs.Keeping.{kept-off, kept-on, kept-volts, volts-long, totals-long}
+use Rattle.slices.proofs.Keeping.{slices-off, slices-on, volts-long, totals-long}
 use Rattle.flows.specs.inner.Workable.{deckOf}
 use Rattle.settle.specs.inner.Working.{roundOf, isTaken, Settling}
 use Rattle.model.specs.Counts.{nodesMost}
@@ -23,11 +23,11 @@ use Rattle.moving.proofs.move_all.Statement.{statement}
 use Rattle.moving.proofs.move_all.Tie as tie
 
 -- earlier places, from later ones
-abbrev start : tie.After-struct-known → tie.Start
+abbrev start : tie.After-keep-slices → tie.Start
 start c = c .before .before .before .before
 
 abbrev tested : tie.After-keep-pairs → tie.Else2
-tested c = c .before .before .before
+tested c = c .before .before
 
 abbrev turned-not : tie.Else2 → tie.Else1
 turned-not c = c .before .before
@@ -47,12 +47,12 @@ told c = c .before .before
 -- what the tests have shown
 slices-good : (c : tie.Else1) →
     (offSlices (start (c .before) .args .volts .now) (start (c .before) .args .totals .now) ≡ false)
-    × (c .before .before .keep-slices .result .volts ≡ map keptAs (start (c .before) .args .volts .now))
+    × (c .before .keep-slices .last .0 ≡ map keptAs (start (c .before) .args .volts .now))
 slices-good c =
     let a = start (c .before) .args in
-    let k = c .before .before .keep-slices .ensures in
+    let k = c .before .keep-slices .ensures in
     let h = not-false _ (c .if1 .left) in
-    (kept-on (a .volts .now) (a .totals .now) k h, kept-volts (a .volts .now) (a .totals .now) k h)
+    (slices-on (a .volts .now) (a .totals .now) (k .told) h, k .volts-are h)
 
 are-pairs : (c : tie.Else2) → arePairs (start (turned-not c .before) .args .pairs .now) ≡ true
 are-pairs c = sym (c .before .are-pairs .ensures) ∙ not-false _ (c .if2 .left)
@@ -76,7 +76,7 @@ returns : tie.Need-returns
 returns c =
     let a = start (c .before) .args in
     λ r k l. lent-turned l _ _ _
-    (kept-off (a .volts .now) (a .totals .now) (c .before .before .keep-slices .ensures) (not-true _ (c .if1 .taken)))
+    (slices-off (a .volts .now) (a .totals .now) (c .before .keep-slices .ensures .told) (not-true _ (c .if1 .taken)))
 
 returns-2 : tie.Need-returns-2
 returns-2 c =
@@ -90,19 +90,20 @@ returns-3 c =
     λ r k l. lent-off l _ _ _ (slices-good (turned-not t) .0) (are-pairs t) off
 
 -- the places of the set can be settled
-ready : (c : tie.After-will3) →
-    let a = entry (named c .before) .args in
+ready : (c : tie.After-naming-any) →
+    let a = entry (c .before) .args in
     Settling
     (roundOf (deckOf (a .numbers .now) (a .powers .now) (a .ticks .now) (a .switches .now)) (a .issues .now)
-    (a .seats .now) (a .nodes .now) (named c .naming-any .result) (named c .before .before .keep-pairs .last .0))
+    (a .seats .now) (a .nodes .now) (c .naming-any .result) (c .before .before .keep-pairs .last .0))
     (a .currents .now) (a .totals .now)
 ready c =
-    let e = named c .before in
+    let e = c .before in
     let t = tested (e .before) in
     let a = entry e .args in
     let p = entry e .pre in
-    lent-settling (p .2) (a .volts .now) (a .totals .now) (a .pairs .now) (slices-good (turned-not t) .0) (p .1) (are-pairs t) (none-off e) _ (will-is e) _
-    (named c .naming-any .ensures)
+    lent-settling (p .2) (a .volts .now) (a .totals .now) (a .pairs .now) (slices-good (turned-not t) .0)
+    (p .1) (are-pairs t) (none-off e) _ (will-is e) _
+    (c .naming-any .ensures)
 
 -- the slices' lengths
 long : (c : tie.Else3) → let a = entry c .args in
@@ -114,7 +115,7 @@ long c =
 
 put-volts-requires : tie.Need-put-volts-requires
 put-volts-requires c κs =
-    let t = c .before .before .before .before .before in (long (named t .before) .0, ready t .will-are .long)
+    let n = named (c .before .before .before .before .before) in (long (n .before) .0, ready n .will-are .long)
 
 -- as many totals come out
 next-held : (c : tie.After-settle) → length (c .settle .last .1 .0) ≡ nodesMost
@@ -148,7 +149,8 @@ same-length-7 c =
     let t = told (c .before) in
     let e = named (t .before) .before in
     ⊎-elim
-    (λ w. ap length (w .1) ∙ length-map (e .before .keep-pairs .last .0) givenBack ∙ ready (t .before) .will-are .long
+    (λ w. ap length (w .1) ∙ length-map (e .before .keep-pairs .last .0) givenBack
+    ∙ ready (named (t .before)) .will-are .long
     ∙ sym (long e .0))
     (λ w. ap length (w .1)) (stand-then (c .before))
 
@@ -178,5 +180,6 @@ move-all-spec =
     tie.close
     (tie.spec (λ c κs. search needs) (λ c. search needs) (λ c. search needs) returns (λ c κs. search needs)
     (λ c. search needs) (λ c. search needs) returns-2 (λ c κs. search needs) (λ c. search needs) (λ c. search needs)
-    returns-3 (λ c κs. none-off c) (λ c κs. ready c) (λ c κs. search needs) put-volts-requires put-totals-requires
-    (λ c κs. search needs) same-length-7 same-length-8 returns-4)
+    returns-3 (λ c κs. none-off c)
+    (λ c κs. ready (named c)) (λ c κs. search needs) put-volts-requires put-totals-requires (λ c κs. search needs)
+    same-length-7 same-length-8 returns-4)

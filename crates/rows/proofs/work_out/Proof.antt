@@ -1,8 +1,8 @@
--- `rows::work_out` meets its contract: the terms are small, and their outcome is the rows' own.
+-- `rows::work_out` meets its contract: the outcome of the terms is the rows' own.
 use mathlib.Core.Path.{_∙_}
 use borrow.Author.Needs.{needs}
 use Rattle.rows.specs.Outcome.{outcomeAcross}
-use Rattle.rows.proofs.RowLaws.{terms-small, outcome-is}
+use Rattle.rows.proofs.RowLaws.{outcome-is}
 use Rattle.rows.proofs.work_out.Statement.{statement}
 use Rattle.rows.proofs.work_out.Tie as tie
 
@@ -12,4 +12,4 @@ returns c = c .outcome .ensures ∙ outcome-is _ _ (c .before .all-terms .ensure
 
 pub work-out-spec : {M : Type 1} → statement M
 work-out-spec =
-    tie.close (tie.spec (λ c κs. search needs) (λ c κs. terms-small _ _ (c .all-terms .ensures)) returns)
+    tie.close (tie.spec (λ c κs. search needs) (λ c κs. search needs) returns)

@@ -1,6 +1,6 @@
 -- The code's way from the rows' terms to an outcome.
 use mathlib.Core.List.{List, [], _∷_}
-use Prim.Native.Nat.{ℕ, zero, suc, _+_, _/_, _^_, _≤_, _<_}
+use Prim.Native.Nat.{ℕ, zero, suc, _+_, _≤_, _<_}
 use lib.ListN.{getD}
 use lib.IntN.{ℤ, subℕ}
 use Rattle.whole.specs.Quotient.{quotientOf}
@@ -13,24 +13,10 @@ use Rattle.rows.specs.declared.Outcome.{Outcome}
 use Rattle.rows.specs.Ticks.{rootFor, quotientShift}
 use Rattle.rows.specs.Outcome.{someAbove, overAt, outcomeAt}
 
--- no number of the terms is near 64 bits
-pub record Small (x : Terms) : Type 0 where
-  pub plus : (k : ℕ) → k < branches → getD (x .plus) k 0 < 2 ^ 62
-  pub minus : (k : ℕ) → k < branches → getD (x .minus) k 0 < 2 ^ 62
-
--- T's are added up without their last places, so that a sum of them stays within 64 bits
-abbrev pub lastPlaces : ℕ
-lastPlaces = 10
-
--- every T, without its last places, is at most this sum
-pub record Below (x : Terms) (sum : ℕ) : Type 0 where
-  pub plus : (k : ℕ) → k < branches → getD (x .plus) k 0 / 2 ^ lastPlaces ≤ sum
-  pub minus : (k : ℕ) → k < branches → getD (x .minus) k 0 / 2 ^ lastPlaces ≤ sum
-
--- every floor of a ratio is at most this
-pub record Most (x : Terms) (most : ℕ) : Type 0 where
-  pub left : (k : ℕ) → k < branches → getD (x .left) k 0 ≤ most
-  pub right : (k : ℕ) → k < branches → getD (x .right) k 0 ≤ most
+-- every number of two lists, one for each row in either, is at most this
+pub record Most (a b : List ℕ) (most : ℕ) : Type 0 where
+  pub first : (k : ℕ) → k < branches → getD a k 0 ≤ most
+  pub second : (k : ℕ) → k < branches → getD b k 0 ≤ most
 
 -- whether row k + 1 overloads, and if not what comes after it
 abbrev pub rowOver : Terms → ℕ → Over → Over

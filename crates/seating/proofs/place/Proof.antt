@@ -17,7 +17,7 @@ use Rattle.terms.specs.Rows.{roles}
 use Rattle.terms.specs.Looked.{lookedAt}
 use Rattle.given.specs.Arguments.{issueOf, issuesMost, usedUp, wideBy}
 use Rattle.slices.specs.Slices.{offSlices}
-use Rattle.slices.proofs.Keeping.{kept-off, kept-on, kept-volts, totals-long}
+use Rattle.slices.proofs.Keeping.{slices-off, slices-on, totals-long}
 use Rattle.places.specs.inner.Flat.{freePlace, numberPlace, tiesAt, wideAt}
 use Rattle.placing.specs.inner.Placing.{placing, wayOf}
 use Rattle.model.specs.Counts.{cardsMost, transistorsMost}
@@ -27,7 +27,7 @@ use Rattle.seating.proofs.place.Statement.{statement}
 use Rattle.seating.proofs.place.Tie as tie
 
 -- earlier places, from later ones
-abbrev start : tie.After-struct-known → tie.Start
+abbrev start : tie.After-keep-slices → tie.Start
 start c = c .before .before .before
 
 abbrev asked : tie.After-may-place → tie.After-nodes-of
@@ -37,7 +37,7 @@ abbrev looked : tie.After-may-place → tie.After-looked-at
 looked c = asked c .before
 
 abbrev tested : tie.After-may-place → tie.Else1
-tested c = looked c .before .before .before .before
+tested c = looked c .before .before .before
 
 abbrev begun : tie.After-may-place → tie.Start
 begun c = start (tested c .before)
@@ -52,13 +52,13 @@ abbrev worked : tie.After-put-in → tie.After-work
 worked c = c .before .before .before .before .before
 
 abbrev put : tie.After-stand-all → tie.After-put-in
-put c = c .before .before .before .before
+put c = c .before .before .before .before .before
 
 abbrev judged : tie.Else2 → tie.After-stand-all
 judged c = c .before .before
 
 abbrev passed : tie.After-totals → tie.Else3
-passed c = c .before .before .before .before .before
+passed c = c .before .before .before .before
 
 abbrev totalled : tie.After-on5 → tie.After-totals
 totalled c = c .before .before .before .before .before .before
@@ -68,7 +68,7 @@ good : (c : tie.Else1) →
     offSlices (start (c .before) .args .volts .now) (start (c .before) .args .totals .now) ≡ false
 good c =
     let s = start (c .before) in
-    kept-on (s .args .volts .now) (s .args .totals .now) (c .before .before .keep-slices .ensures)
+    slices-on (s .args .volts .now) (s .args .totals .now) (c .before .keep-slices .ensures .told)
     (not-false _ (c .if1 .left))
 
 -- the nodes that the card looks at
@@ -78,9 +78,9 @@ seen c = looked c .looked-at .result
 long : (c : tie.After-may-place) → length (seen c) ≡ roles
 long c = search needs
 
-number : (c : tie.After-issue-of) → c .issue-of .result ≡ issueOf (start (c .before .before .before) .args .card)
+number : (c : tie.After-issue-of) → c .issue-of .result ≡ issueOf (start (c .before .before) .args .card)
 number c =
-    let s = start (c .before .before .before) in
+    let s = start (c .before .before) in
     c .issue-of .ensures ∙ ap issueOf (toZ-ofZ w64 (s .args .card) (s .fits .card))
 
 -- they are the definition's, by the arrays that are lent
@@ -141,18 +141,14 @@ number-there c =
 
 -- the kept voltages are those of the slice
 kept-are : (c : tie.After-may-place) →
-    tested c .before .before .keep-slices .result .volts ≡ map keptAs (begun c .args .volts .now)
-kept-are c =
-    let e = tested c in
-    let s = start (e .before) in
-    kept-volts (s .args .volts .now) (s .args .totals .now) (e .before .before .keep-slices .ensures)
-    (not-false _ (e .if1 .left))
+    tested c .before .keep-slices .last .0 ≡ map keptAs (begun c .args .volts .now)
+kept-are c = let e = tested c in e .before .keep-slices .ensures .volts-are (not-false _ (e .if1 .left))
 
 returns : tie.Need-returns
 returns c =
     let s = start (c .before) in
     λ r k l. lent-off l k (s .args .volts .now) (s .args .totals .now) (s .args .card) (s .args .roles)
-    (kept-off (s .args .volts .now) (s .args .totals .now) (c .before .before .keep-slices .ensures)
+    (slices-off (s .args .volts .now) (s .args .totals .now) (c .before .keep-slices .ensures .told)
     (not-true _ (c .if1 .taken)))
 
 work-requires : tie.Need-work-requires
@@ -179,7 +175,7 @@ put-in-requires c κs =
 
 stand-all-requires : tie.Need-stand-all-requires
 stand-all-requires c κs =
-    let e = tested (went (known (worked (c .before .before .before)))) in
+    let e = tested (went (known (worked (c .before .before .before .before)))) in
     let s = start (e .before) in totals-long (s .args .volts .now) (s .args .totals .now) (good e)
 
 returns-2 : tie.Need-returns-2
@@ -210,7 +206,7 @@ returns-3 c =
 
 put-totals-requires : tie.Need-put-totals-requires
 put-totals-requires c κs =
-    let e = c .before .before .before .before in
+    let e = c .before .before .before in
     let j = judged e in
     let u = put j in
     let w = worked u in

@@ -1,6 +1,6 @@
 -- `settle_from` works the place i and goes on to the next of the set, and judges the totals after the last; on the way
 -- back it holds the new currents unless this is refused. The places that are left are the measure.
-use mathlib.Core.Path.{sym, _∙_}
+use mathlib.Core.Path.{refl, sym, _∙_}
 use Prim.Native.Nat.{ℕ, _-_, _<_}
 use native.Mathlib.Omega.{arith}
 use borrow.Author.Needs.{needs}
@@ -11,8 +11,8 @@ use Rattle.settling.proofs.settle_from.Reads as settle-from
 use Rattle.settling.proofs.settle_from.Kinds as settle-from-kinds
 use Rattle.settling.proofs.+settle_from.Lts-settle_from as lts
 use Rattle.flows.proofs.put_in.Reads as put-in-reads
+use Rattle.settling.proofs.put_out.Reads as put-out-reads
 use Rattle.flows.proofs.work.Reads as work-reads
-use Rattle.stretches.proofs.currents_at.Reads as currents-at-reads
 use Rattle.sets.proofs.next_in.Reads as next-in-reads
 use Rattle.stretches.proofs.nodes_at.Reads as nodes-at-reads
 use Rattle.stretches.proofs.put_currents.Reads as put-currents-reads
@@ -42,10 +42,10 @@ callees t = (
   stand-all-reads.Learnt,
   nodes-at-reads.Asked,
   nodes-at-reads.Learnt,
-  currents-at-reads.Asked,
-  currents-at-reads.Learnt,
   work-reads.Asked,
   work-reads.Learnt,
+  put-out-reads.Asked,
+  put-out-reads.Learnt,
   put-in-reads.Asked,
   put-in-reads.Learnt,
   earlier-of-reads.Asked,
@@ -61,36 +61,38 @@ callees t = (
 )
 
 module _ (t : ℕ) where
-  abbrev Ready : Type 0
-  Ready = lts.After-on (callees t) (settle-from-at t) settle-from.Post
+  abbrev Worked : Type 0
+  Worked = lts.After-work (callees t) (settle-from-at t) settle-from.Post
 
   abbrev Went : Type 0
   Went = lts.After-next-in (callees t) (settle-from-at t) settle-from.Post
 
   -- earlier places, from later ones
-  abbrev left : Ready → lts.Else1 (callees t) (settle-from-at t) settle-from.Post
-  left c = c .before .before .before .before .before
+  abbrev found : Worked → lts.After-nodes-at (callees t) (settle-from-at t) settle-from.Post
+  found c = c .before .before
 
-  abbrev come : Went → lts.After-put-in2 (callees t) (settle-from-at t) settle-from.Post
+  abbrev left : Worked → lts.Else1 (callees t) (settle-from-at t) settle-from.Post
+  left c = found c .before .before
+
+  abbrev come : Went → lts.After-put-in (callees t) (settle-from-at t) settle-from.Post
   come c = c .before .before .before
 
-  abbrev gone : Went → lts.After-put-in (callees t) (settle-from-at t) settle-from.Post
-  gone c = come c .before .before .before .before
+  abbrev gone : Went → lts.After-put-out (callees t) (settle-from-at t) settle-from.Post
+  gone c = come c .before .before .before .before .before
 
-  abbrev worked : Went → lts.After-work (callees t) (settle-from-at t) settle-from.Post
-  worked c = gone c .before .before .before .before .before
+  abbrev worked : Went → Worked
+  worked c = gone c .before .before .before .before
 
   abbrev went : lts.After-settle-from (callees t) (settle-from-at t) settle-from.Post → Went
   went c = c .before .before .before .before .before
 
   stand-all-requires : lts.Need-stand-all-requires (callees t) (settle-from-at t) settle-from.Post
-  stand-all-requires c κs = c .before .before .before .pre .1 .settling .long
+  stand-all-requires c κs = c .before .before .before .before .pre .1 .settling .long
 
   returns : lts.Need-returns (callees t) (settle-from-at t) settle-from.Post
   returns c =
-      let s = c .before in
-      let t = s .before .before .before in
-      gone-all _ _ (t .before .pre .1 .gone) (t .if1 .taken) (s .stand-all .ensures)
+      let t = c .before .before .before .before in
+      gone-all _ _ (t .before .pre .1 .gone) (t .if1 .taken) (c .stand-all .ensures)
 
   element-copy-out-s : lts.Need-element-copy-out-s (callees t) (settle-from-at t) settle-from.Post
   element-copy-out-s c = search needs
@@ -104,29 +106,24 @@ module _ (t : ℕ) where
   nodes-at-requires : lts.Need-nodes-at-requires (callees t) (settle-from-at t) settle-from.Post
   nodes-at-requires c κs = c .before .if1 .left
 
-  currents-at-requires : lts.Need-currents-at-requires (callees t) (settle-from-at t) settle-from.Post
-  currents-at-requires c κs = c .before .before .before .if1 .left
-
   work-requires : lts.Need-work-requires (callees t) (settle-from-at t) settle-from.Post
   work-requires c κs =
-      let g = left c .before .pre .1 in
-      gone-works _ _ (g .settling) (g .gone) (left c .if1 .left) (c .before .before .before .nodes-at .ensures) _
-      (g .table-is)
+      let n = c .before in
+      let e = n .before .before in
+      let g = e .before .pre .1 in
+      gone-works _ _ (g .settling) (g .gone) (e .if1 .left) (n .nodes-at .ensures) _ (g .table-is)
+
+  put-out-requires : lts.Need-put-out-requires (callees t) (settle-from-at t) settle-from.Post
+  put-out-requires c κs =
+      let w = c .before .before .before in
+      let g = left w .before .pre .1 in
+      (left w .if1 .left, gone-goes _ _ (g .settling) (g .gone) (left w .if1 .left) (found w .nodes-at .ensures) refl .0)
 
   put-in-requires : lts.Need-put-in-requires (callees t) (settle-from-at t) settle-from.Post
   put-in-requires c κs =
-      let r = c .before .before .before .before .before in
-      let g = left r .before .pre .1 in
-      gone-goes _ _ (g .settling) (g .gone) (left r .if1 .left) (r .before .before .before .nodes-at .ensures)
-      (r .before .currents-at .ensures)
-
-  put-in-requires-2 : lts.Need-put-in-requires-2 (callees t) (settle-from-at t) settle-from.Post
-  put-in-requires-2 c κs =
       let w = c .before .before .before .before .before .before .before .before in
-      let r = w .before in
-      let g = left r .before .pre .1 in
-      gone-comes _ _ (g .settling) (g .gone) (left r .if1 .left) (r .before .before .before .nodes-at .ensures)
-      (w .work .ensures)
+      let g = left w .before .pre .1 in
+      gone-comes _ _ (g .settling) (g .gone) (left w .if1 .left) (found w .nodes-at .ensures) (w .work .ensures)
 
   mul-issue : lts.Need-mul-issue (callees t) (settle-from-at t) settle-from.Post
   mul-issue c = omega arith
@@ -146,15 +143,14 @@ module _ (t : ℕ) where
   settle-from-requires : lts.Need-settle-from-requires (callees t) (settle-from-at t) settle-from.Post
   settle-from-requires c κs =
       let n = c .before .before .before .before in
-      let r = worked n .before in
-      let e = left r in
+      let e = left (worked n) in
       let p = e .before .pre in (
         let m = p .0 in
             let h = e .if1 .left in
             let k = reach (omega arith) (n .next-in .ensures) in omega arith,
         goes-on _ _ (p .1) (e .if1 .left)
-            (r .before .before .before .nodes-at .ensures) (r .before .currents-at .ensures)
-            (gone n .put-in .ensures) (worked n .work .ensures) (come n .put-in2 .ensures)
+            (found (worked n) .nodes-at .ensures) refl
+            (gone n .put-out .ensures) (worked n .work .ensures) (come n .put-in .ensures)
             (n .before .earlier-of .ensures) _ (n .next-in .ensures),
       )
 
@@ -163,27 +159,26 @@ module _ (t : ℕ) where
 
   put-currents-requires : lts.Need-put-currents-requires (callees t) (settle-from-at t) settle-from.Post
   put-currents-requires c κs =
-      let s = c .before .before .before .before in
+      let s = c .before .before .before .before .before in
       let n = went s in
-      let h = left (worked n .before) .if1 .left in search needs
+      let h = left (worked n) .if1 .left in search needs
 
   returns-2 : lts.Need-returns-2 (callees t) (settle-from-at t) settle-from.Post
   returns-2 c =
-      let f = c .before .before .before in
+      let f = c .before .before .before .before in
       let s = f .before .before in
       let n = went s in
-      let r = worked n .before in
-      let e = left r in
+      let e = left (worked n) in
       rw (c .put-currents .ensures)
       (back-held _ _ (e .if1 .left) (n .next-in .ensures) (s .settle-from .ensures)
       (sym (f .before .is-taken .ensures) ∙ f .if2 .taken) (e .before .pre .1 .gone .is (e .if1 .left))
-      (r .before .before .before .nodes-at .ensures) (worked n .work .ensures))
+      (found (worked n) .nodes-at .ensures) (worked n .work .ensures))
 
   returns-3 : lts.Need-returns-3 (callees t) (settle-from-at t) settle-from.Post
   returns-3 c =
       let s = c .before .before in
       let n = went s in
-      let e = left (worked n .before) in
+      let e = left (worked n) in
       back-left _ _ (e .if1 .left) (n .next-in .ensures) (s .settle-from .ensures)
       (sym (c .before .is-taken .ensures) ∙ c .if2 .left)
 
@@ -191,7 +186,7 @@ pub +settle-from-spec : {M : Type 1} → statement M
 +settle-from-spec =
     close μ-settle-from
     (λ t. lts.spec (callees t) (settle-from-at t) settle-from.Post (stand-all-requires t) (returns t)
-    (element-copy-out-s t) (cast-s t) (nodes-at-requires t) (currents-at-requires t) (work-requires t)
-    (put-in-requires t) (put-in-requires-2 t) (mul-issue t) (element-copy-out-issue t) (earlier-of-requires t)
+    (element-copy-out-s t) (cast-s t) (nodes-at-requires t) (work-requires t) (put-out-requires t)
+    (put-in-requires t) (mul-issue t) (element-copy-out-issue t) (earlier-of-requires t)
     (add-next-in t) (next-in-requires t) (settle-from-requires t) (is-taken-requires t) (put-currents-requires t)
     (returns-2 t) (returns-3 t))

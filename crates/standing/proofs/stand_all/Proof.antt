@@ -13,11 +13,11 @@ use Rattle.standing.proofs.stand_all.Statement.{statement}
 use Rattle.standing.proofs.stand_all.Tie as tie
 
 abbrev Inv-loop : tie.InvT-loop
-Inv-loop totals coming going next₀ k₀ next k =
+Inv-loop next₀ totals coming going k₀ next k =
     (k ≤ nodesMost) × Passing (pos 0) nodesMost (outAt totals coming going) (wouldAt totals coming going) k next
 
 abbrev μ-loop : tie.MeasureT-loop
-μ-loop totals coming going next₀ k₀ next k = nodesMost - k
+μ-loop next₀ totals coming going k₀ next k = nodesMost - k
 
 loop-holds : tie.Need-loop-holds Inv-loop μ-loop
 loop-holds c = (search needs, passing-none (search needs))
@@ -25,13 +25,13 @@ loop-holds c = (search needs, passing-none (search needs))
 -- what `stand` was asked is what would stand there
 asked : (c : tie.After-stand Inv-loop μ-loop) →
     let l = c .before .before .before .before .before in
-    let a = l .before .args in
+    let a = l .before .before .args in
     held (getD (a .totals .now) (l .loop .k) (pos 0))
     +ℤ (held (getD (a .coming .now) (l .loop .k) (pos 0)) -ℤ held (getD (a .going .now) (l .loop .k) (pos 0)))
     ≡ wouldAt (a .totals .now) (a .coming .now) (a .going .now) (l .loop .k)
 asked c =
     let l = c .before .before .before .before .before in
-    let a = l .before .args in
+    let a = l .before .before .args in
     let t : held (getD (a .totals .now) (l .loop .k) (pos 0)) ≡ getD (a .totals .now) (l .loop .k) (pos 0) =
     search needs in
     let i : held (getD (a .coming .now) (l .loop .k) (pos 0)) ≡ getD (a .coming .now) (l .loop .k) (pos 0) =
@@ -44,9 +44,8 @@ returns : tie.Need-returns Inv-loop μ-loop
 returns c =
     let k = c .before .before .before in
     let l = k .before .before .before .before .before in
-    let a = l .before .args in
-    c .none-stand .ensures
-    ∙ stood-none (a .totals .now) (a .coming .now) (a .going .now) (l .loop .k)
+    let a = l .before .before .args in
+    stood-none (a .totals .now) (a .coming .now) (a .going .now) (l .loop .k)
     (k .before .before .before .before .loop-test .taken)
     (out-by (a .totals .now) (a .coming .now) (a .going .now) (l .loop .k) (asked k) (k .stand .ensures)
     (c .before .enum-told .given .1))
@@ -55,7 +54,7 @@ loop-again : tie.Need-loop-again Inv-loop μ-loop
 loop-again c =
     let k = c .before .before .before in
     let l = k .before .before .before .before .before in
-    let a = l .before .args in
+    let a = l .before .before .args in
     let is =
     in-by (a .totals .now) (a .coming .now) (a .going .now) (l .loop .k) (asked k) (k .stand .ensures)
     (c .before .x .given .1) in
@@ -63,7 +62,7 @@ loop-again c =
 
 returns-2 : tie.Need-returns-2 Inv-loop μ-loop
 returns-2 c =
-    let a = c .before .before .args in
+    let a = c .before .before .before .args in
     stood-all (a .totals .now) (a .coming .now) (a .going .now) (omega arith) (c .before .loop .inv .1)
 
 pub stand-all-spec : {M : Type 1} → statement M
@@ -71,5 +70,5 @@ stand-all-spec =
     tie.close
     (tie.spec Inv-loop μ-loop loop-holds (λ c. search needs) (λ c. search needs) (λ c. search needs)
     (λ c. search needs) (λ c. search needs) (λ c. search needs) (λ c κs. search needs) (λ c. search needs)
-    (λ c. search needs) (λ c κs. search needs) returns (λ c. search needs) (λ c. search needs) (λ c. search needs)
+    (λ c. search needs) returns (λ c. search needs) (λ c. search needs) (λ c. search needs)
     (λ c. omega arith) loop-again returns-2)

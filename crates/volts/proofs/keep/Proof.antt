@@ -1,44 +1,25 @@
--- `keep` meets its contract: each arm is a law of `Halves`.
+-- `keep` meets its contract: outside on either side, and raised between.
 use mathlib.Core.Path.{_≡_}
-use lib.IntN.{pos, negsuc}
 use mir.Syntax.{w64}
+use mir.Val.{toZ, ofZ}
 use mir.ValLaws.{toZ-ofZ}
-use Rattle.whole.specs.Signed.{opened}
-use Rattle.volts.proofs.Halves.{kept-up, outside-up, kept-down, outside-down}
-use borrow.Author.Needs.{needs}
+use Rattle.volts.proofs.Raised.{outside-up, outside-down, Raised, raised, sum-fits, cast-fits, is-kept}
 use Rattle.volts.proofs.keep.Statement.{statement}
 use Rattle.volts.proofs.keep.Tie as tie
 
-abbrev start : tie.After-open → tie.Start
-start c = c .before
+is-read : (s : tie.Start) → toZ w64 (ofZ w64 (s .args .microvolts)) ≡ s .args .microvolts
+is-read s = toZ-ofZ w64 (s .args .microvolts) (s .fits .microvolts)
 
-is-up : (c : tie.After-known-told) →
-    pos (c .before .i .given .0 .0) ≡ start (c .before .before .before) .args .microvolts
-is-up c =
-    let o = c .before .before .before in
-    let s = start o in
-    opened (toZ-ofZ w64 (s .args .microvolts) (s .fits .microvolts)) (o .«open» .ensures) (c .before .i .given .1)
-
-is-down : (c : tie.After-known-told2) →
-    negsuc (c .before .i2 .given .0 .0) ≡ start (c .before .before .before) .args .microvolts
-is-down c =
-    let o = c .before .before .before in
-    let s = start o in
-    opened (toZ-ofZ w64 (s .args .microvolts) (s .fits .microvolts)) (o .«open» .ensures) (c .before .i2 .given .1)
+inside : (c : tie.Else2) →
+    Raised (c .before .before .args .microvolts) (toZ w64 (ofZ w64 (c .before .before .args .microvolts)))
+inside c = raised (is-read (c .before .before)) (c .before .if1 .left) (c .if2 .left)
 
 pub keep-spec : {M : Type 1} → statement M
 keep-spec =
     tie.close
     (tie.spec
-    (λ c κs. search needs)
-    (λ c. search needs)
-    (λ c. search needs)
-    (λ c. search needs)
-    (λ c. search needs)
-    (λ c. search needs)
-    (λ c. search needs)
-    (λ c. search needs)
-    (λ c. kept-up _ (is-up (c .before)) (c .if1 .taken))
-    (λ c. outside-up _ (is-up (c .before)) (c .if1 .left))
-    (λ c. kept-down _ (is-down (c .before)) (c .if2 .taken))
-    (λ c. outside-down _ (is-down (c .before)) (c .if2 .left)))
+    (λ c. outside-up (is-read (c .before)) (c .if1 .taken))
+    (λ c. outside-down (is-read (c .before .before)) (c .before .if1 .left) (c .if2 .taken))
+    (λ c. sum-fits (inside c))
+    (λ c. cast-fits (inside c))
+    (λ c. is-kept (inside c)))

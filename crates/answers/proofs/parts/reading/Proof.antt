@@ -3,7 +3,8 @@ use mir.Syntax.{w64}
 use mir.ValLaws.{toZ-ofZ}
 use borrow.Author.Needs.{needs}
 use Rattle.sheet.specs.laws.LinesFit.{node-whole}
-use Rattle.answers.proofs.Written.{text-short, text-written, as-node}
+use Rattle.texts.proofs.Written.{text-written}
+use Rattle.answers.proofs.Written.{as-node}
 use Rattle.answers.proofs.parts.reading.Tie as tie
 use Rattle.answers.proofs.parts.reading.Statement.{statement}
 
@@ -16,4 +17,4 @@ returns c =
 pub reading-spec : {M : Type 1} → statement M
 reading-spec =
     tie.close
-    (tie.spec (λ c κs. search needs) (λ c κs. text-short _ (c .before .node-line .ensures)) returns)
+    (tie.spec (λ c κs. search needs) (λ c κs. search needs) returns)

@@ -2,26 +2,27 @@
 use borrow.Author.Needs.{needs}
 use mir.Syntax.{w64}
 use mir.ValLaws.{toZ-ofZ}
-use Rattle.board.specs.Promise.{modelOf, stateIn}
+use Rattle.board.specs.Promise.{modelOf}
 use Rattle.board.proofs.Reaches.{after-lift}
-use Rattle.board.proofs.Whole.{own-standing, lifted-whole}
+use Rattle.board.proofs.Whole.{own-standing}
 use Rattle.board.proofs.Board.lift.Statement.{statement}
 use Rattle.board.proofs.Board.lift.Tie as tie
 
--- the start, from where the transistor was lifted
-abbrev start : tie.After-lift → tie.Start
+-- the start, from where the arrays are lent
+abbrev start : tie.After-lift-arg → tie.Start
 start c =
-    c .before .before .before .before .before .before .before .before .before .before .before .before .before .before
+    c .before .before .before .before .before .before .before .before .before .before .before .before .before
+
+lift-requires : tie.Need-lift-requires
+lift-requires c κs = (modelOf (start c .args .self), start c .pre, own-standing (modelOf (start c .args .self)))
 
 returns : tie.Need-returns
 returns c =
     let l = c .before in
-    let s = start l in
-    let lent = l .lift .ensures (modelOf (s .args .self)) (s .pre) (own-standing (modelOf (s .args .self))) in
-    let left = rw (toZ-ofZ w64 (s .args .transistor) (s .fits .transistor)) at lent in
-    after-lift (s .pre) (s .args .volts .now) (s .args .totals .now) (s .args .transistor)
-    (lifted-whole (stateIn (s .args .self) (s .args .volts .now) (s .args .totals .now)) (s .args .transistor) left)
-    (left .totals-are)
+    let s = start (l .before) in
+    after-lift (s .args .self) (s .pre) (s .args .volts .now) (s .args .totals .now) (s .args .transistor)
+    (toZ-ofZ w64 (s .args .transistor) (s .fits .transistor))
+    (l .lift .ensures (modelOf (s .args .self)) (s .pre) (own-standing (modelOf (s .args .self))))
 
 pub lift-spec : {M : Type 1} → statement M
-lift-spec = tie.close (tie.spec (λ c κs. search needs) (λ c. search needs) returns)
+lift-spec = tie.close (tie.spec lift-requires (λ c. search needs) returns)

@@ -3,7 +3,7 @@ use mathlib.Core.Path.{refl}
 use borrow.Author.Needs.{needs}
 use Rattle.lending.specs.Rest.{bare}
 use Rattle.board.specs.Promise.{modelOf}
-use Rattle.board.proofs.Reaches.{after-load}
+use Rattle.board.proofs.Reaches.{next-fits, after-load}
 use Rattle.holding.proofs.Whole.{own-cards, loaded-whole}
 use Rattle.board.proofs.Board.load.Statement.{statement}
 use Rattle.board.proofs.Board.load.Tie as tie
@@ -12,15 +12,19 @@ use Rattle.board.proofs.Board.load.Tie as tie
 abbrev start : tie.After-issue → tie.Start
 start c =
     c .before .before .before .before .before .before .before .before .before .before .before .before .before .before
-    .before
+    .before .before
+
+cast-issue : tie.Need-cast-issue
+cast-issue c = next-fits (c .before .before .before .before .before .before .before .before .before .pre)
 
 returns : tie.Need-returns
 returns c =
-    let s = start (c .before) in
+    let l = c .before in
+    let s = start (l .before) in
     let b = bare (modelOf (s .args .self)) in
     after-load (s .pre) (s .args .name .now) (s .args .bytes .now)
     refl
-    (loaded-whole b (s .args .name .now) (s .args .bytes .now) (c .load .ensures b (own-cards b) refl))
+    (loaded-whole b (s .args .name .now) (s .args .bytes .now) (l .load .ensures b (own-cards b) refl))
 
 pub load-spec : {M : Type 1} → statement M
-load-spec = tie.close (tie.spec (λ c κs. search needs) returns)
+load-spec = tie.close (tie.spec cast-issue (λ c κs. search needs) returns)

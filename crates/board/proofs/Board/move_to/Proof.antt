@@ -2,6 +2,8 @@
 use borrow.Author.Needs.{needs}
 use mir.Syntax.{w64}
 use mir.ValLaws.{toZ-ofZ}
+use Rattle.board.specs.Promise.{stateIn}
+use Rattle.board.proofs.Reaches.{same-pair}
 use Rattle.board.proofs.Board.move_to.Statement.{statement}
 use Rattle.board.proofs.Board.move_to.Tie as tie
 
@@ -9,8 +11,9 @@ returns : tie.Need-returns
 returns c =
     let m = c .before .before in
     let s = m .before .before .before .before in
-    rw (toZ-ofZ w64 (s .args .node) (s .fits .node), toZ-ofZ w64 (s .args .microvolts) (s .fits .microvolts)) at
-    (m .move-all .ensures)
+    same-pair (stateIn (s .args .self) (s .args .volts .now) (s .args .totals .now))
+    (toZ-ofZ w64 (s .args .node) (s .fits .node))
+    (toZ-ofZ w64 (s .args .microvolts) (s .fits .microvolts)) (m .move-all .ensures)
 
 pub move-to-spec : {M : Type 1} → statement M
 move-to-spec =

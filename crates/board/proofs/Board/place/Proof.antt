@@ -5,9 +5,9 @@ use borrow.Author.Needs.{needs}
 use mir.Syntax.{w64}
 use mir.ValLaws.{toZ-ofZ}
 use Rattle.terms.specs.Rows.{roles}
-use Rattle.board.specs.Promise.{modelOf, stateIn}
-use Rattle.board.proofs.Reaches.{after-place}
-use Rattle.board.proofs.Whole.{own-lends-places, placed-whole}
+use Rattle.board.specs.Promise.{modelOf}
+use Rattle.board.proofs.Reaches.{next-fits, after-place}
+use Rattle.board.proofs.Whole.{own-lends-places}
 use Rattle.board.proofs.Board.place.Statement.{statement}
 use Rattle.board.proofs.Board.place.Tie as tie
 
@@ -15,24 +15,24 @@ use Rattle.board.proofs.Board.place.Tie as tie
 abbrev start : tie.After-place-arg → tie.Start
 start c =
     c .before .before .before .before .before .before .before .before .before .before .before .before .before .before
-    .before .before .before .before .before .before .before .before .before .before
+    .before .before .before .before .before .before .before .before .before .before .before
 
 long : (c : tie.Start) → length (c .args .nodes) ≡ roles
 long c = search needs
+
+cast-next : tie.Need-cast-next
+cast-next c = next-fits (c .before .before .before .before .before .before .pre)
 
 place-requires : tie.Need-place-requires
 place-requires c κs = (modelOf (start c .args .self), start c .pre, own-lends-places (modelOf (start c .args .self)))
 
 returns : tie.Need-returns
 returns c =
-    let p = c .before in
+    let p = c .before .before in
     let s = start (p .before) in
-    let lent = p .place .ensures (modelOf (s .args .self)) (s .pre) (own-lends-places (modelOf (s .args .self))) in
-    let left = rw (toZ-ofZ w64 (s .args .card) (s .fits .card)) at lent in
-    after-place (s .pre) (s .args .volts .now) (s .args .totals .now) (s .args .card) (s .args .nodes) (long s)
-    (placed-whole (stateIn (s .args .self) (s .args .volts .now) (s .args .totals .now)) (s .args .card)
-    (s .args .nodes) left)
-    (left .totals-are)
+    after-place (s .args .self) (s .pre) (s .args .volts .now) (s .args .totals .now) (s .args .card) (s .args .nodes)
+    (long s) (toZ-ofZ w64 (s .args .card) (s .fits .card))
+    (p .place .ensures (modelOf (s .args .self)) (s .pre) (own-lends-places (modelOf (s .args .self))))
 
 pub place-spec : {M : Type 1} → statement M
-place-spec = tie.close (tie.spec place-requires (λ c. search needs) returns)
+place-spec = tie.close (tie.spec cast-next place-requires (λ c. search needs) returns)

@@ -10,7 +10,7 @@ use Rattle.rows.proofs.rows.outcome.Statement.{statement}
 use Rattle.rows.proofs.rows.outcome.Tie as tie
 
 abbrev start : tie.After-judged → tie.Start
-start c = c .before .before
+start c = c .before
 
 within : (c : tie.After-enum-told) → overUp (start (c .before .before) .args .x) branches 0 ≡ Within
 within c = sym (c .before .before .judged .ensures) ∙ c .enum-told .given .1
@@ -34,5 +34,5 @@ returns-3 c =
 pub outcome-spec : {M : Type 1} → statement M
 outcome-spec =
     tie.close
-    (tie.spec (λ c κs. search needs) (λ c κs. search needs) (λ c. search needs) all-divided-requires (λ c. search needs)
+    (tie.spec (λ c κs. search needs) (λ c. search needs) all-divided-requires (λ c. search needs)
     (λ c. search needs) returns returns-2 returns-3)

@@ -1,0 +1,2 @@
+-- The line of a clipped record.
+pub mod Clipped

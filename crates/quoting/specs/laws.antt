@@ -1,0 +1,2 @@
+-- What follows from the definitions of quoting lines.
+pub mod Rooms

@@ -1,0 +1,2 @@
+-- The lines of as many numbers as there are.
+pub mod Spaced
