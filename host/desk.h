@@ -35,7 +35,7 @@ extern "C" {
 #define DESK_NODES 32       /* numbers in a slice */
 #define DESK_BRANCHES 13    /* currents of a transistor */
 #define DESK_TRANSISTORS 64 /* as many as can stand on a node */
-#define DESK_STACK 102400
+#define DESK_STACK 65536
 
 /* The members are the library's own: its calls alone write them and tell what stands in them. They have names so that
    desk_move_in_place can lend them one by one; another version of the library may have others. */
