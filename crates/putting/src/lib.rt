@@ -1,4 +1,4 @@
-// Voltages and totals written to the lent slices.
+// Voltages written to a lent slice, and both slices cleared.
 ghost use mathlib.Core.Path.{_≡_};
 ghost use mathlib.Core.List.{map};
 ghost use lib.ListN.{length};
@@ -19,17 +19,6 @@ pub fn put_volts(volts: &mut [i64], will: &[u32; NODES])
     }
 }
 
-// Writes totals to one.
-pub fn put_totals(totals: &mut [i64], next: &[i64; NODES])
-    requires { ⌜ length (now totals) ≡ nodesMost ⌝ }
-    requires { ⌜ length (now next) ≡ nodesMost ⌝ }
-    ensures { λ _. ⌜ now (totals .exit) ≡ now (next .entry) ⌝ }
-{
-    for k in 0..NODES {
-        totals[k] = next[k];
-    }
-}
-
 // Sets every voltage and every total to 0, where both slices have 32 numbers; tells whether they have.
 pub fn clear(volts: &mut [i64], totals: &mut [i64]) -> bool
     ensures { λ r. ⌜ Clears (now (volts .entry)) (now (totals .entry)) r (now (volts .exit)) (now (totals .exit)) ⌝ }
@@ -38,7 +27,7 @@ pub fn clear(volts: &mut [i64], totals: &mut [i64]) -> bool
         return false;
     }
     let none = [0i64; NODES];
-    put_totals(volts, &none);
-    put_totals(totals, &none);
+    standing::put_totals(volts, &none);
+    standing::put_totals(totals, &none);
     true
 }

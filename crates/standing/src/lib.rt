@@ -1,11 +1,11 @@
-// Totals judged as they would stand.
+// Totals judged as they would stand, and written.
 ghost use mathlib.Core.Path.{_≡_};
 ghost use mathlib.Core.Bool.{true};
 ghost use lib.ListN.{length, replicate};
 ghost use lib.IntN.{pos, subℕ, _+ℤ_, _-ℤ_};
 ghost use Rattle.whole.specs.Signed.{signedSpan};
 ghost use Rattle.totals.specs.Gives.{nodesMost};
-ghost use Rattle.slices.specs.Slices.{raisedBy, standingAt, Stands};
+ghost use Rattle.slices.specs.Slices.{raisedBy, standingAt, Stands, StandsIn};
 use slices::Total;
 use totals::NODES;
 use whole::Int;
@@ -86,13 +86,37 @@ pub fn stand_all(
     true
 }
 
-// The same where nothing comes and nothing goes: each total stands as it is.
-pub fn stand_still(next: &mut [i64; NODES], totals: &[i64])
+// Writes totals to a slice of 32.
+pub fn put_totals(totals: &mut [i64], next: &[i64; NODES])
     requires { ⌜ length (now totals) ≡ nodesMost ⌝ }
-    ensures { λ _. ⌜ Stands (now (totals .entry)) (replicate nodesMost (pos 0)) (replicate nodesMost (pos 0)) true (now (next .exit)) ⌝ }
+    requires { ⌜ length (now next) ≡ nodesMost ⌝ }
+    ensures { λ _. ⌜ now (totals .exit) ≡ now (next .entry) ⌝ }
 {
-    *next = [0i64; NODES];
     for k in 0..NODES {
-        next[k] = totals[k];
+        totals[k] = next[k];
+    }
+}
+
+// Each of 32 totals judged so, and all of them written where none leaves the 64-bit range.
+pub fn stand_in(totals: &mut [i64], coming: &[i64; NODES], going: &[i64; NODES]) -> bool
+    requires { ⌜ length (now totals) ≡ nodesMost ⌝ }
+    ensures { λ r. ⌜ StandsIn (now (totals .entry)) (now (coming .entry)) (now (going .entry)) r (now (totals .exit)) ⌝ }
+{
+    let mut next = [0i64; NODES];
+    if !stand_all(&mut next, totals, coming, going) {
+        return false;
+    }
+    put_totals(totals, &next);
+    true
+}
+
+// The same where nothing comes and nothing goes: each total stands as it is. All that is to be known is that it is in its
+// range, as every number is that can be read; of the reading the compiler leaves nothing.
+pub fn stand_still(totals: &[i64])
+    requires { ⌜ length (now totals) ≡ nodesMost ⌝ }
+    ensures { λ _. ⌜ StandsIn (now (totals .entry)) (replicate nodesMost (pos 0)) (replicate nodesMost (pos 0)) true (now (totals .entry)) ⌝ }
+{
+    for k in 0..NODES {
+        let total = totals[k];
     }
 }
