@@ -4,8 +4,8 @@ use mathlib.Core.Bool.{Bool, true, false, cond, not}
 use mathlib.Core.List.{List, map}
 use Prim.Native.Nat.{ℕ, _<_}
 use native.Mathlib.Omega.{arith}
-use lib.ListN.{length, getD, replicate, length-replicate}
-use lib.IntN.{ℤ, pos}
+use lib.ListN.{length, getD}
+use lib.IntN.{ℤ}
 use Rattle.refusal.specs.declared.Refusal.{Refusal}
 use Rattle.refusal.specs.declared.Refusal.the-variants.{Malformed, OutOfReach, OutOfRange}
 use Rattle.refusal.specs.Clash.{clash}
@@ -29,13 +29,13 @@ use Rattle.settle.specs.laws.Renewals.{renewed-same}
 use Rattle.model.specs.Board.{Board, Answered}
 use Rattle.model.specs.declared.Answer.{Answer}
 use Rattle.model.specs.declared.Answer.the-variants.{Done, Refused}
-use Rattle.model.specs.Counts.{nodesMost, transistorsMost}
+use Rattle.model.specs.Counts.{transistorsMost}
 use Rattle.model.specs.Verdict.{moveVerdict}
 use Rattle.model.specs.Model.{transistorAt, workedOn, shifted, touched, firstOver, gains, currentThen, heldThen}
 use Rattle.model.specs.Model.{moved, movedOf}
 use Rattle.model.specs.Model as old
 use Rattle.model.proofs.Shifts.{shifted-long, shifted-near}
-use Rattle.model.proofs.Gains.{more-long, same-more, touched-stands}
+use Rattle.model.proofs.Gains.{same-more, touched-stands}
 use Rattle.model.proofs.Footing.{Ground}
 use Rattle.model.proofs.Lent.{deckIn, stands-there, nodes-there, held-there, held-small, worked-there, able-at}
 use Rattle.lending.specs.Rest.{Rest, State, boardIn}
