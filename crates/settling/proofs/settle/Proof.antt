@@ -11,7 +11,7 @@ returns c =
 settle-from-requires : tie.Need-settle-from-requires
 settle-from-requires c κs =
     let n = c .before .before .before .before .before in
-    begins _ _ (n .before .lay-table .ensures) (n .before .before .before .before .pre) _ (n .next-in .ensures)
+    begins _ _ (n .before .table .ensures) (n .before .before .before .pre) _ (n .next-in .ensures)
 
 returns-2 : tie.Need-returns-2
 returns-2 c =
