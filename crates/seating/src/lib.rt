@@ -45,8 +45,7 @@ pub fn place(
     match way {
         Way::Stop(f) => Answer::Refused(f),
         Way::Go(at, free) => {
-            let mut table = [0u32; octave::ENTRIES];
-            octave::lay_table(&mut table);
+            let table = octave::table();
             let o = settle::work(&table, numbers, powers, ticks, switches, at, &on, &kept);
             let own = o.ticks;
             let over = o.over;

@@ -136,8 +136,7 @@ pub fn settle(
         standing::stand_still(totals);
         return Judgement { first, fits: true };
     }
-    let mut table = [0u32; octave::ENTRIES];
-    octave::lay_table(&mut table);
+    let table = octave::table();
     let mut coming = [0i64; NODES];
     let mut going = [0i64; NODES];
     let i = sets::next_in(set, 0);

@@ -46,7 +46,7 @@ abbrev went : tie.After-known-told2 → tie.After-may-place
 went c = c .before .before .before
 
 abbrev known : tie.After-work → tie.After-known-told2
-known c = c .before .before .before .before .before .before
+known c = c .before .before .before .before .before
 
 abbrev worked : tie.After-put-in → tie.After-work
 worked c = c .before .before .before .before .before
@@ -154,13 +154,13 @@ returns c =
 work-requires : tie.Need-work-requires
 work-requires c κs =
     let t = c .before .before .before in
-    let k = t .before .before in
+    let k = t .before in
     let m = went k in
     let s = begun m in
     let p = s .pre in
     lent-works (p .2) (p .1) (s .args .volts .now) (s .args .totals .now) (s .args .card) (s .args .roles)
     (good (tested m)) (seen-is m) (long m) (asked m .nodes-of .ensures) (way-is m) (k .before .way2 .given .1)
-    (kept-are m) _ (t .lay-table .ensures)
+    (kept-are m) _ (t .table .ensures)
 
 put-in-requires : tie.Need-put-in-requires
 put-in-requires c κs =

@@ -10,7 +10,7 @@ returns c = settled-none _ _ (c .before .before .if1 .taken) (c .stand-still .en
 settle-from-requires : tie.Need-settle-from-requires
 settle-from-requires c κs =
     let n = c .before .before .before .before .before in
-    begins _ _ (n .before .lay-table .ensures) (n .before .before .before .before .pre) _ (n .next-in .ensures)
+    begins _ _ (n .before .table .ensures) (n .before .before .before .pre) _ (n .next-in .ensures)
 
 same-length-2 : tie.Need-same-length-2
 same-length-2 c =
