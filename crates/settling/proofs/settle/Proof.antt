@@ -15,7 +15,7 @@ settle-from-requires c κs =
 same-length-2 : tie.Need-same-length-2
 same-length-2 c =
     let n = c .before .before .before .before .before .before .before in
-    settled-long _ _ (n .before .before .before .before .pre .long) (c .before .settle-from .ensures)
+    settled-long _ _ (n .before .before .before .pre .long) (c .before .settle-from .ensures)
 
 returns-2 : tie.Need-returns-2
 returns-2 c =
