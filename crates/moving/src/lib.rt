@@ -71,7 +71,7 @@ pub fn move_all(
         set,
     );
     if settle::is_taken(told) {
-        putting::put_volts(volts, &will);
+        pairs::put_pairs(volts, pairs);
     }
     answer_to(told)
 }

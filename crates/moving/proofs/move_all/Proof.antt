@@ -5,6 +5,7 @@ use mathlib.Core.Bool.{Bool, true, false, not}
 use mathlib.Core.List.{List, map}
 use mathlib.Core.Logic.{_⊎_, inl, inr, ⊎-elim}
 use Prim.Native.Nat.{ℕ}
+use lib.IntN.{ℤ}
 use lib.ListN.{length, length-map}
 use borrow.Author.Needs.{needs}
 use borrow.Author.Tests.{not-true, not-false}
@@ -12,12 +13,14 @@ use Rattle.refusal.specs.Clash.{clash}
 use Rattle.volts.specs.Volts.{givenBack, keptAs}
 use Rattle.given.specs.Pairs.{arePairs, somePairOff, shiftsOf}
 use Rattle.slices.specs.Slices.{offSlices}
-use Rattle.slices.proofs.Keeping.{slices-off, slices-on, volts-long, totals-long}
+use Rattle.slices.proofs.Keeping.{slices-off, slices-on, volts-long, totals-long, volts-on, all-back}
 use Rattle.flows.specs.inner.Workable.{deckOf}
 use Rattle.settle.specs.inner.Working.{roundOf, isTaken, Settling}
 use Rattle.settle.proofs.Going.{settled-long}
 use Rattle.model.specs.Counts.{nodesMost}
+use Rattle.model.specs.Desk.{movedTo}
 use Rattle.model.specs.Model.{shifted}
+use Rattle.model.proofs.Shifts.{shifted-back}
 use Rattle.moving.proofs.Moving.{lent-turned, lent-malformed, lent-off, lent-settling, lent-taken, lent-left}
 use Rattle.moving.proofs.Moving.{levels-as}
 use Rattle.moving.proofs.move_all.Statement.{statement}
@@ -111,9 +114,20 @@ long c =
     let good = slices-good (turned-not (tested (c .before))) .0 in
     (volts-long (a .volts .now) (a .totals .now) good, totals-long (a .volts .now) (a .totals .now) good)
 
-put-volts-requires : tie.Need-put-volts-requires
-put-volts-requires c κs =
-    let n = named (told (c .before .before .before) .before) in (long (n .before) .0, ready n .will-are .long)
+put-pairs-requires : tie.Need-put-pairs-requires
+put-pairs-requires c κs =
+    let e = named (told (c .before .before) .before) .before in (long e .0, none-off e)
+
+-- the voltages kept, given back, are those of the slice moved to the pairs'
+back-is : (c : tie.Else3) →
+    let a = entry c .args in
+    map givenBack (c .before .keep-pairs .last .0) ≡ movedTo (a .volts .now) (shiftsOf (a .pairs .now))
+back-is c =
+    let a = entry c .args in
+    let good = slices-good (turned-not (tested (c .before))) .0 in
+    ap (map givenBack) (will-is c) ∙ shifted-back (a .pairs .now) (map keptAs (a .volts .now)) (none-off c)
+    ∙ ap (λ (l : List ℤ). movedTo l (shiftsOf (a .pairs .now)))
+    (all-back (a .volts .now) (volts-on (a .volts .now) (a .totals .now) good))
 
 -- what stands in the slice of voltages then
 stand-then : (c : tie.Joined4) →
@@ -124,7 +138,9 @@ stand-then : (c : tie.Joined4) →
     ⊎ ((isTaken (t .settle .result) ≡ false) × (c .if4 .volts ≡ a .volts .now))
 stand-then c =
     let i = c .before .is-taken .ensures in
-    ⊎-elim (λ w. inl (sym i ∙ w .0 .taken, w .5 ∙ w .3 .ensures)) (λ w. inr (sym i ∙ w .0 .left, w .1)) (c .if4 .came)
+    let e = named (told (c .before) .before) .before in
+    ⊎-elim (λ w. inl (sym i ∙ w .0 .taken, w .4 ∙ w .2 .ensures ∙ sym (back-is e)))
+    (λ w. inr (sym i ∙ w .0 .left, w .1)) (c .if4 .came)
 
 same-length-7 : tie.Need-same-length-7
 same-length-7 c =
@@ -161,5 +177,5 @@ move-all-spec =
     (tie.spec (λ c κs. search needs) (λ c. search needs) (λ c. search needs) returns (λ c κs. search needs)
     (λ c. search needs) (λ c. search needs) returns-2 (λ c κs. search needs) (λ c. search needs) (λ c. search needs)
     returns-3 (λ c κs. none-off c)
-    (λ c κs. ready (named c)) (λ c κs. search needs) put-volts-requires (λ c κs. search needs)
+    (λ c κs. ready (named c)) (λ c κs. search needs) put-pairs-requires (λ c κs. search needs)
     same-length-7 same-length-8 returns-4)
