@@ -51,11 +51,11 @@ pub fn put_pairs(volts: &mut [i64], pairs: &[i64])
     requires { ⌜ somePairOff (now pairs) ≡ false ⌝ }
     ensures { λ _. ⌜ now (volts .exit) ≡ movedTo (now (volts .entry)) (shiftsOf (now (pairs .entry))) ⌝ }
 {
-    let mut i: usize = 0;
-    while i + 1 < pairs.len() {
-        let at = given::node_of(pairs[i]) as usize;
-        volts[at] = pairs[i + 1];
-        i += 2;
+    let mut k: usize = 0;
+    while k + 1 < pairs.len() {
+        let at = given::node_of(pairs[k]) as usize;
+        volts[at] = pairs[k + 1];
+        k += 2;
     }
 }
 
@@ -65,11 +65,11 @@ pub fn naming_any(naming: &[u64; NODES], pairs: &[i64]) -> u64
     ensures { λ r. ⌜ NamesAny (now (pairs .entry)) (now (naming .entry)) r ⌝ }
 {
     let mut set: u64 = 0;
-    let mut i: usize = 0;
-    while i + 1 < pairs.len() {
-        let named = given::node_of(pairs[i]) as usize;
+    let mut k: usize = 0;
+    while k + 1 < pairs.len() {
+        let named = given::node_of(pairs[k]) as usize;
         set = set | naming[named];
-        i += 2;
+        k += 2;
     }
     set
 }
