@@ -24,15 +24,14 @@ use types.Part.{whole, sub, look-in}
 use types.SemTy.{Body}
 use sound.WpLaws.{FmC, fmOf, WpFn-mono}
 use denote.RattleType.{owns}
-use denote.Laws.{Is, shows}
+use denote.Laws.{Is}
 use denote.Memory.{mem}
 use denote.Plain.{uint-makes}
 use denote.Builtin.{u8, u32}
 use denote.Ref.{RefT, MutRef, ptr-vals, mut-tells}
 use denote.Slice.{sliceVal, ShrSlice, Room, slice-vals, shr-slice-tells}
 use denote.Signature.{plain, shrSliceOf}
-use denote.Steps.{opens, closes, owned, peeks, heard, nothing}
-use denote.Struct.Steps.{spelt}
+use denote.Steps.{owned, heard, nothing}
 use denote.Triple.Entry.{onEntry}
 use denote.Triple.Spec.{Meets, tripleOf}
 use denote.Triple.Statement.{Contract, Triple}
@@ -46,12 +45,10 @@ use Rattle.lending.specs.Rest.{bare}
 use Rattle.board.specs.Promise.{modelOf, Reached}
 use Rattle.host_changes.specs.Changes.{Loaded}
 use Rattle.host_lines.specs.Lines.{lineLoadedOf}
-use denote.Struct.Laws as LL
 use Rattle.board.specs.declared.Board.{Board}
 use Rattle.board.proofs.Board as B
-use Rattle.board.proofs.Board.Laws as B′
 use Rattle.host.proofs.Locals.{begins, ends}
-use Rattle.host.proofs.Parts.{mach, tells, typed, outcome-tells, parts}
+use Rattle.host.proofs.Parts.{mach, IsBoard, typed, made, outcome-typed, outcome-tells, parts, gave, opened, closed}
 use Rattle.host_changes.specs.declared.Outcome as outcome
 use Rattle.host_changes.proofs.Outcome as O
 use Rattle.host_changes.proofs.Outcome.Laws as O′
@@ -94,11 +91,11 @@ module _ {M : Type 1} (𝓤 : URA M) (H : Heap 𝓤) (A : Atoms 𝓤) (W : Given
   abbrev Rest-owned : Fml
   Rest-owned = owns (ShrSlice (named 1) κ1 u8 ∷ MutRef (named 2) κ2 u32 ∷ []) rest rest-vals
 
-  hands-over : Is B.the-row was (mach was ∷ []) → Reached was → ent 𝓤 (sep 𝓤 (sep 𝓤 (A .lft κ1 q1) (sep 𝓤 (A .lft κ2 q2) (sem 𝓤 H A ftrue))) (sem 𝓤 H A Rest-owned)) (Worker 𝓤 H A at-mem run .pre to-worker)
+  hands-over : IsBoard was → Reached was → ent 𝓤 (sep 𝓤 (sep 𝓤 (A .lft κ1 q1) (sep 𝓤 (A .lft κ2 q2) (sem 𝓤 H A ftrue))) (sem 𝓤 H A Rest-owned)) (Worker 𝓤 H A at-mem run .pre to-worker)
   hands-over g reached =
       qed W ((‵ (flft κ1 q1) ⊛ ‵ (flft κ2 q2) ⊛ ‵ ftrue) ∷ ‵ Rest-owned ∷ []) ∵
       says ! reached $ frame ! $
-      owned ! B.the-row (Is B.the-row) (LL.makes B.the-type B′.the-plain 𝓤 H A) was _ g $ fjoin ! $ done !
+      made ! was g $ fjoin ! $ done !
 
   at-end : (r : outcome.Outcome) → r .code < 2 ^ 32 → ent 𝓤 (⋆ 𝓤 H A (raw (ensured 𝓤 H A worker.ended (worker.clauses 𝓤 H A at-mem run) (κ1, (κ2, tt)) (was, rest) tt r) ∷ ‵ (fobs γ (B.the-row .coded .code (r .board))) ∷ ‵ (fbor κ0 (Body (mem B.the-row) b o γ)) ∷ ‵ (flft κ0 q0) ∷ (‵ (flft κ1 q1) ⊛ ‵ (flft κ2 q2) ⊛ ‵ ftrue) ∷ [])) (Post (vint w32 (r .code)))
   at-end r small =
@@ -139,40 +136,32 @@ module _ {M : Type 1} (𝓤 : URA M) (H : Heap 𝓤) (A : Atoms 𝓤) (W : Given
         move ! (11 ∷ []) $
         split ! $
         move ! (2 ∷ 3 ∷ 0 ∷ []) $
-        opens ! tt B.the-row {h = was} b o (λ vs.
-        spelt ! B.the-row (Is B.the-row) (shows 𝓤 H A B.the-row) (λ x. mach x ∷ []) tells fullShare was vs b o $
-        move ! (1 ∷ []) $
-        peeks ! B.the-row (Is B.the-row) (shows 𝓤 H A B.the-row) was (mach was ∷ []) (λ g.
-        move ! (1 ∷ 0 ∷ []) $
-        assigns ! (of-opd ! (load ! (from ! (hop ! (look ! 8 refl) (stop !))) (look-raw ! 0 refl))) (from ! (stop !))
-        (init ! 12 refl (typed W was g)) $
+        opened ! tt was b o (λ g.
+        assigns ! (of-opd ! (load ! (from ! (hop ! (look ! 7 refl) (stop !))) (look-raw ! 0 refl))) (from ! (stop !))
+        (init ! 11 refl (typed W was g)) $
         -- what is lent goes on to the worker
-        assigns ! (addr ! (from ! (hop ! (look ! 10 refl) (stop !)))) (from ! (stop !)) (init ! 13 refl (tt, tt)) $
-        move ! (5 ∷ 6 ∷ []) $
+        assigns ! (addr ! (from ! (hop ! (look ! 9 refl) (stop !)))) (from ! (stop !)) (init ! 12 refl (tt, tt)) $
+        move ! (4 ∷ 5 ∷ []) $
         use2 W (raw (Worker 𝓤 H A at-mem run .pre to-worker)) (hands-over g reached) $
-        calls-at ! fm (Worker 𝓤 H A at-mem run) known to-worker (and-then ! (load ! (from ! (stop !)) (look ! 11 refl)) (and-then ! (load ! (from ! (stop !)) (look ! 8 refl)) (and-then ! (load ! (from ! (stop !)) (look ! 12 refl)) (no-more !)))) (λ w.
+        calls-at ! fm (Worker 𝓤 H A at-mem run) known to-worker (and-then ! (load ! (from ! (stop !)) (look ! 10 refl)) (and-then ! (load ! (from ! (stop !)) (look ! 7 refl)) (and-then ! (load ! (from ! (stop !)) (look ! 11 refl)) (no-more !)))) (λ w.
         use1 W (later (some (λ (r : outcome.Outcome). ((‵ (flft κ1 q1) ⊛ ‵ (flft κ2 q2) ⊛ ‵ ftrue) ⊛ ‵ (O.the-row .own r (w ∷ []))) ⊛ raw (ensured 𝓤 H A worker.ended (worker.clauses 𝓤 H A at-mem run) (κ1, (κ2, tt)) (was, rest) tt r)))) (id⊢ 𝓤 _) $
         await ! tt $ pick ! (λ r.
         split ! $
         split ! $
         move ! (1 ∷ []) $
-        peeks ! O.the-row (Is O.the-row) (shows 𝓤 H A O.the-row) r (w ∷ []) (λ is.
-        land ! (from ! (stop !)) (init ! 12 refl (LL.lawful O.the-type O′.the-laws 𝓤 H A W .typed r _ is .0)) $
-        rewrite ! 12 (λ (u : Val). ‵ (fat fullShare O′.mir (at-local .1 .1 .1 .1 .0) 0 u)) (outcome-tells r w is) refl $
+        gave ! r w (λ is.
+        land ! (from ! (stop !)) (init ! 10 refl (outcome-typed W r w is)) $
+        rewrite ! 10 (λ (u : Val). ‵ (fat fullShare O′.mir (at-local .1 .1 .1 .1 .0) 0 u)) (outcome-tells r w is) refl $
         -- the board that it gave is written back, and the reference closed
-        assigns ! (of-opd ! (load ! (from ! (fld ! refl (stop !))) (look-in ! 12 (sub ! 0 refl (whole !))))) (from ! (hop ! (look ! 9 refl) (stop !)))
-        (store-raw ! 3 refl (typed W (r .board) (parts r w is .0))) $
-        assigns ! (of-opd ! (load ! (from ! (fld ! refl (stop !))) (look-in ! 12 (sub ! 1 refl (whole !))))) (from ! (stop !)) (init ! 8 refl (tt, record { fits = parts r w is .1 })) $
-        drop ! $
-        move ! (3 ∷ []) $
-        drop ! $
-        owned ! B.the-row (Is B.the-row) (LL.makes B.the-type B′.the-plain 𝓤 H A) (r .board) _ (parts r w is .0) $
-        move ! (3 ∷ 0 ∷ 4 ∷ 5 ∷ 6 ∷ []) $
-        closes ! tt B.the-row (r .board) (mach (r .board) ∷ []) b o $
+        assigns ! (of-opd ! (load ! (from ! (fld ! refl (stop !))) (look-in ! 10 (sub ! 0 refl (whole !))))) (from ! (hop ! (look ! 7 refl) (stop !)))
+        (store-raw ! 2 refl (typed W (r .board) (parts r w is .0))) $
+        assigns ! (of-opd ! (load ! (from ! (fld ! refl (stop !))) (look-in ! 10 (sub ! 1 refl (whole !))))) (from ! (stop !)) (init ! 6 refl (tt, record { fits = parts r w is .1 })) $
+        move ! (2 ∷ 3 ∷ 4 ∷ 5 ∷ []) $
+        closed ! tt (r .board) (parts r w is .0) b o $
         -- the locals are given up
         returns ! (look ! 5 refl) $
         ends ! 5 (W .laws .at-room _ _ _ _, (W .laws .at-room _ _ _ _, (W .laws .at-room _ _ _ _, (W .laws .at-room _ _ _ _, (W .laws .at-room _ _ _ _, (W .laws .at-room _ _ _ _, (W .laws .at-room _ _ _ _, id⊢ 𝓤 _))))))) $
-        keep ! (4 ∷ 0 ∷ 1 ∷ 2 ∷ 3 ∷ []) $ by ! (at-end r (parts r w is .1))))))))
+        keep ! (4 ∷ 0 ∷ 1 ∷ 2 ∷ 3 ∷ []) $ by ! (at-end r (parts r w is .1)))))))
 
 module _ {M : Type 1} (𝓤 : URA M) (H : Heap 𝓤) (A : Atoms 𝓤) (W : Given 𝓤 H A) (mem : Memory → SProp 𝓤) (run : Routine → Fun 𝓤) where
   walks : (C : Calls 𝓤 H) (Λ : Loops 𝓤 H) → FmC 𝓤 H (W .laws) C → Triple 𝓤 (C #worker) (Worker 𝓤 H A mem run) → Walks 𝓤 H A own.ended stayed (WpFn 𝓤 H C Λ code.function) (own.clauses 𝓤 H A mem run)

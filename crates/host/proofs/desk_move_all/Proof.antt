@@ -25,15 +25,14 @@ use types.Part.{agg, whole, sub, look-in}
 use types.SemTy.{Body}
 use sound.WpLaws.{FmC, fmOf, WpFn-mono}
 use denote.RattleType.{owns}
-use denote.Laws.{Is, shows}
+use denote.Laws.{Is}
 use denote.Memory.{mem}
 use denote.Plain.{uint-makes}
 use denote.Builtin.{u32, i64}
 use denote.Ref.{RefT, MutRef, ptr-vals, mut-tells}
 use denote.Slice.{sliceVal, MutSlice, ShrSlice, Room, slice-vals, mut-slice-tells, shr-slice-tells}
 use denote.Signature.{plain, shrSliceOf}
-use denote.Steps.{opens, closes, owned, peeks, heard, nothing}
-use denote.Struct.Steps.{spelt}
+use denote.Steps.{owned, heard, nothing}
 use denote.Triple.Entry.{onEntry}
 use denote.Triple.Spec.{Meets, tripleOf}
 use denote.Triple.Statement.{Contract, Triple}
@@ -46,12 +45,10 @@ use denote.Exit.{yes}
 use Rattle.lending.specs.Lending.{movedLent}
 use Rattle.board.specs.Promise.{stateIn, Reached}
 use Rattle.host_moves.specs.Moves.{Moved}
-use denote.Struct.Laws as LL
 use Rattle.board.specs.declared.Board.{Board}
 use Rattle.board.proofs.Board as B
-use Rattle.board.proofs.Board.Laws as B′
 use Rattle.host.proofs.Locals.{begins, ends}
-use Rattle.host.proofs.Parts.{mach, tells, typed, outcome-tells, parts}
+use Rattle.host.proofs.Parts.{mach, IsBoard, typed, made, outcome-typed, outcome-tells, parts, gave, opened, closed}
 use Rattle.host_changes.specs.declared.Outcome as outcome
 use Rattle.host_changes.proofs.Outcome as O
 use Rattle.host_changes.proofs.Outcome.Laws as O′
@@ -94,11 +91,11 @@ module _ {M : Type 1} (𝓤 : URA M) (H : Heap 𝓤) (A : Atoms 𝓤) (W : Given
   abbrev Rest-owned : Fml
   Rest-owned = owns (MutSlice (named 1) κ1 i64 ∷ MutSlice (named 2) κ2 i64 ∷ ShrSlice (named 3) κ3 i64 ∷ MutRef (named 4) κ4 u32 ∷ MutRef (named 5) κ5 u32 ∷ []) rest rest-vals
 
-  hands-over : Is B.the-row was (mach was ∷ []) → Reached was → ent 𝓤 (sep 𝓤 (sep 𝓤 (A .lft κ1 q1) (sep 𝓤 (A .lft κ2 q2) (sep 𝓤 (A .lft κ3 q3) (sep 𝓤 (A .lft κ4 q4) (sep 𝓤 (A .lft κ5 q5) (sem 𝓤 H A ftrue)))))) (sem 𝓤 H A Rest-owned)) (Worker 𝓤 H A at-mem run .pre to-worker)
+  hands-over : IsBoard was → Reached was → ent 𝓤 (sep 𝓤 (sep 𝓤 (A .lft κ1 q1) (sep 𝓤 (A .lft κ2 q2) (sep 𝓤 (A .lft κ3 q3) (sep 𝓤 (A .lft κ4 q4) (sep 𝓤 (A .lft κ5 q5) (sem 𝓤 H A ftrue)))))) (sem 𝓤 H A Rest-owned)) (Worker 𝓤 H A at-mem run .pre to-worker)
   hands-over g reached =
       qed W ((‵ (flft κ1 q1) ⊛ ‵ (flft κ2 q2) ⊛ ‵ (flft κ3 q3) ⊛ ‵ (flft κ4 q4) ⊛ ‵ (flft κ5 q5) ⊛ ‵ ftrue) ∷ ‵ Rest-owned ∷ []) ∵
       says ! reached $ frame ! $
-      owned ! B.the-row (Is B.the-row) (LL.makes B.the-type B′.the-plain 𝓤 H A) was _ g $ fjoin ! $ done !
+      made ! was g $ fjoin ! $ done !
 
   at-end : (r : outcome.Outcome) → r .code < 2 ^ 32 → ent 𝓤 (⋆ 𝓤 H A (raw (ensured 𝓤 H A worker.ended (worker.clauses 𝓤 H A at-mem run) (κ1, (κ2, (κ3, (κ4, (κ5, tt))))) (was, rest) tt r) ∷ ‵ (fobs γ (B.the-row .coded .code (r .board))) ∷ ‵ (fbor κ0 (Body (mem B.the-row) b o γ)) ∷ ‵ (flft κ0 q0) ∷ (‵ (flft κ1 q1) ⊛ ‵ (flft κ2 q2) ⊛ ‵ (flft κ3 q3) ⊛ ‵ (flft κ4 q4) ⊛ ‵ (flft κ5 q5) ⊛ ‵ ftrue) ∷ [])) (Post (vint w32 (r .code)))
   at-end r small =
@@ -157,47 +154,39 @@ module _ {M : Type 1} (𝓤 : URA M) (H : Heap 𝓤) (A : Atoms 𝓤) (W : Given
         move ! (19 ∷ []) $
         split ! $
         move ! (2 ∷ 3 ∷ 0 ∷ []) $
-        opens ! tt B.the-row {h = was} b o (λ vs.
-        spelt ! B.the-row (Is B.the-row) (shows 𝓤 H A B.the-row) (λ x. mach x ∷ []) tells fullShare was vs b o $
-        move ! (1 ∷ []) $
-        peeks ! B.the-row (Is B.the-row) (shows 𝓤 H A B.the-row) was (mach was ∷ []) (λ g.
-        move ! (1 ∷ 0 ∷ []) $
-        assigns ! (of-opd ! (load ! (from ! (hop ! (look ! 8 refl) (stop !))) (look-raw ! 0 refl))) (from ! (stop !))
-        (init ! 15 refl (typed W was g)) $
+        opened ! tt was b o (λ g.
+        assigns ! (of-opd ! (load ! (from ! (hop ! (look ! 7 refl) (stop !))) (look-raw ! 0 refl))) (from ! (stop !))
+        (init ! 14 refl (typed W was g)) $
         -- what is lent goes on to the worker
-        assigns ! (addr ! (from ! (fld ! refl (hop ! (look-in ! 9 (sub ! 0 refl (whole !))) (stop !))))) (from ! (stop !)) (init ! 16 refl (tt, tt)) $
-        assigns ! (agg ! (and-then ! (load ! (from ! (stop !)) (look ! 16 refl)) (and-then ! (load ! (from ! (fld ! refl (stop !))) (look-in ! 9 (sub ! 1 refl (whole !)))) (no-more !))))
-        (from ! (stop !)) (init ! 17 refl (tt, (tt, (record { fits = fits-volts .0 }, tt)))) $
-        assigns ! (addr ! (from ! (fld ! refl (hop ! (look-in ! 10 (sub ! 0 refl (whole !))) (stop !))))) (from ! (stop !)) (init ! 18 refl (tt, tt)) $
-        assigns ! (agg ! (and-then ! (load ! (from ! (stop !)) (look ! 18 refl)) (and-then ! (load ! (from ! (fld ! refl (stop !))) (look-in ! 10 (sub ! 1 refl (whole !)))) (no-more !))))
-        (from ! (stop !)) (init ! 19 refl (tt, (tt, (record { fits = fits-totals .0 }, tt)))) $
+        assigns ! (addr ! (from ! (fld ! refl (hop ! (look-in ! 8 (sub ! 0 refl (whole !))) (stop !))))) (from ! (stop !)) (init ! 15 refl (tt, tt)) $
+        assigns ! (agg ! (and-then ! (load ! (from ! (stop !)) (look ! 15 refl)) (and-then ! (load ! (from ! (fld ! refl (stop !))) (look-in ! 8 (sub ! 1 refl (whole !)))) (no-more !))))
+        (from ! (stop !)) (init ! 16 refl (tt, (tt, (record { fits = fits-volts .0 }, tt)))) $
+        assigns ! (addr ! (from ! (fld ! refl (hop ! (look-in ! 9 (sub ! 0 refl (whole !))) (stop !))))) (from ! (stop !)) (init ! 17 refl (tt, tt)) $
+        assigns ! (agg ! (and-then ! (load ! (from ! (stop !)) (look ! 17 refl)) (and-then ! (load ! (from ! (fld ! refl (stop !))) (look-in ! 9 (sub ! 1 refl (whole !)))) (no-more !))))
+        (from ! (stop !)) (init ! 18 refl (tt, (tt, (record { fits = fits-totals .0 }, tt)))) $
+        assigns ! (addr ! (from ! (hop ! (look ! 11 refl) (stop !)))) (from ! (stop !)) (init ! 19 refl (tt, tt)) $
         assigns ! (addr ! (from ! (hop ! (look ! 12 refl) (stop !)))) (from ! (stop !)) (init ! 20 refl (tt, tt)) $
-        assigns ! (addr ! (from ! (hop ! (look ! 13 refl) (stop !)))) (from ! (stop !)) (init ! 21 refl (tt, tt)) $
-        move ! (5 ∷ 6 ∷ []) $
+        move ! (4 ∷ 5 ∷ []) $
         use2 W (raw (Worker 𝓤 H A at-mem run .pre to-worker)) (hands-over g reached) $
-        calls-at ! fm (Worker 𝓤 H A at-mem run) known to-worker (and-then ! (load ! (from ! (stop !)) (look ! 14 refl)) (and-then ! (load ! (from ! (stop !)) (look ! 16 refl)) (and-then ! (load ! (from ! (stop !)) (look ! 18 refl)) (and-then ! (load ! (from ! (stop !)) (look ! 10 refl)) (and-then ! (load ! (from ! (stop !)) (look ! 19 refl)) (and-then ! (load ! (from ! (stop !)) (look ! 20 refl)) (no-more !))))))) (λ w.
+        calls-at ! fm (Worker 𝓤 H A at-mem run) known to-worker (and-then ! (load ! (from ! (stop !)) (look ! 13 refl)) (and-then ! (load ! (from ! (stop !)) (look ! 15 refl)) (and-then ! (load ! (from ! (stop !)) (look ! 17 refl)) (and-then ! (load ! (from ! (stop !)) (look ! 9 refl)) (and-then ! (load ! (from ! (stop !)) (look ! 18 refl)) (and-then ! (load ! (from ! (stop !)) (look ! 19 refl)) (no-more !))))))) (λ w.
         use1 W (later (some (λ (r : outcome.Outcome). ((‵ (flft κ1 q1) ⊛ ‵ (flft κ2 q2) ⊛ ‵ (flft κ3 q3) ⊛ ‵ (flft κ4 q4) ⊛ ‵ (flft κ5 q5) ⊛ ‵ ftrue) ⊛ ‵ (O.the-row .own r (w ∷ []))) ⊛ raw (ensured 𝓤 H A worker.ended (worker.clauses 𝓤 H A at-mem run) (κ1, (κ2, (κ3, (κ4, (κ5, tt))))) (was, rest) tt r)))) (id⊢ 𝓤 _) $
         await ! tt $ pick ! (λ r.
         split ! $
         split ! $
         move ! (1 ∷ []) $
-        peeks ! O.the-row (Is O.the-row) (shows 𝓤 H A O.the-row) r (w ∷ []) (λ is.
-        land ! (from ! (stop !)) (init ! 15 refl (LL.lawful O.the-type O′.the-laws 𝓤 H A W .typed r _ is .0)) $
-        rewrite ! 15 (λ (u : Val). ‵ (fat fullShare O′.mir (at-local .1 .1 .1 .1 .1 .1 .1 .0) 0 u)) (outcome-tells r w is) refl $
+        gave ! r w (λ is.
+        land ! (from ! (stop !)) (init ! 13 refl (outcome-typed W r w is)) $
+        rewrite ! 13 (λ (u : Val). ‵ (fat fullShare O′.mir (at-local .1 .1 .1 .1 .1 .1 .1 .0) 0 u)) (outcome-tells r w is) refl $
         -- the board that it gave is written back, and the reference closed
-        assigns ! (of-opd ! (load ! (from ! (fld ! refl (stop !))) (look-in ! 15 (sub ! 0 refl (whole !))))) (from ! (hop ! (look ! 9 refl) (stop !)))
-        (store-raw ! 3 refl (typed W (r .board) (parts r w is .0))) $
-        assigns ! (of-opd ! (load ! (from ! (fld ! refl (stop !))) (look-in ! 15 (sub ! 1 refl (whole !))))) (from ! (stop !)) (init ! 8 refl (tt, record { fits = parts r w is .1 })) $
-        drop ! $
-        move ! (3 ∷ []) $
-        drop ! $
-        owned ! B.the-row (Is B.the-row) (LL.makes B.the-type B′.the-plain 𝓤 H A) (r .board) _ (parts r w is .0) $
-        move ! (3 ∷ 0 ∷ 4 ∷ 5 ∷ 6 ∷ []) $
-        closes ! tt B.the-row (r .board) (mach (r .board) ∷ []) b o $
+        assigns ! (of-opd ! (load ! (from ! (fld ! refl (stop !))) (look-in ! 13 (sub ! 0 refl (whole !))))) (from ! (hop ! (look ! 7 refl) (stop !)))
+        (store-raw ! 2 refl (typed W (r .board) (parts r w is .0))) $
+        assigns ! (of-opd ! (load ! (from ! (fld ! refl (stop !))) (look-in ! 13 (sub ! 1 refl (whole !))))) (from ! (stop !)) (init ! 6 refl (tt, record { fits = parts r w is .1 })) $
+        move ! (2 ∷ 3 ∷ 4 ∷ 5 ∷ []) $
+        closed ! tt (r .board) (parts r w is .0) b o $
         -- the locals are given up
         returns ! (look ! 5 refl) $
         ends ! 5 (W .laws .at-room _ _ _ _, (W .laws .at-room _ _ _ _, (W .laws .at-room _ _ _ _, (W .laws .at-room _ _ _ _, (W .laws .at-room _ _ _ _, (W .laws .at-room _ _ _ _, (W .laws .at-room _ _ _ _, (W .laws .at-room _ _ _ _, (W .laws .at-room _ _ _ _, (W .laws .at-room _ _ _ _, (W .laws .at-room _ _ _ _, (W .laws .at-room _ _ _ _, (W .laws .at-room _ _ _ _, (W .laws .at-room _ _ _ _, (W .laws .at-room _ _ _ _, id⊢ 𝓤 _))))))))))))))) $
-        keep ! (4 ∷ 0 ∷ 1 ∷ 2 ∷ 3 ∷ []) $ by ! (at-end r (parts r w is .1))))))))
+        keep ! (4 ∷ 0 ∷ 1 ∷ 2 ∷ 3 ∷ []) $ by ! (at-end r (parts r w is .1)))))))
 
 module _ {M : Type 1} (𝓤 : URA M) (H : Heap 𝓤) (A : Atoms 𝓤) (W : Given 𝓤 H A) (mem : Memory → SProp 𝓤) (run : Routine → Fun 𝓤) where
   walks : (C : Calls 𝓤 H) (Λ : Loops 𝓤 H) → FmC 𝓤 H (W .laws) C → Triple 𝓤 (C #worker) (Worker 𝓤 H A mem run) → Walks 𝓤 H A own.ended stayed (WpFn 𝓤 H C Λ code.function) (own.clauses 𝓤 H A mem run)
