@@ -179,7 +179,7 @@ module _ {M : Type 1} {𝓤 : URA M} {H : Heap 𝓤} {A : Atoms 𝓤} {K : Type 
   -- a function begins: there is room for its locals, and it was handed the values
   pub begins : K → (C : Calls 𝓤 H) (Λ : Loops 𝓤 H) (f : Fn) (vs : List Val) (Kf : Val → SProp 𝓤) → Fits 𝓤 H (f .locals) vs
       → ((bs : Blocks 𝓤 H (f .locals)) → Seq K W (begun 𝓤 H (f .locals) bs vs ++ raw (deaths 𝓤 H (env 𝓤 H (f .locals) bs)) ∷ Γ)
-        (runs C Λ (env 𝓤 H (f .locals) bs) (f .body) (atRet (env 𝓤 H (f .locals) bs) Kf)))
+      (runs C Λ (env 𝓤 H (f .locals) bs) (f .body) (atRet (env 𝓤 H (f .locals) bs) Kf)))
       → Seq K W Γ (prop (WpFn 𝓤 H C Λ f vs Kf))
   unfolding WpFn
   begins t C Λ f vs Kf fit k = record { prf = entered 𝓤 H A W Γ (f .locals) vs _ fit (λ bs. k bs .prf) }
@@ -188,5 +188,5 @@ module _ {M : Type 1} {𝓤 : URA M} {H : Heap 𝓤} {A : Atoms 𝓤} {K : Type 
   pub ends : K → (n : ℕ) {E : Env 𝓤 H} {P : SProp 𝓤} → Emptied 𝓤 H A W (deaths 𝓤 H E) E (after 𝓤 H n Γ) → Step K W (first 𝓤 H n Γ) (prop P) Γ (frees E (prop P))
   ends t n {E} {P} h = step (λ s. record {
     prf = via 𝓤 (sep 𝓤 (⋆ 𝓤 H A (first 𝓤 H n Γ)) (⋆ 𝓤 H A (after 𝓤 H n Γ))) (parted 𝓤 H A W n Γ)
-      (via 𝓤 (sep 𝓤 P (sep 𝓤 (bare 𝓤 H A W E) (deaths 𝓤 H E))) (mono∗ 𝓤 (s .prf) (emptied 𝓤 H A W (deaths 𝓤 H E) E (after 𝓤 H n Γ) h)) (freed 𝓤 H A W E P));
+        (via 𝓤 (sep 𝓤 P (sep 𝓤 (bare 𝓤 H A W E) (deaths 𝓤 H E))) (mono∗ 𝓤 (s .prf) (emptied 𝓤 H A W (deaths 𝓤 H E) E (after 𝓤 H n Γ) h)) (freed 𝓤 H A W E P));
   })

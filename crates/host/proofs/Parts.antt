@@ -84,19 +84,19 @@ module _ {M : Type 1} {𝓤 : URA M} {H : Heap 𝓤} {A : Atoms 𝓤} {K : Type 
   -- a reference that may change a board is opened, and closed at another board
   pub opened : K → Soaks G → {γ : GName} (was : Board) (b o : ℕ)
       → (IsBoard was → Seq K W (‵ (cellAt fullShare (B.the-row .mir) (mach was ∷ []) b o) ∷ ‵ (fobor κ q (Body (mem B.the-row) b o γ))
-        ∷ ‵ (fobs γ (B.the-row .coded .code was)) ∷ ‵ (fauth γ (B.the-row .coded .code was)) ∷ Γ) G)
+      ∷ ‵ (fobs γ (B.the-row .coded .code was)) ∷ ‵ (fauth γ (B.the-row .coded .code was)) ∷ Γ) G)
       → Seq K W (‵ (fobs γ (B.the-row .coded .code was)) ∷ ‵ (fbor κ (Body (mem B.the-row) b o γ)) ∷ ‵ (flft κ q) ∷ Γ) G
   opened t z was b o k = opens t z B.the-row {h = was} b o (λ vs. seen t fullShare was vs b o k)
 
   pub closed : K → Soaks G → {γ : GName} {u v : Gv} (is : Board) → IsBoard is → (b o : ℕ)
       → Step K W (‵ (fobs γ (B.the-row .coded .code is)) ∷ ‵ (fbor κ (Body (mem B.the-row) b o γ)) ∷ ‵ (flft κ q) ∷ Γ) G
-        (‵ (cellAt fullShare (B.the-row .mir) (mach is ∷ []) b o) ∷ ‵ (fobor κ q (Body (mem B.the-row) b o γ)) ∷ ‵ (fobs γ u) ∷ ‵ (fauth γ v) ∷ Γ) G
+      (‵ (cellAt fullShare (B.the-row .mir) (mach is ∷ []) b o) ∷ ‵ (fobor κ q (Body (mem B.the-row) b o γ)) ∷ ‵ (fobs γ u) ∷ ‵ (fauth γ v) ∷ Γ) G
   closed t z is g b o = step (λ s. made t is g $ move t (1 ∷ 0 ∷ []) $ closes t z B.the-row is (mach is ∷ []) b o $ s)
 
   -- one that only reads it is looked into, and shut
   pub looked : K → Soaks G → (was : Board) (b o : ℕ)
       → ((q′ : Share) → IsBoard was → Seq K W (‵ (cellAt q′ (B.the-row .mir) (mach was ∷ []) b o) ∷ ‵ (fobor κ q (partAt B.the-row q′ was b o))
-        ∷ ‵ (fshr-bor κ (λ s. partAt B.the-row s was b o)) ∷ Γ) G)
+      ∷ ‵ (fshr-bor κ (λ s. partAt B.the-row s was b o)) ∷ Γ) G)
       → Seq K W (‵ (fshr-bor κ (λ s. partAt B.the-row s was b o)) ∷ ‵ (flft κ q) ∷ Γ) G
   looked t z was b o k =
       looks t z B.the-row (Is B.the-row) (shows 𝓤 H A B.the-row) (λ x. mach x ∷ []) tells (LL.copy B.the-type B′.the-copy 𝓤 H A W) was b o
