@@ -1,4 +1,4 @@
--- A board as the machine has it, behind a reference and outside of one; and an outcome, with what is known of its two fields.
+-- A board as the machine has it, behind a reference and outside of one; and an outcome, with its two fields.
 use Prim.Native.Nat.{ℕ, _<_, _^_}
 use mathlib.Core.Path.{_≡_, ap}
 use mathlib.Core.List.{List, [], _∷_}
