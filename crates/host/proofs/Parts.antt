@@ -45,8 +45,8 @@ pub typed : {M : Type 1} {𝓤 : URA M} {H : Heap 𝓤} {A : Atoms 𝓤} → Giv
 unfolding mach IsBoard
 typed {M} {𝓤} {H} {A} W was g = LL.lawful B.the-type B′.the-laws 𝓤 H A W .typed was _ g .0
 
-pub outcome-typed : {M : Type 1} {𝓤 : URA M} {H : Heap 𝓤} {A : Atoms 𝓤} → Given 𝓤 H A → (r : outcome.Outcome) (w : Val) → IsOutcome r w →
-    T (hasTy O′.mir w) × WT w
+pub outcome-typed : {M : Type 1} {𝓤 : URA M} {H : Heap 𝓤} {A : Atoms 𝓤} → Given 𝓤 H A →
+    (r : outcome.Outcome) (w : Val) → IsOutcome r w → T (hasTy O′.mir w) × WT w
 unfolding IsOutcome
 outcome-typed {M} {𝓤} {H} {A} W r w is = LL.lawful O.the-type O′.the-laws 𝓤 H A W .typed r _ is .0
 
@@ -66,7 +66,8 @@ module _ {M : Type 1} {𝓤 : URA M} {H : Heap 𝓤} {A : Atoms 𝓤} {K : Type 
   made t was g = owned t B.the-row (Is B.the-row) (LL.makes B.the-type B′.the-plain 𝓤 H A) was (mach was ∷ []) g
 
   -- of an outcome its values are known, and it is let go
-  pub gave : K → (r : outcome.Outcome) (w : Val) → (IsOutcome r w → Seq K W Γ G) → Seq K W (‵ (O.the-row .own r (w ∷ [])) ∷ Γ) G
+  pub gave : K → (r : outcome.Outcome) (w : Val) → (IsOutcome r w → Seq K W Γ G)
+      → Seq K W (‵ (O.the-row .own r (w ∷ [])) ∷ Γ) G
   unfolding IsOutcome
   gave t r w k = facts t O.the-row (Is O.the-row) (shows 𝓤 H A O.the-row) r (w ∷ []) k
 
