@@ -22,7 +22,7 @@ loop-holds : tie.Need-loop-holds Inv-loop μ-loop
 loop-holds c = named-none _ _ (c .pre)
 
 add-loop : tie.Need-add-loop Inv-loop μ-loop
-add-loop c = let w = c .loop .knv .within in search needs
+add-loop c = let w = c .loop .inv .within in search needs
 
 -- the pair that the loop has come to, and its node
 abbrev at-pair : tie.After-node-of Inv-loop μ-loop → tie.In-loop Inv-loop μ-loop
@@ -37,7 +37,7 @@ node-is c =
     let e : held z ≡ z = search needs in c .node-of .ensures ∙ ap nodeOf e
 
 on-board : (c : tie.After-node-of Inv-loop μ-loop) → c .node-of .result < nodesMost
-on-board c = next-on _ (at-pair c .before .loop .knv .on) (at-pair c .loop-test .taken) (node-is c) .there
+on-board c = next-on _ (at-pair c .before .loop .inv .on) (at-pair c .loop-test .taken) (node-is c) .there
 
 loop-less : tie.Need-loop-less Inv-loop μ-loop
 loop-less c = omega arith
@@ -45,10 +45,10 @@ loop-less c = omega arith
 loop-again : tie.Need-loop-again Inv-loop μ-loop
 loop-again c =
     let n = c .before in
-    named-more _ _ (at-pair n .before .loop .knv) (at-pair n .loop-test .taken) (node-is n)
+    named-more _ _ (at-pair n .before .loop .inv) (at-pair n .loop-test .taken) (node-is n)
 
 returns : tie.Need-returns Inv-loop μ-loop
-returns c = named-all _ _ (c .before .loop .knv) (c .loop-test .left)
+returns c = named-all _ _ (c .before .loop .inv) (c .loop-test .left)
 
 pub naming-any-spec : {M : Type 1} → statement M
 naming-any-spec =

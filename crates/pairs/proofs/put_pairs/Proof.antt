@@ -22,7 +22,7 @@ loop-holds : tie.Need-loop-holds Inv-loop μ-loop
 loop-holds c = put-none _ _ (c .pre .0) (c .pre .1)
 
 add-loop : tie.Need-add-loop Inv-loop μ-loop
-add-loop c = let w = c .loop .knv .within in search needs
+add-loop c = let w = c .loop .inv .within in search needs
 
 -- the pair that the loop has come to, and its node
 abbrev at-pair : tie.After-node-of Inv-loop μ-loop → tie.In-loop Inv-loop μ-loop
@@ -37,13 +37,13 @@ node-is c =
     let e : held z ≡ z = search needs in c .node-of .ensures ∙ ap nodeOf e
 
 on-board : (c : tie.After-node-of Inv-loop μ-loop) → c .node-of .result < nodesMost
-on-board c = next-on _ (at-pair c .before .loop .knv .on) (at-pair c .loop-test .taken) (node-is c) .there
+on-board c = next-on _ (at-pair c .before .loop .inv .on) (at-pair c .loop-test .taken) (node-is c) .there
 
 slice-set-from-volts : tie.Need-slice-set-from-volts Inv-loop μ-loop
 slice-set-from-volts c =
     let n = c .before in
     let h = on-board n in
-    let l = at-pair n .before .loop .knv .long in omega arith
+    let l = at-pair n .before .loop .inv .long in omega arith
 
 loop-again : tie.Need-loop-again Inv-loop μ-loop
 loop-again c =
@@ -51,13 +51,13 @@ loop-again c =
     let l = at-pair n .before in
     let z = getD (l .before .args .pairs .now) (l .loop .k + 1) (pos 0) in
     let e : held z ≡ z = search needs in
-    put-more _ _ (l .loop .knv) (at-pair n .loop-test .taken) (node-is n) e
+    put-more _ _ (l .loop .inv) (at-pair n .loop-test .taken) (node-is n) e
 
 same-length : tie.Need-same-length Inv-loop μ-loop
-same-length c = c .before .loop .knv .long ∙ sym (c .before .before .pre .0)
+same-length c = c .before .loop .inv .long ∙ sym (c .before .before .pre .0)
 
 returns : tie.Need-returns Inv-loop μ-loop
-returns c = put-all _ _ (c .before .loop .knv) (c .loop-test .left)
+returns c = put-all _ _ (c .before .loop .inv) (c .loop-test .left)
 
 pub put-pairs-spec : {M : Type 1} → statement M
 put-pairs-spec =
