@@ -317,9 +317,9 @@ module _ (r : Round) (currents : List ℤ) where
         either false = refl
 
   -- a set without places: nobody overloads, nothing comes and nothing goes, and what is held is held on
-  pub settled-none : r .marked ≡ 0 → {totals : List ℤ} →
-      StandsIn totals (replicate nodesMost (pos 0)) (replicate nodesMost (pos 0)) true totals →
-      Settled r currents totals 0 (record { first = nobody; fits = true }) totals currents
+  pub settled-none : r .marked ≡ 0 → {totals : List ℤ} {fits : Bool} →
+      StandsIn totals (replicate nodesMost (pos 0)) (replicate nodesMost (pos 0)) fits totals →
+      Settled r currents totals 0 (record { first = nobody; fits = fits }) totals currents
   settled-none e stands =
       held-start transistorsMost end (gone-all (gone-none transistorsMost end) (omega arith) refl stands)
     where

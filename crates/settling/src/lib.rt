@@ -133,8 +133,8 @@ pub fn settle(
         over: Over::Within,
     };
     if set == 0 {
-        standing::stand_still(totals);
-        return Judgement { first, fits: true };
+        let stay = standing::stand_still(totals);
+        return Judgement { first, fits: stay };
     }
     let table = octave::table();
     let mut coming = [0i64; NODES];

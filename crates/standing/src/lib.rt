@@ -172,13 +172,15 @@ pub fn stand_in(totals: &mut [i64], coming: &[i64; NODES], going: &[i64; NODES])
     true
 }
 
-// The same where nothing comes and nothing goes: each total stands as it is. All that is to be known is that it is in its
-// range, as every number is that can be read; of the reading the compiler leaves nothing.
-pub fn stand_still(totals: &[i64])
+// The same where nothing comes and nothing goes: each total stands as it is, and stays in its range, as every number does
+// that can be read; of the reading the compiler leaves nothing.
+pub fn stand_still(totals: &[i64]) -> bool
     requires { ⌜ length (now totals) ≡ nodesMost ⌝ }
-    ensures { λ _. ⌜ StandsIn (now (totals .entry)) (replicate nodesMost (pos 0)) (replicate nodesMost (pos 0)) true (now (totals .entry)) ⌝ }
+    ensures { λ r. ⌜ StandsIn (now (totals .entry)) (replicate nodesMost (pos 0)) (replicate nodesMost (pos 0)) r (now (totals .entry)) ⌝ }
 {
     for k in 0..NODES {
         let total = totals[k];
     }
+    let fits = true;
+    fits
 }
