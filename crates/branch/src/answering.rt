@@ -59,8 +59,7 @@ fn answer(c: WorkedCard, v: [u32; ROLES]) -> Reply
     requires { ⌜ (IsWorked c) × AllNear v ⌝ }
     ensures { λ r. ⌜ r ≡ replyOf (atOutcome (outcomeOf c (map givenBack v))) ⌝ }
 {
-    let mut t = [0u32; octave::ENTRIES];
-    octave::lay_table(&mut t);
+    let t = octave::table();
     let x = work_out(&t, prepare(c), &v);
     let o = x.over;
     match o {

@@ -22,12 +22,18 @@ fn in_range(volts: &[i64]) -> bool
     true
 }
 
-// That, and each of them kept, written to `kept` as it goes.
+// Nothing is done. An array that is handed over is known to have its length; one that is lent to be written is not,
+// until it is written whole, which would cost a store for every number.
+fn has_its_length(volts: [u32; NODES])
+    ensures { λ _. ⌜ length volts ≡ nodesMost ⌝ }
+{}
+
+// That of `in_range`, and each of them kept, written to `kept` as it goes.
 fn keep_slice(kept: &mut [u32; NODES], volts: &[i64]) -> bool
     requires { ⌜ length (now volts) ≡ nodesMost ⌝ }
     ensures { λ r. ⌜ KeepsVolts (now (volts .entry)) r (now (kept .exit)) ⌝ }
 {
-    *kept = [volts::ZERO; NODES];
+    has_its_length(*kept);
     for k in 0..NODES {
         let Voltage::Kept(x) = volts::keep(volts[k]) else {
             return false;

@@ -10,8 +10,8 @@ use totals::NODES;
 
 // The same as `lifting::lift`, and the number of the turn that it ends with.
 fn lift_apart(
-    turns: u64,
-    turn: &mut u64,
+    turns: u32,
+    turn: &mut u32,
     issues: &mut [u32; places::TRANSISTORS],
     cards: &mut [u32; places::TRANSISTORS],
     seats: &mut [u8; places::TRANSISTORS],
@@ -57,7 +57,8 @@ fn lift_apart(
     lifted
 }
 
-// The same, apart from its callers. How many turns that takes is all one; it is told by a length, lest the compiler know it beforehand and write the turns out.
+// The same, apart from its callers. How many turns are taken is all one, and it is hardly ever any: the number is told
+// by what stands in an array, lest the compiler know it, and by two bits of that, since it writes a single turn out.
 pub fn lift(
     issues: &mut [u32; places::TRANSISTORS],
     cards: &mut [u32; places::TRANSISTORS],
@@ -72,8 +73,8 @@ pub fn lift(
     requires { ⌜ ((r : Rest) × Reached r × LendsStanding r (now issues) (now cards) (now seats) (now nodes) (now naming) (now currents)) ⌝ }
     ensures { λ a. ⌜ ((r : Rest) → Reached r → LendsStanding r (now (issues .entry)) (now (cards .entry)) (now (seats .entry)) (now (nodes .entry)) (now (naming .entry)) (now (currents .entry)) → LeavesPlaces (liftedLent (stateWith r (now (volts .entry)) (now (totals .entry))) transistor) a (now (issues .exit)) (now (cards .exit)) (now (seats .exit)) (now (nodes .exit)) (now (naming .exit)) (now (totals .exit)) (now (currents .exit)) (r .next)) ⌝ }
 {
-    let turns = if volts.len() == NODES { 1u64 } else { 2u64 };
-    let mut turn = 0u64;
+    let turns = issues[0] >> 30;
+    let mut turn = 0u32;
     lift_apart(
         turns,
         &mut turn,

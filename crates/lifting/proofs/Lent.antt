@@ -13,7 +13,7 @@ use Rattle.totals.specs.Flow.{ticksGive}
 use Rattle.totals.specs.inner.Sums.{More, Givable}
 use Rattle.given.specs.Arguments.{some, issueOf}
 use Rattle.deck.specs.Stretch.{written}
-use Rattle.slices.specs.Slices.{offSlices, changed, Stands}
+use Rattle.slices.specs.Slices.{offSlices, changed, StandsIn}
 use Rattle.places.specs.Naming.{parted}
 use Rattle.places.specs.inner.Flat.{firstAt, numberPlace}
 use Rattle.places.specs.inner.Parts.{placeOr, Entering}
@@ -30,7 +30,7 @@ use Rattle.lending.specs.Lending.{refuse, liftedLent}
 use Rattle.lending.specs.Reached.{Reached}
 use Rattle.lending.specs.inner.Lent.{stateWith, LendsStanding, LeavesPlaces}
 use Rattle.lending.proofs.Footing.{ground-in}
-use Rattle.lending.proofs.Tests.{stood-bad, stood-good, stood-long}
+use Rattle.lending.proofs.Tests.{stood-bad, stood-good}
 use Rattle.lending.proofs.Cases.{Taken, off-slices, refused-by, leaves-64, taken-so}
 use Rattle.lending.proofs.Sums.{none}
 use Rattle.lending.proofs.Leaves.{stays}
@@ -120,31 +120,27 @@ module _ {r : Rest} {issues cards seats nodes naming : List ℕ} {currents : Lis
         lift-taken : Taken (liftedOf (boardIn was) z .answer)
         lift-taken = rw (lift-goes (boardIn was) (ground .footing) z i e)
 
-        module _ {fits : Bool} {next : List ℤ} (stands : Stands totals none going fits next) where
-          pub lift-long : length next ≡ nodesMost
-          lift-long = stood-long stands
-
+        module _ {fits : Bool} {next : List ℤ} (stands : StandsIn totals none going fits next) where
           pub lift-leaves-64 : fits ≡ false →
-              Lifts r (Refused OutOfReach) issues cards seats nodes naming totals currents
+              Lifts r (Refused OutOfReach) issues cards seats nodes naming next currents
           unfolding liftedLent
           lift-leaves-64 bad =
-              turned
-              (leaves-64 (λ (b : Board). liftedOf b z) was good lift-taken
-              (rw (← lift-changed) (stood-bad stands bad)))
+              let y = stood-bad stands bad in
+              rw (y .1)
+              (turned (leaves-64 (λ (b : Board). liftedOf b z) was good lift-taken (rw (← lift-changed) (y .0))))
 
-          pub lift-done : fits ≡ true → {t : List ℤ} → t ≡ next →
+          pub lift-done : fits ≡ true →
               Lifts r Done (set issues i 0) (set cards i 0) (set seats i 0)
-              (written 0 nodes (roles * i) (replicate roles 0) roles) (parted naming i on) t
+              (written 0 nodes (roles * i) (replicate roles 0) roles) (parted naming i on) next
               (written (pos 0) currents (branches * i) (replicate branches (pos 0)) branches)
           unfolding liftedLent
-          lift-done so {t} q =
+          lift-done so =
               let y = stood-good stands so in
               subst
               (λ (m : Rest). Lifts m Done (set issues i 0) (set cards i 0) (set seats i 0)
-              (written 0 nodes (roles * i) (replicate roles 0) roles) (parted naming i on) t
+              (written 0 nodes (roles * i) (replicate roles 0) roles) (parted naming i on) next
               (written (pos 0) currents (branches * i) (replicate branches (pos 0)) branches)) standing-is
               (rw (
-                q,
                 y .1,
                 lift-changed,
                 taken-so (λ (b : Board). liftedOf b z) was good lift-taken (rw (← lift-changed) (y .0)),

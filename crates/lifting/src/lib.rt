@@ -38,11 +38,9 @@ pub fn lift(
     let coming = [0i64; NODES];
     let mut going = [0i64; NODES];
     settle::put_in(&mut going, &on, &own);
-    let mut next = [0i64; NODES];
-    if !standing::stand_all(&mut next, totals, &coming, &going) {
+    if !standing::stand_in(totals, &coming, &going) {
         return Answer::Refused(Refusal::OutOfReach);
     }
-    putting::put_totals(totals, &next);
     issues[i] = 0;
     cards[i] = 0;
     seats[i] = 0;

@@ -11,8 +11,8 @@ use totals::NODES;
 
 // The same as `moving::move_all`, and the number of the turn that it ends with.
 fn move_apart(
-    turns: u64,
-    turn: &mut u64,
+    turns: u32,
+    turn: &mut u32,
     volts: &mut [i64],
     totals: &mut [i64],
     currents: &mut [i64; places::ALL_CURRENTS],
@@ -67,7 +67,8 @@ fn move_apart(
     moved
 }
 
-// The same, apart from its callers. How many turns that takes is all one; it is told by a length, lest the compiler know it beforehand and write the turns out.
+// The same, apart from its callers. How many turns are taken is all one, and it is hardly ever any: the number is told
+// by what stands in an array, lest the compiler know it, and by two bits of that, since it writes a single turn out.
 pub fn move_all(
     volts: &mut [i64],
     totals: &mut [i64],
@@ -85,8 +86,8 @@ pub fn move_all(
     requires { ⌜ ((r : Rest) × Reached r × Lends r (now numbers) (now powers) (now ticks) (now switches) (now issues) (now seats) (now nodes) (now naming) (now currents)) ⌝ }
     ensures { λ a. ⌜ ((r : Rest) → Reached r → Lends r (now (numbers .entry)) (now (powers .entry)) (now (ticks .entry)) (now (switches .entry)) (now (issues .entry)) (now (seats .entry)) (now (nodes .entry)) (now (naming .entry)) (now (currents .entry)) → LeavesLevels (movedLent (stateWith r (now (volts .entry)) (now (totals .entry))) (now (pairs .entry))) a (now (volts .exit)) (now (totals .exit)) (now (currents .exit))) ⌝ }
 {
-    let turns = if volts.len() == NODES { 1u64 } else { 2u64 };
-    let mut turn = 0u64;
+    let turns = issues[0] >> 30;
+    let mut turn = 0u32;
     move_apart(
         turns,
         &mut turn,

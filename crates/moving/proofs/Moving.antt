@@ -4,8 +4,8 @@ use mathlib.Core.Bool.{Bool, true, false, cond, not}
 use mathlib.Core.List.{List, map}
 use Prim.Native.Nat.{ℕ, _<_}
 use native.Mathlib.Omega.{arith}
-use lib.ListN.{length, getD, replicate, length-replicate}
-use lib.IntN.{ℤ, pos}
+use lib.ListN.{length, getD}
+use lib.IntN.{ℤ}
 use Rattle.refusal.specs.declared.Refusal.{Refusal}
 use Rattle.refusal.specs.declared.Refusal.the-variants.{Malformed, OutOfReach, OutOfRange}
 use Rattle.refusal.specs.Clash.{clash}
@@ -29,13 +29,13 @@ use Rattle.settle.specs.laws.Renewals.{renewed-same}
 use Rattle.model.specs.Board.{Board, Answered}
 use Rattle.model.specs.declared.Answer.{Answer}
 use Rattle.model.specs.declared.Answer.the-variants.{Done, Refused}
-use Rattle.model.specs.Counts.{nodesMost, transistorsMost}
+use Rattle.model.specs.Counts.{transistorsMost}
 use Rattle.model.specs.Verdict.{moveVerdict}
 use Rattle.model.specs.Model.{transistorAt, workedOn, shifted, touched, firstOver, gains, currentThen, heldThen}
 use Rattle.model.specs.Model.{moved, movedOf}
 use Rattle.model.specs.Model as old
 use Rattle.model.proofs.Shifts.{shifted-long, shifted-near}
-use Rattle.model.proofs.Gains.{more-long, same-more, touched-stands}
+use Rattle.model.proofs.Gains.{same-more, touched-stands}
 use Rattle.model.proofs.Footing.{Ground}
 use Rattle.model.proofs.Lent.{deckIn, stands-there, nodes-there, held-there, held-small, worked-there, able-at}
 use Rattle.lending.specs.Rest.{Rest, State, boardIn}
@@ -164,14 +164,18 @@ module _ (b : Board) (g : Ground b) (pairs : List ℤ) (good : arePairs pairs �
     out-is true e = (λ f. refl, λ f. clash cc)
     out-is false e = (λ f. clash cc, λ f. refl)
 
-    fits-out : told .fits ≡ false → someOutside (withMore (b .totals) (gains b shifts)) ≡ true
-    fits-out f = rw (← standing-is) (out-is _ (s .fits-is) .0 f)
+    module _ (o : isOver (told .first .over) ≡ false) where
+      fits-out : told .fits ≡ false → someOutside (withMore (b .totals) (gains b shifts)) ≡ true
+      fits-out f = rw (← standing-is) (out-is _ (s .fits-is o) .0 f)
 
-    fits-in : told .fits ≡ true → someOutside (withMore (b .totals) (gains b shifts)) ≡ false
-    fits-in f = rw (← standing-is) (out-is _ (s .fits-is) .1 f)
+      fits-in : told .fits ≡ true → someOutside (withMore (b .totals) (gains b shifts)) ≡ false
+      fits-in f = rw (← standing-is) (out-is _ (s .fits-is o) .1 f)
 
-    next-stands : told .fits ≡ true → next ≡ withMore (b .totals) (gains b shifts)
-    next-stands f = s .next-is ∙ rw (f, standing-is)
+      totals-stand : told .fits ≡ true → next ≡ withMore (b .totals) (gains b shifts)
+      totals-stand f = s .totals-are ∙ rw (o, f, standing-is)
+
+    totals-stay : isTaken told ≡ false → next ≡ b .totals
+    totals-stay e = s .totals-are ∙ rw e
 
     held-on : isTaken told ≡ false → held ≡ b .currents
     held-on e = s .held ∙ rw e
@@ -252,13 +256,16 @@ module _ {r : Rest} {numbers powers ticks : List ℕ} {switches : List Bool} {is
 
         -- a refusal after the places were worked
         stays : {f : Refusal} → movedLent state pairs ≡ refuse state f → isTaken told ≡ false →
-            LeavesLevels (movedLent state pairs) (Refused f) volts totals held
+            LeavesLevels (movedLent state pairs) (Refused f) volts next held
         stays e t =
-            rw (held-on (boardIn state) ground pairs good on will will-is places own-places own-settled t)
+            rw (
+              held-on (boardIn state) ground pairs good on will will-is places own-places own-settled t,
+              totals-stay (boardIn state) ground pairs good on will will-is places own-places own-settled t,
+            )
             (levels-stay (movedLent state pairs) e)
 
         lent-over : isOver (told .first .over) ≡ true →
-            LeavesLevels (movedLent state pairs) (Refused (drawnBy (told .first .issue) (told .first .over))) volts totals
+            LeavesLevels (movedLent state pairs) (Refused (drawnBy (told .first .issue) (told .first .over))) volts next
             held
         unfolding movedLent
         lent-over o =
@@ -272,12 +279,12 @@ module _ {r : Rest} {numbers powers ticks : List ℕ} {switches : List Bool} {is
           moves = moves-it (boardIn state) ground pairs good on will will-is places own-places own-settled o
 
           lent-leaves : told .fits ≡ false →
-              LeavesLevels (movedLent state pairs) (Refused OutOfReach) volts totals held
+              LeavesLevels (movedLent state pairs) (Refused OutOfReach) volts next held
           unfolding movedLent
           lent-leaves f =
               stays
               (leaves-64 call state taken (rw moves refl)
-              (rw moves (fits-out (boardIn state) ground pairs good on will will-is places own-places own-settled f)))
+              (rw moves (fits-out (boardIn state) ground pairs good on will will-is places own-places own-settled o f)))
               (rw (o, f))
 
           lent-moves : told .fits ≡ true →
@@ -287,13 +294,13 @@ module _ {r : Rest} {numbers powers ticks : List ℕ} {switches : List Bool} {is
               subst (λ (a : Lent). LeavesLevels a Done (map givenBack will) next held)
               (sym
               (taken-so call state taken (rw moves refl)
-              (rw moves (fits-in (boardIn state) ground pairs good on will will-is places own-places own-settled f))
+              (rw moves (fits-in (boardIn state) ground pairs good on will will-is places own-places own-settled o f))
               ∙ ap lentAs moves))
               (record {
                 answer-is = refl;
                 volts-are = ap (map givenBack) will-is;
                 totals-are =
-                    next-stands (boardIn state) ground pairs good on will will-is places own-places own-settled f;
+                    totals-stand (boardIn state) ground pairs good on will will-is places own-places own-settled o f;
                 currents-are =
                     held-anew (boardIn state) ground pairs good on will will-is places own-places own-settled o f;
               })
@@ -310,23 +317,11 @@ module _ {r : Rest} {numbers powers ticks : List ℕ} {switches : List Bool} {is
             go false o true f e = rw (o, f) (lent-moves o f)
             go false o false f e = clash cc
 
-        pub lent-left : isTaken told ≡ false → LeavesLevels (movedLent state pairs) (answerTo told) volts totals held
+        pub lent-left : isTaken told ≡ false → LeavesLevels (movedLent state pairs) (answerTo told) volts next held
         lent-left t = go (isOver (told .first .over)) refl (told .fits) refl t
           where
             go : (over : Bool) → isOver (told .first .over) ≡ over → (fits : Bool) → told .fits ≡ fits →
-                cond over false fits ≡ false → LeavesLevels (movedLent state pairs) (answerTo told) volts totals held
+                cond over false fits ≡ false → LeavesLevels (movedLent state pairs) (answerTo told) volts next held
             go true o fits f e = rw o (lent-over o)
             go false o true f e = clash cc
             go false o false f e = rw (o, f) (lent-leaves o f)
-
-        -- what is written is as long as it must be
-        pub next-long : length next ≡ nodesMost
-        next-long = ap length (s .next-is) ∙ go (told .fits)
-          where
-            go : (fits : Bool) →
-                length
-                (cond fits
-                (standing (roundOf (deckOf numbers powers ticks switches) issues seats nodes places will) currents totals)
-                (replicate nodesMost (pos 0))) ≡ nodesMost
-            go true = more-long totals _
-            go false = length-replicate nodesMost (pos 0)

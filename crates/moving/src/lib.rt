@@ -1,6 +1,6 @@
 // Moving nodes together on a board's arrays, lent one by one beside the two slices: it tests, works each transistor that
-// names one of the nodes once, judges the totals as they would stand, and writes last, so that a refusal leaves all as
-// it was.
+// names one of the nodes once, judges the totals as they would stand, and writes when nothing can be refused any more, so
+// that a refusal leaves all as it was.
 ghost use mathlib.Core.Path.{_≡_};
 ghost use Rattle.lending.specs.Rest.{Rest};
 ghost use Rattle.lending.specs.Lending.{movedLent};
@@ -57,10 +57,8 @@ pub fn move_all(
         return Answer::Refused(Refusal::OutOfRange);
     }
     let set = pairs::naming_any(naming, pairs);
-    let mut next = [0i64; NODES];
     let told = settling::settle(
         currents,
-        &mut next,
         totals,
         numbers,
         powers,
@@ -73,8 +71,7 @@ pub fn move_all(
         set,
     );
     if settle::is_taken(told) {
-        putting::put_volts(volts, &will);
-        putting::put_totals(totals, &next);
+        pairs::put_pairs(volts, pairs);
     }
     answer_to(told)
 }

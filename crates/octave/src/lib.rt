@@ -324,25 +324,11 @@ pub struct Exponential {
     pub n: u64,
 }
 
-// Lays the table out, and its last point once more. A function that calls itself is never written into its callers, so
-// that 257 stores do not stand between a board and its copy there.
-fn lay(t: &mut Table, turns: u64)
-    ensures { λ _. ⌜ now (t .exit) ≡ entries ⌝ }
+// The table, to be kept once for a call and lent from there: its 257 stores are written where it stands.
+pub fn table() -> Table
+    ensures { λ r. ⌜ r ≡ entries ⌝ }
 {
-    if turns == 0 {
-        *t = POWERS;
-        return;
-    }
-    lay(t, turns - 1);
-    t[ENTRIES - 1] = 2147483648;
-}
-
-// Lays the table out where it will stand, once for a call, to be lent from there: a copy of it costs as much as laying
-// it out.
-pub fn lay_table(t: &mut Table)
-    ensures { λ _. ⌜ now (t .exit) ≡ entries ⌝ }
-{
-    lay(t, 1);
+    POWERS
 }
 
 // What is worked once for the octave w.

@@ -1,4 +1,4 @@
--- Going through a list of pairs: what is kept so far and what is named so far, with the pairs that are left.
+-- Going through a list of pairs: what is kept so far, named so far and written so far, with the pairs that are left.
 use mathlib.Core.Path.{_≡_, refl, sym, ap, _∙_}
 use mathlib.Core.Bool.{Bool, true, false, _||_, or-true, or-false, or-assoc}
 use mathlib.Core.List.{List, [], _∷_}
@@ -7,7 +7,7 @@ use native.Mathlib.Nat.{zero-div}
 use native.Mathlib.Omega.{arith}
 use lib.Bits.{bitOr}
 use lib.Dec.{eqb}
-use lib.ListN.{length, getD, drop, set}
+use lib.ListN.{length, getD, drop, set, length-set}
 use lib.IntN.{ℤ, pos, natAbs}
 use Rattle.refusal.specs.Clash.{clash}
 use Rattle.volts.specs.Volts.{offVolts}
@@ -21,6 +21,7 @@ use Rattle.places.specs.Counts.{transistorsMost}
 use Rattle.places.specs.Sets.{member}
 use Rattle.places.specs.laws.Members.{member-or}
 use Rattle.totals.specs.Gives.{nodesMost}
+use Rattle.model.specs.Desk.{movedTo}
 use Rattle.model.specs.Model.{shifted}
 use Rattle.model.proofs.Gains.{either-false}
 use Rattle.model.proofs.Verdicts.{on-node}
@@ -42,6 +43,24 @@ any-same p q (n ∷ v ∷ rest) e h =
     let here = h (record { node = natAbs n; volts = v }) (on-node n on) in
     let more = any-same p q rest (both .1) h in λ j. here j || more j
 
+-- the next of pairs in range: its node is on the board, and the pairs after it are in range
+pub record NextOn (pairs : List ℤ) (i n : ℕ) : Type 0 where
+  pub at : n ≡ natAbs (getD pairs i (pos 0))
+  pub there : n < nodesMost
+  pub rest : somePairOff (drop (i + 2) pairs) ≡ false
+
+pub next-on : (pairs : List ℤ) {i n : ℕ} → somePairOff (drop i pairs) ≡ false → i + 1 < length pairs →
+    n ≡ nodeOf (getD pairs i (pos 0)) → NextOn pairs i n
+next-on pairs {i} {n} on h ne =
+    let p = offNode (getD pairs i (pos 0)) in
+    let q = offVolts (getD pairs (i + 1) (pos 0)) in
+    let r = somePairOff (drop (i + 2) pairs) in
+    let o : (p || q) || r ≡ false = sym (off-from pairs i h) ∙ on in
+    let both = either-false (p || q) r o in
+    let here = either-false p q (both .0) .0 in
+    let at = node-held (getD pairs i (pos 0)) here ne in
+    record { at = at; there = rw at (on-node (getD pairs i (pos 0)) here); rest = both .1 }
+
 -- ---- naming
 
 module _ (pairs : List ℤ) (naming : List ℕ) where
@@ -60,35 +79,20 @@ module _ (pairs : List ℤ) (naming : List ℕ) where
       empty : (k : ℕ) → member 0 k ≡ false
       empty k = ap (λ (x : ℕ). eqb (x % 2) 1) (zero-div (2 ^ k))
 
-  -- the node of the pair that is next is one of the board
-  pub node-next : {places i n : ℕ} → NamedTo places i → i + 1 < length pairs → n ≡ nodeOf (getD pairs i (pos 0)) →
-      n < nodesMost
-  node-next {places} {i} {n} t h ne =
-      let p = offNode (getD pairs i (pos 0)) in
-      let q = offVolts (getD pairs (i + 1) (pos 0)) in
-      let o : (p || q) || somePairOff (drop (i + 2) pairs) ≡ false = sym (off-from pairs i h) ∙ t .on in
-      let on = either-false p q (either-false (p || q) (somePairOff (drop (i + 2) pairs)) o .0) .0 in
-      rw (node-held (getD pairs i (pos 0)) on ne) (on-node (getD pairs i (pos 0)) on)
-
   pub named-more : {places i n : ℕ} → NamedTo places i → i + 1 < length pairs → n ≡ nodeOf (getD pairs i (pos 0)) →
       NamedTo (bitOr places (getD naming n 0)) (i + 2)
   unfolding anyOf
   named-more {places} {i} {n} t h ne =
-      let p = offNode (getD pairs i (pos 0)) in
-      let q = offVolts (getD pairs (i + 1) (pos 0)) in
-      let r = somePairOff (drop (i + 2) pairs) in
-      let o : (p || q) || r ≡ false = sym (off-from pairs i h) ∙ t .on in
-      let both = either-false (p || q) r o in
-      let at = node-held (getD pairs i (pos 0)) (either-false p q (both .0) .0) ne in
+      let next = next-on pairs (t .on) h ne in
       record {
         within = omega arith;
-        on = both .1;
+        on = next .rest;
         left =
             λ k s. ap (λ (b : Bool). b || anyAt (shiftsOf (drop (i + 2) pairs)) k)
             (member-or places (getD naming n 0) k)
             ∙ or-assoc (member places k) (member (getD naming n 0) k) (anyAt (shiftsOf (drop (i + 2) pairs)) k)
             ∙ ap (λ (x : ℕ). member places k || (member (getD naming x 0) k || anyAt (shiftsOf (drop (i + 2) pairs)) k))
-            at
+            (next .at)
             ∙ ap (λ (l : List Shift). member places k || anyAt l k) (sym (shifts-from pairs i h))
             ∙ t .left k s;
       }
@@ -155,3 +159,36 @@ module _ (pairs : List ℤ) (was : List ℕ) where
         told = rw none;
         volts = λ e. ap (shifted will) (sym (shifts-end pairs i h)) ∙ t .left;
       }
+
+-- ---- writing
+
+module _ (pairs was : List ℤ) where
+  pub record PutTo (volts : List ℤ) (i : ℕ) : Type 0 where
+    pub within : i ≤ length pairs
+    pub on : somePairOff (drop i pairs) ≡ false
+    pub long : length volts ≡ nodesMost
+    pub left : movedTo volts (shiftsOf (drop i pairs)) ≡ movedTo was (shiftsOf pairs)
+
+  pub put-none : length was ≡ nodesMost → somePairOff pairs ≡ false → PutTo was 0
+  put-none l e = record { within = omega arith; on = e; long = l; left = refl }
+
+  pub put-more : {volts : List ℤ} {i n : ℕ} {v : ℤ} → PutTo volts i → i + 1 < length pairs →
+      n ≡ nodeOf (getD pairs i (pos 0)) → v ≡ getD pairs (i + 1) (pos 0) → PutTo (set volts n v) (i + 2)
+  unfolding shiftedIn
+  put-more {volts} {i} {n} {v} t h ne ve =
+      let next = next-on pairs (t .on) h ne in
+      record {
+        within = omega arith;
+        on = next .rest;
+        long = length-set volts n v ∙ t .long;
+        left =
+            ap (λ (l : List ℤ). movedTo l (shiftsOf (drop (i + 2) pairs)))
+            (ap (λ (m : ℕ). set volts m v) (next .at)
+            ∙ ap (λ (z : ℤ). set volts (natAbs (getD pairs i (pos 0))) z) ve)
+            ∙ ap (movedTo volts) (sym (shifts-from pairs i h))
+            ∙ t .left;
+      }
+
+  pub put-all : {volts : List ℤ} {i : ℕ} → PutTo volts i → length pairs ≤ i + 1 → volts ≡ movedTo was (shiftsOf pairs)
+  unfolding shiftedIn
+  put-all {volts} {i} t h = ap (movedTo volts) (sym (shifts-end pairs i h)) ∙ t .left

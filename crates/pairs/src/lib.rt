@@ -1,7 +1,11 @@
-// A list of pairs, each a node and a voltage for it: judged, kept at the nodes, and who names one of the nodes.
+// A list of pairs, each a node and a voltage for it: judged, kept at the nodes, written there, and who names one of the
+// nodes.
 ghost use mathlib.Core.Path.{_≡_};
 ghost use mathlib.Core.Bool.{false};
-ghost use Rattle.given.specs.Pairs.{arePairs, somePairOff};
+ghost use lib.ListN.{length};
+ghost use Rattle.given.specs.Pairs.{arePairs, somePairOff, shiftsOf};
+ghost use Rattle.totals.specs.Gives.{nodesMost};
+ghost use Rattle.model.specs.Desk.{movedTo};
 ghost use Rattle.pairs.specs.inner.Pairs.{KeepsPairs, NamesAny};
 use totals::NODES;
 use volts::Voltage;
@@ -41,17 +45,31 @@ pub fn keep_pairs(will: &mut [u32; NODES], pairs: &[i64]) -> bool
     true
 }
 
+// Writes the voltage of each pair to a slice of 32, at its node, the last one of a node last.
+pub fn put_pairs(volts: &mut [i64], pairs: &[i64])
+    requires { ⌜ length (now volts) ≡ nodesMost ⌝ }
+    requires { ⌜ somePairOff (now pairs) ≡ false ⌝ }
+    ensures { λ _. ⌜ now (volts .exit) ≡ movedTo (now (volts .entry)) (shiftsOf (now (pairs .entry))) ⌝ }
+{
+    let mut k: usize = 0;
+    while k + 1 < pairs.len() {
+        let at = given::node_of(pairs[k]) as usize;
+        volts[at] = pairs[k + 1];
+        k += 2;
+    }
+}
+
 // The places in the set of one of the nodes.
 pub fn naming_any(naming: &[u64; NODES], pairs: &[i64]) -> u64
     requires { ⌜ somePairOff (now pairs) ≡ false ⌝ }
     ensures { λ r. ⌜ NamesAny (now (pairs .entry)) (now (naming .entry)) r ⌝ }
 {
     let mut set: u64 = 0;
-    let mut i: usize = 0;
-    while i + 1 < pairs.len() {
-        let named = given::node_of(pairs[i]) as usize;
+    let mut k: usize = 0;
+    while k + 1 < pairs.len() {
+        let named = given::node_of(pairs[k]) as usize;
         set = set | naming[named];
-        i += 2;
+        k += 2;
     }
     set
 }

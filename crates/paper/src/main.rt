@@ -237,8 +237,7 @@ fn wide(x: u32) -> i64 {
 
 // Three entries of the table.
 fn run_table() {
-    let mut t = [0u32; octave::ENTRIES];
-    octave::lay_table(&mut t);
+    let t = octave::table();
     shown::line(b"t_0", b"", wide(t[0]), 1073741824);
     shown::line(b"t_128", b"", wide(t[128]), 1518500249);
     shown::line(b"t_256", b"", wide(t[256]), 2147483648);

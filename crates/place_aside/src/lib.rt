@@ -11,8 +11,8 @@ use totals::NODES;
 
 // The same as `seating::place`, and the number of the turn that it ends with.
 fn place_apart(
-    turns: u64,
-    turn: &mut u64,
+    turns: u32,
+    turn: &mut u32,
     issues: &mut [u32; places::TRANSISTORS],
     cards: &mut [u32; places::TRANSISTORS],
     seats: &mut [u8; places::TRANSISTORS],
@@ -79,7 +79,8 @@ fn place_apart(
     placed
 }
 
-// The same, apart from its callers. How many turns that takes is all one; it is told by a length, lest the compiler know it beforehand and write the turns out.
+// The same, apart from its callers. How many turns are taken is all one, and it is hardly ever any: the number is told
+// by what stands in an array, lest the compiler know it, and by two bits of that, since it writes a single turn out.
 pub fn place(
     issues: &mut [u32; places::TRANSISTORS],
     cards: &mut [u32; places::TRANSISTORS],
@@ -101,8 +102,8 @@ pub fn place(
     requires { ⌜ ((r : Rest) × Reached r × LendsPlaces r (now numbers) (now powers) (now ticks) (now switches) (now held) (now issues) (now cards) (now seats) (now nodes) (now naming) (now currents) (now next)) ⌝ }
     ensures { λ a. ⌜ ((r : Rest) → Reached r → LendsPlaces r (now (numbers .entry)) (now (powers .entry)) (now (ticks .entry)) (now (switches .entry)) (now (held .entry)) (now (issues .entry)) (now (cards .entry)) (now (seats .entry)) (now (nodes .entry)) (now (naming .entry)) (now (currents .entry)) (now (next .entry)) → LeavesPlaces (placedLent (stateWith r (now (volts .entry)) (now (totals .entry))) card roles) a (now (issues .exit)) (now (cards .exit)) (now (seats .exit)) (now (nodes .exit)) (now (naming .exit)) (now (totals .exit)) (now (currents .exit)) (now (next .exit))) ⌝ }
 {
-    let turns = if volts.len() == NODES { 1u64 } else { 2u64 };
-    let mut turn = 0u64;
+    let turns = issues[0] >> 30;
+    let mut turn = 0u32;
     place_apart(
         turns,
         &mut turn,

@@ -1,34 +1,6 @@
-// Voltages and totals written to the lent slices.
-ghost use mathlib.Core.Path.{_≡_};
-ghost use mathlib.Core.List.{map};
-ghost use lib.ListN.{length};
-ghost use Rattle.volts.specs.Volts.{givenBack};
-ghost use Rattle.totals.specs.Gives.{nodesMost};
+// The two lent slices cleared.
 ghost use Rattle.slices.specs.Slices.{Clears};
 use totals::NODES;
-
-// Writes kept voltages to a slice of 32.
-pub fn put_volts(volts: &mut [i64], will: &[u32; NODES])
-    requires { ⌜ length (now volts) ≡ nodesMost ⌝ }
-    requires { ⌜ length (now will) ≡ nodesMost ⌝ }
-    ensures { λ _. ⌜ now (volts .exit) ≡ map givenBack (now (will .entry)) ⌝ }
-{
-    for k in 0..NODES {
-        let v = volts::give_back(will[k]);
-        volts[k] = v;
-    }
-}
-
-// Writes totals to one.
-pub fn put_totals(totals: &mut [i64], next: &[i64; NODES])
-    requires { ⌜ length (now totals) ≡ nodesMost ⌝ }
-    requires { ⌜ length (now next) ≡ nodesMost ⌝ }
-    ensures { λ _. ⌜ now (totals .exit) ≡ now (next .entry) ⌝ }
-{
-    for k in 0..NODES {
-        totals[k] = next[k];
-    }
-}
 
 // Sets every voltage and every total to 0, where both slices have 32 numbers; tells whether they have.
 pub fn clear(volts: &mut [i64], totals: &mut [i64]) -> bool
@@ -38,7 +10,7 @@ pub fn clear(volts: &mut [i64], totals: &mut [i64]) -> bool
         return false;
     }
     let none = [0i64; NODES];
-    put_totals(volts, &none);
-    put_totals(totals, &none);
+    standing::put_totals(volts, &none);
+    standing::put_totals(totals, &none);
     true
 }

@@ -13,8 +13,7 @@ pub fn prepare(c: WorkedCard) -> Ready
     let plain = octave::reciprocal_of(c.octave as u64);
     let second = octave::reciprocal_of(c.second as u64);
     let doubled = octave::reciprocal_of(2 * c.octave as u64);
-    let mut table = [0u32; octave::ENTRIES];
-    octave::lay_table(&mut table);
+    let table = octave::table();
     let knee = octave::exponential_at(&table, c.knee as u64, doubled);
     Ready {
         card: c,

@@ -19,7 +19,7 @@ use Rattle.totals.specs.inner.Sums.{More, Givable}
 use Rattle.given.specs.Arguments.{issueOf, issuesMost, usedUp, wideBy}
 use Rattle.given.specs.inner.Nodes.{nodeOf}
 use Rattle.deck.specs.Stretch.{written}
-use Rattle.slices.specs.Slices.{offSlices, changed, Stands}
+use Rattle.slices.specs.Slices.{offSlices, changed, StandsIn}
 use Rattle.placing.specs.declared.Way.{Way}
 use Rattle.placing.specs.declared.Way.the-variants.{Go, Stop}
 use Rattle.placing.specs.inner.Placing.{placing, wayOf}
@@ -38,7 +38,7 @@ use Rattle.lending.specs.Lending.{refuse, placedLent}
 use Rattle.lending.specs.Reached.{Reached}
 use Rattle.lending.specs.inner.Lent.{stateWith, LendsPlaces, LeavesPlaces}
 use Rattle.lending.proofs.Footing.{ground-in}
-use Rattle.lending.proofs.Tests.{stood-bad, stood-good, stood-long}
+use Rattle.lending.proofs.Tests.{stood-bad, stood-good}
 use Rattle.lending.proofs.Cases.{Taken, off-slices, refused-by, leaves-64, taken-so}
 use Rattle.lending.proofs.Sums.{none}
 use Rattle.lending.proofs.Leaves.{stays}
@@ -163,35 +163,32 @@ module _ {r : Rest} {numbers powers ticks : List ℕ} {switches : List Bool}
             taken : Taken (placedOf (boardIn found) card given .answer)
             taken = rw (place-goes (boardIn found) g card given seen-is long on-are way-is e own-works h)
 
-            module _ {fits : Bool} {after : List ℤ} (judged : Stands totals coming none fits after) where
-              pub lent-long : length after ≡ nodesMost
-              lent-long = stood-long judged
-
+            module _ {fits : Bool} {after : List ℤ} (judged : StandsIn totals coming none fits after) where
               pub lent-leaves-64 : fits ≡ false →
-                  Leaves r (Refused OutOfReach) issues cards seats nodes naming totals currents next
+                  Leaves r (Refused OutOfReach) issues cards seats nodes naming after currents next
               unfolding placedLent
               lent-leaves-64 bad =
-                  refused
-                  (leaves-64 (λ (b : Board). placedOf b card given) found good taken
-                  (rw (← stands) (stood-bad judged bad)))
+                  let y = stood-bad judged bad in
+                  rw (y .1)
+                  (refused
+                  (leaves-64 (λ (b : Board). placedOf b card given) found good taken (rw (← stands) (y .0))))
 
               -- whatever was left in the arrays that others write
-              pub lent-places : fits ≡ true → {t : List ℤ} → t ≡ after → {n s : List ℕ} {c : List ℤ} →
+              pub lent-places : fits ≡ true → {n s : List ℕ} {c : List ℤ} →
                   n ≡ written 0 nodes (roles * free) on roles → s ≡ joined naming free on →
                   c ≡ written (pos 0) currents (branches * free) (o .ticks) branches →
-                  Leaves r (Issue next) (set issues free next) (set cards free (getD held i 0)) (set seats free i) n s t
-                  c (next + 1)
+                  Leaves r (Issue next) (set issues free next) (set cards free (getD held i 0)) (set seats free i) n s
+                  after c (next + 1)
               unfolding placedLent
-              lent-places so {t} p {n} {s} {c} q u v =
+              lent-places so {n} {s} {c} q u v =
                   let y = stood-good judged so in
                   subst
                   (λ (m : Rest). Leaves m (Issue next) (set issues free next) (set cards free (getD held i 0))
-                  (set seats free i) n s t c (next + 1)) own-is
+                  (set seats free i) n s after c (next + 1)) own-is
                   (rw (
                     q,
                     u,
                     v,
-                    p,
                     y .1,
                     stands,
                     taken-so (λ (b : Board). placedOf b card given) found good taken (rw (← stands) (y .0)),

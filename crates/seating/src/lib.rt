@@ -45,23 +45,19 @@ pub fn place(
     match way {
         Way::Stop(f) => Answer::Refused(f),
         Way::Go(at, free) => {
-            let mut table = [0u32; octave::ENTRIES];
-            octave::lay_table(&mut table);
+            let table = octave::table();
             let o = settle::work(&table, numbers, powers, ticks, switches, at, &on, &kept);
             let own = o.ticks;
-            let mut coming = [0i64; NODES];
-            settle::put_in(&mut coming, &on, &own);
-            let going = [0i64; NODES];
-            let mut after = [0i64; NODES];
-            let fits = standing::stand_all(&mut after, totals, &coming, &going);
             let over = o.over;
             if settle::is_over(over) {
                 return Answer::Refused(settle::refusal_of(issue, over));
             }
-            if !fits {
+            let mut coming = [0i64; NODES];
+            settle::put_in(&mut coming, &on, &own);
+            let going = [0i64; NODES];
+            if !standing::stand_in(totals, &coming, &going) {
                 return Answer::Refused(Refusal::OutOfReach);
             }
-            putting::put_totals(totals, &after);
             issues[free] = issue;
             cards[free] = held[at];
             seats[free] = at as u8;

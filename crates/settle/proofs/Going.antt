@@ -12,11 +12,13 @@ use lib.Dec.{eqb}
 use lib.ListN.{length, getD, replicate, length-replicate, List·getD-eq-default}
 use lib.IntN.{ℤ, pos, natAbs, negℤ, _+ℤ_, _-ℤ_, +ℤ-idr, +ℤ-comm, negℤ-+ℤ}
 use Rattle.whole.specs.laws.Biased.{below-or-not}
+use Rattle.refusal.specs.Clash.{clash}
 use Rattle.volts.specs.Volts.{givenBack}
 use Rattle.octave.specs.Table.{entries}
 use Rattle.scaling.specs.Scaled.{tickLimit}
 use Rattle.rows.specs.declared.Over.{Over}
 use Rattle.rows.specs.declared.Outcome.{Outcome}
+use Rattle.rows.specs.Outcome.{isOver}
 use Rattle.terms.specs.Rows.{branches}
 use Rattle.totals.specs.Gives.{nodesMost}
 use Rattle.totals.specs.Flow.{flow, ticksGive, sumBelow, withMore}
@@ -25,8 +27,8 @@ use Rattle.totals.specs.inner.Sizes.{flowMost, roomMost}
 use Rattle.totals.proofs.Integers.{abs-add, swap-inner}
 use Rattle.deck.specs.Stretch.{written}
 use Rattle.deck.specs.laws.Stretches.{length-stretch, getD-none}
-use Rattle.deck.specs.laws.Ups.{up-same}
-use Rattle.slices.specs.Slices.{someOutside, changed, Stands}
+use Rattle.deck.specs.laws.Ups.{up-same, length-up}
+use Rattle.slices.specs.Slices.{someOutside, changed, StandsIn}
 use Rattle.flows.specs.Back.{ticksBack}
 use Rattle.flows.specs.inner.Workable.{Workable, Works, cardOf}
 use Rattle.flows.proofs.Currents.{ticks-within, ticks-count, ticks-small-give}
@@ -212,7 +214,7 @@ module _ (r : Round) (currents : List ℤ) where
       record {
         first-is = s .first-is;
         fits-is = s .fits-is;
-        next-is = s .next-is;
+        totals-are = s .totals-are;
         held = s .held ∙ ap (λ (l : List ℤ). cond (isTaken told) l currents) (sym (held-past 0 i zero-le next));
       }
 
@@ -281,35 +283,48 @@ module _ (r : Round) (currents : List ℤ) where
 
   -- ---- none is left, and on the way back
 
-  pub gone-all : {totals : List ℤ} {i : ℕ} {coming going : List ℤ} {first : First} →
-      Gone r currents i coming going first → transistorsMost ≤ i → {fits : Bool} {next : List ℤ} →
-      Stands totals coming going fits next →
-      Settled r currents totals i (record { first = first; fits = fits }) next currents
-  unfolding renewed
-  gone-all {totals} {i} {coming} {going} {first} g h {fits} {next} stands =
-      let m = g .most in
-      let e : i ≡ transistorsMost = omega arith in
-      let same = changed-is totals (rw e at (g .comes)) (rw e at (g .goes)) in
-      record {
-        first-is = rw e at (g .first-is);
-        fits-is = stands .told ∙ ap (λ (l : List ℤ). not (someOutside l)) same;
-        next-is = stands .next-is ∙ ap (λ (l : List ℤ). cond fits l (replicate nodesMost (pos 0))) same;
-        held = rw e (sym (either (isTaken (record { first = first; fits = fits }))));
-      }
-    where
-      either : (t : Bool) → cond t currents currents ≡ currents
-      either true = refl
-      either false = refl
+  module _ {i : ℕ} {coming going : List ℤ} {first : First} (g : Gone r currents i coming going first)
+      (h : transistorsMost ≤ i) where
+    last : i ≡ transistorsMost
+    last = let m = g .most in omega arith
+
+    -- somebody overloads: nothing more is judged
+    pub gone-over : isOver (first .over) ≡ true → {totals : List ℤ} →
+        Settled r currents totals i (record { first = first; fits = false }) totals currents
+    gone-over o =
+        record {
+          first-is = rw last at (g .first-is);
+          fits-is = λ n. clash cc;
+          totals-are = rw o;
+          held = rw o;
+        }
+
+    pub gone-all : isOver (first .over) ≡ false → {totals : List ℤ} {fits : Bool} {totals′ : List ℤ} →
+        StandsIn totals coming going fits totals′ →
+        Settled r currents totals i (record { first = first; fits = fits }) totals′ currents
+    unfolding renewed
+    gone-all o {totals} {fits} stands =
+        let same = changed-is totals (rw last at (g .comes)) (rw last at (g .goes)) in
+        record {
+          first-is = rw last at (g .first-is);
+          fits-is = λ n. stands .told ∙ ap (λ (l : List ℤ). not (someOutside l)) same;
+          totals-are = rw o (stands .totals-are ∙ ap (λ (l : List ℤ). cond fits l totals) same);
+          held = rw last (sym (either (isTaken (record { first = first; fits = fits }))));
+        }
+      where
+        either : (t : Bool) → cond t currents currents ≡ currents
+        either true = refl
+        either false = refl
 
   -- a set without places: nobody overloads, nothing comes and nothing goes, and what is held is held on
-  pub settled-none : r .marked ≡ 0 → {totals after : List ℤ} →
-      Stands totals (replicate nodesMost (pos 0)) (replicate nodesMost (pos 0)) true after →
-      Settled r currents totals 0 (record { first = nobody; fits = true }) after currents
+  pub settled-none : r .marked ≡ 0 → {totals : List ℤ} {fits : Bool} →
+      StandsIn totals (replicate nodesMost (pos 0)) (replicate nodesMost (pos 0)) fits totals →
+      Settled r currents totals 0 (record { first = nobody; fits = fits }) totals currents
   settled-none e stands =
-      held-start transistorsMost last (gone-all (gone-none transistorsMost last) (omega arith) stands)
+      held-start transistorsMost end (gone-all (gone-none transistorsMost end) (omega arith) refl stands)
     where
-      last : NextIn (r .marked) 0 transistorsMost
-      last =
+      end : NextIn (r .marked) 0 transistorsMost
+      end =
           record {
             most = omega arith;
             later = λ q. zero-le;
@@ -317,12 +332,22 @@ module _ (r : Round) (currents : List ℤ) where
             between = λ j p q. rw e (ap (λ (x : ℕ). eqb (x % 2) 1) (zero-div (2 ^ j)));
           }
 
+  -- as many totals as before
+  pub settled-long : {totals : List ℤ} → length totals ≡ nodesMost → {i : ℕ} {told : Judgement} {totals′ held : List ℤ} →
+      Settled r currents totals i told totals′ held → length totals′ ≡ length totals
+  unfolding withMore
+  settled-long {totals} long {told = told} s = ap length (s .totals-are) ∙ go (isTaken told)
+    where
+      go : (t : Bool) → length (cond t (standing r currents totals) totals) ≡ length totals
+      go true = length-up (λ (n : ℕ). getD totals n (pos 0) +ℤ gained r currents transistorsMost n) nodesMost 0 ∙ sym long
+      go false = refl
+
   module _ {i next : ℕ} (h : i < transistorsMost) (n : NextIn (r .marked) (i + 1) next) {totals : List ℤ}
       {told : Judgement} {after held : List ℤ} (s : Settled r currents totals next told after held) where
     -- it is refused: what was held is held on
     pub back-left : isTaken told ≡ false → Settled r currents totals i told after held
     back-left e =
-        record { first-is = s .first-is; fits-is = s .fits-is; next-is = s .next-is; held = s .held ∙ rw e }
+        record { first-is = s .first-is; fits-is = s .fits-is; totals-are = s .totals-are; held = s .held ∙ rw e }
 
     pub back-held : isTaken told ≡ true → member (r .marked) i ≡ true → {on : List ℕ} →
         on ≡ nodesAt (r .nodes) i → {w : Outcome} →
@@ -333,7 +358,7 @@ module _ (r : Round) (currents : List ℤ) where
         record {
           first-is = s .first-is;
           fits-is = s .fits-is;
-          next-is = s .next-is;
+          totals-are = s .totals-are;
           held = rw (e, one, m, new, rest);
         }
       where

@@ -1,4 +1,4 @@
-// The places of a set brought to new voltages: what comes into the totals and what goes out, how they would stand, what
+// The places of a set brought to new voltages: what comes into the totals and what goes out, how they stand then, what
 // is held then, and the first of the places that overloads.
 ghost use Prim.Native.Nat.{_*_, _<_};
 ghost use lib.IntN.{pos};
@@ -33,15 +33,14 @@ fn put_out(going: &mut [i64; NODES], on: &[u8; ROLES], currents: &[i64; ALL_CURR
     put_in(going, on, &old);
 }
 
-// Works the place i of the set and then those after it; after the last, the totals are judged as they would stand. A
-// place's new currents are held on the way back, when nothing has turned out to be refused, so that nothing is to be
-// undone.
+// Works the place i of the set and then those after it; after the last, unless one overloads, the totals are judged as
+// they would stand, and are written. A place's new currents are held on the way back, when nothing has turned out to be
+// refused, so that nothing is to be undone.
 fn settle_from(
     currents: &mut [i64; ALL_CURRENTS],
     coming: &mut [i64; NODES],
     going: &mut [i64; NODES],
-    next: &mut [i64; NODES],
-    totals: &[i64],
+    totals: &mut [i64],
     table: &Table,
     numbers: &[u32; deck::ALL_NUMBERS],
     powers: &[u16; deck::ALL_POWERS],
@@ -61,10 +60,14 @@ fn settle_from(
     ensures { λ r. ⌜ Settled
         (roundOf (deckOf (now (numbers .entry)) (now (powers .entry)) (now (ticks .entry)) (now (switches .entry)))
         (now (issues .entry)) (now (seats .entry)) (now (nodes .entry)) set (now (will .entry)))
-        (now (currents .entry)) (now (totals .entry)) i r (now (next .exit)) (now (currents .exit)) ⌝ }
+        (now (currents .entry)) (now (totals .entry)) i r (now (totals .exit)) (now (currents .exit)) ⌝ }
 {
     if TRANSISTORS <= i {
-        let fits = standing::stand_all(next, totals, coming, going);
+        let over = first.over;
+        if settle::is_over(over) {
+            return Judgement { first, fits: false };
+        }
+        let fits = standing::stand_in(totals, coming, going);
         return Judgement { first, fits };
     }
     let s = seats[i] as usize;
@@ -80,7 +83,6 @@ fn settle_from(
         currents,
         coming,
         going,
-        next,
         totals,
         table,
         numbers,
@@ -102,13 +104,12 @@ fn settle_from(
 }
 
 // Brings the places of the set to the new voltages: at their nodes what they hold goes out of the totals and what they
-// will have comes in, and that is held then. Tells the first of them that overloads then, and whether every total as it
-// would stand is in range; where one overloads or a total is not, what was held is held on. The totals as they would
-// stand are written to `next`, and those lent are left. Where the set has no places, nothing is worked.
+// will have comes in, and that is held then. Tells the first of them that overloads then, and where none does whether
+// every total as it would stand is in range; where one overloads or a total is not, the totals stay and what was held is
+// held on. Where the set has no places, nothing is worked.
 pub fn settle(
     currents: &mut [i64; ALL_CURRENTS],
-    next: &mut [i64; NODES],
-    totals: &[i64],
+    totals: &mut [i64],
     numbers: &[u32; deck::ALL_NUMBERS],
     powers: &[u16; deck::ALL_POWERS],
     ticks: &[u64; deck::ALL_TICKS],
@@ -125,18 +126,17 @@ pub fn settle(
     ensures { λ r. ⌜ Settled
         (roundOf (deckOf (now (numbers .entry)) (now (powers .entry)) (now (ticks .entry)) (now (switches .entry)))
         (now (issues .entry)) (now (seats .entry)) (now (nodes .entry)) set (now (will .entry)))
-        (now (currents .entry)) (now (totals .entry)) 0 r (now (next .exit)) (now (currents .exit)) ⌝ }
+        (now (currents .entry)) (now (totals .entry)) 0 r (now (totals .exit)) (now (currents .exit)) ⌝ }
 {
     let first = First {
         issue: 0,
         over: Over::Within,
     };
     if set == 0 {
-        standing::stand_still(next, totals);
-        return Judgement { first, fits: true };
+        let stay = standing::stand_still(totals);
+        return Judgement { first, fits: stay };
     }
-    let mut table = [0u32; octave::ENTRIES];
-    octave::lay_table(&mut table);
+    let table = octave::table();
     let mut coming = [0i64; NODES];
     let mut going = [0i64; NODES];
     let i = sets::next_in(set, 0);
@@ -144,7 +144,6 @@ pub fn settle(
         currents,
         &mut coming,
         &mut going,
-        next,
         totals,
         &table,
         numbers,

@@ -6,7 +6,7 @@ use mathlib.Core.Logic.{_⊎_, inl, inr}
 use Prim.Native.Nat.{ℕ, zero, suc, _+_, _≤_, _<_}
 use native.Mathlib.Omega.{arith}
 use lib.Dec.{eqb}
-use lib.ListN.{length, getD, set, replicate}
+use lib.ListN.{length, getD, set, replicate, length-replicate}
 use lib.IntN.{ℤ, pos, _+ℤ_, _-ℤ_}
 use mir.Syntax.{w64}
 use mir.Val.{SFits}
@@ -23,7 +23,7 @@ use Rattle.deck.specs.laws.Stretches.{getD-none}
 use Rattle.deck.specs.laws.Ups.{length-up, getD-up}
 use Rattle.slices.specs.declared.Total.{Total}
 use Rattle.slices.specs.declared.Total.the-variants.{At, Leaves}
-use Rattle.slices.specs.Slices.{offSlices, rightLengths, KeepsVolts, Keeps, outside64, standingAt, changed, Stands}
+use Rattle.slices.specs.Slices.{offSlices, rightLengths, KeepsVolts, Keeps, outside64, standingAt, changed, Stands, StandsIn}
 use Rattle.slices.proofs.Raised.{inside-held, same-stands}
 
 -- ---- while it is filled
@@ -198,6 +198,29 @@ module _ (totals coming going : List ℤ) where
       one-passes outside64 (pos 0) (changed totals coming going) k (omega arith) (ap outside64 (changed-at k h) ∙ e) in
       record { told = ap not (sym out); next-is = refl }
 
+  -- as many of them, and written in place, or left
+  module _ {r : Bool} {next : List ℤ} (s : Stands totals coming going r next) where
+    pub stood-long : length next ≡ nodesMost
+    stood-long = ap length (s .next-is) ∙ go r
+      where
+        go : (t : Bool) → length (cond t (changed totals coming going) (replicate nodesMost (pos 0))) ≡ nodesMost
+        go true = changed-long
+        go false = length-replicate nodesMost (pos 0)
+
+    pub stays-in : r ≡ false → StandsIn totals coming going false totals
+    stays-in e = record { told = sym e ∙ s .told; totals-are = refl }
+
+    pub stands-in : r ≡ true → {totals′ : List ℤ} → totals′ ≡ next → StandsIn totals coming going true totals′
+    stands-in e p = record { told = sym e ∙ s .told; totals-are = p ∙ s .next-is ∙ rw e }
+
+  pub in-long : {r : Bool} {totals′ : List ℤ} → StandsIn totals coming going r totals′ → length totals ≡ nodesMost →
+      length totals′ ≡ length totals
+  in-long {r} s long = ap length (s .totals-are) ∙ go r
+    where
+      go : (t : Bool) → length (cond t (changed totals coming going) totals) ≡ length totals
+      go true = changed-long ∙ sym long
+      go false = refl
+
 -- where nothing comes and nothing goes a total stands as it is
 abbrev pub none : List ℤ
 none = replicate nodesMost (pos 0)
@@ -205,6 +228,17 @@ none = replicate nodesMost (pos 0)
 no-more : (i : ℕ) → SFits w64 (getD none i (pos 0))
 no-more i = rw (getD-none (pos 0) nodesMost i) (record { sfits = omega arith })
 
-pub still-at : (totals : List ℤ) (i : ℕ) → SFits w64 (getD totals i (pos 0)) →
+still-at : (totals : List ℤ) (i : ℕ) → SFits w64 (getD totals i (pos 0)) →
     StandsAt totals none none i (getD totals i (pos 0))
 still-at totals i fits = in-by totals none none i refl (same-stands fits (no-more i) refl refl) refl
+
+pub still-all : (totals : List ℤ) → length totals ≡ nodesMost →
+    ((i : ℕ) → i < nodesMost → SFits w64 (getD totals i (pos 0))) → StandsIn totals none none true totals
+still-all totals long fits =
+    stands-in totals none none
+    (stood-all totals none none {k = nodesMost} (omega arith)
+    (record {
+      filled = record { long = long; at = λ i q. still-at totals i (fits i q) .is };
+      on = record { each = λ i q. still-at totals i (fits i q) .on };
+    }))
+    refl refl

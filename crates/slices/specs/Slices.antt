@@ -69,6 +69,11 @@ pub record Stands (totals coming going : List ℤ) (r : Bool) (next : List ℤ) 
   pub told : r ≡ not (someOutside (changed totals coming going))
   pub next-is : next ≡ cond r (changed totals coming going) (replicate nodesMost (pos 0))
 
+-- the same in place: where one leaves, all stay as they are
+pub record StandsIn (totals coming going : List ℤ) (r : Bool) (totals′ : List ℤ) : Type 0 where
+  pub told : r ≡ not (someOutside (changed totals coming going))
+  pub totals-are : totals′ ≡ cond r (changed totals coming going) totals
+
 -- ---- a number raised by the largest size, so that none is negative
 
 abbrev pub raisedBy : ℕ → ℤ → ℕ

@@ -1,6 +1,6 @@
 -- `desk_lift` meets its contract: it hands a copy of the board to `host_moves::lift` and writes back the board that it gives.
 -- A walk through its steps, written by tools/walks.
-use mathlib.Core.Path.{_≡_, refl, ap}
+use mathlib.Core.Path.{refl}
 use mathlib.Core.List.{List, [], _∷_}
 use Prim.Native.Nat.{ℕ, _<_, _^_}
 use lib.ListN.{length}
@@ -19,22 +19,21 @@ use contract.Monad.{Fun, fact}
 use contract.Running.{givenOf, tables, tablesOf}
 use types.Kit.{Given, ‵, raw, _⊛_, some, later, _$_, _∵_, !, qed, by, move, keep, drop, use1, use2, split, join, pick}
 use types.Kit.{fsplit, fsplit3, fjoin, fjoin3, feqI, feqL, suffices, frame, await, rewrite, ⋆, done}
-use types.Run.{look, look-raw, store-raw, init, forget, stop, hop, fld, from, load, addr, of-opd, and-then, no-more}
-use types.Run.{assigns, land, returns, enter, alloc1, alloc0, params1, pass1, pass0, free1, free0}
+use types.Run.{look, look-raw, store-raw, init, stop, hop, fld, from, load, addr, of-opd, and-then, no-more}
+use types.Run.{assigns, land, returns}
 use types.Part.{agg, whole, sub, look-in}
 use types.SemTy.{Body}
 use sound.WpLaws.{FmC, fmOf, WpFn-mono}
 use denote.RattleType.{owns}
-use denote.Laws.{Is, shows}
+use denote.Laws.{Is}
 use denote.Memory.{mem}
 use denote.Plain.{uint-makes}
 use denote.Signed.{sint-vals, sint-tells, sint-lawful}
 use denote.Builtin.{u32, i64}
 use denote.Ref.{RefT, MutRef, ptr-vals, mut-tells}
-use denote.Slice.{sliceVal, MutSlice, ShrSlice, Room, finally, slice-vals, mut-slice-tells, shr-slice-tells}
+use denote.Slice.{sliceVal, MutSlice, ShrSlice, Room, slice-vals, mut-slice-tells, shr-slice-tells}
 use denote.Signature.{plain, shrSliceOf}
-use denote.Steps.{only, opens, closes, owned, peeks, heard, nothing}
-use denote.Struct.Steps.{spelt}
+use denote.Steps.{owned, heard, nothing}
 use denote.Triple.Entry.{onEntry}
 use denote.Triple.Spec.{Meets, tripleOf}
 use denote.Triple.Statement.{Contract, Triple}
@@ -47,11 +46,10 @@ use denote.Exit.{yes}
 use Rattle.lending.specs.Lending.{liftedLent}
 use Rattle.board.specs.Promise.{stateIn, Reached}
 use Rattle.host_moves.specs.Moves.{Lifted}
-use denote.Struct.Laws as LL
 use Rattle.board.specs.declared.Board.{Board}
 use Rattle.board.proofs.Board as B
-use Rattle.board.proofs.Board.Laws as B′
-use Rattle.host.proofs.Parts.{mach, parts}
+use Rattle.host.proofs.Locals.{begins, ends}
+use Rattle.host.proofs.Parts.{mach, IsBoard, typed, made, outcome-typed, outcome-tells, parts, gave, opened, closed}
 use Rattle.host_changes.specs.declared.Outcome as outcome
 use Rattle.host_changes.proofs.Outcome as O
 use Rattle.host_changes.proofs.Outcome.Laws as O′
@@ -94,19 +92,37 @@ module _ {M : Type 1} (𝓤 : URA M) (H : Heap 𝓤) (A : Atoms 𝓤) (W : Given
   abbrev Rest-owned : Fml
   Rest-owned = owns (ShrSlice (named 1) κ1 i64 ∷ MutSlice (named 2) κ2 i64 ∷ i64 ∷ []) rest rest-vals
 
-  hands-over : Is B.the-row was (mach was ∷ []) → Reached was → ent 𝓤 (sep 𝓤 (sep 𝓤 (A .lft κ1 q1) (sep 𝓤 (A .lft κ2 q2) (sem 𝓤 H A ftrue))) (sem 𝓤 H A Rest-owned)) (Worker 𝓤 H A at-mem run .pre to-worker)
+  hands-over : IsBoard was → Reached was → ent 𝓤 (sep 𝓤 (sep 𝓤 (A .lft κ1 q1) (sep 𝓤 (A .lft κ2 q2) (sem 𝓤 H A ftrue))) (sem 𝓤 H A Rest-owned)) (Worker 𝓤 H A at-mem run .pre to-worker)
   hands-over g reached =
       qed W ((‵ (flft κ1 q1) ⊛ ‵ (flft κ2 q2) ⊛ ‵ ftrue) ∷ ‵ Rest-owned ∷ []) ∵
       says ! reached $ frame ! $
-      owned ! B.the-row (Is B.the-row) (LL.makes B.the-type B′.the-plain 𝓤 H A) was _ g $ fjoin ! $ done !
+      made ! was g $ fjoin ! $ done !
 
-  at-end : (r : outcome.Outcome) (to-totals : List ℤ) → Lifted (liftedLent (stateIn was (at-volts .now) (at-totals .now)) at-transistor) (r .board) to-totals (r .code) → length to-totals ≡ length (at-totals .now) → r .code < 2 ^ 32 → ent 𝓤 (⋆ 𝓤 H A (‵ (fobs γ (B.the-row .coded .code (r .board))) ∷ ‵ (fbor κ0 (Body (mem B.the-row) b o γ)) ∷ ‵ (flft κ0 q0) ∷ (‵ (flft κ1 q1) ⊛ ‵ (flft κ2 q2) ⊛ ‵ ftrue) ∷ ‵ (finally i64 (at-totals .name) to-totals) ∷ [])) (Post (vint w32 (r .code)))
-  at-end r to-totals e long-totals small =
-      qed W (‵ (fobs γ (B.the-row .coded .code (r .board))) ∷ ‵ (fbor κ0 (Body (mem B.the-row) b o γ)) ∷ ‵ (flft κ0 q0) ∷ (‵ (flft κ1 q1) ⊛ ‵ (flft κ2 q2) ⊛ ‵ ftrue) ∷ ‵ (finally i64 (at-totals .name) to-totals) ∷ []) ∵
-      suffices ! _ (ends-at 𝓤 H A own.ended stayed (own.clauses 𝓤 H A at-mem run) W (((κ0, (κ1, (κ2, tt))), (q0, (q1, (q2, tt))), tt, all, all-vals), tt) (vint w32 (r .code)) (r .code) (r .board, (tt, (to-totals, (tt, tt)))) (tt, (tt, (long-totals, (tt, tt))))) $
+  at-end : (r : outcome.Outcome) → r .code < 2 ^ 32 → ent 𝓤 (⋆ 𝓤 H A (raw (ensured 𝓤 H A worker.ended (worker.clauses 𝓤 H A at-mem run) (κ1, (κ2, tt)) (was, rest) tt r) ∷ ‵ (fobs γ (B.the-row .coded .code (r .board))) ∷ ‵ (fbor κ0 (Body (mem B.the-row) b o γ)) ∷ ‵ (flft κ0 q0) ∷ (‵ (flft κ1 q1) ⊛ ‵ (flft κ2 q2) ⊛ ‵ ftrue) ∷ [])) (Post (vint w32 (r .code)))
+  at-end r small =
+      qed W (raw (ensured 𝓤 H A worker.ended (worker.clauses 𝓤 H A at-mem run) (κ1, (κ2, tt)) (was, rest) tt r) ∷ ‵ (fobs γ (B.the-row .coded .code (r .board))) ∷ ‵ (fbor κ0 (Body (mem B.the-row) b o γ)) ∷ ‵ (flft κ0 q0) ∷ (‵ (flft κ1 q1) ⊛ ‵ (flft κ2 q2) ⊛ ‵ ftrue) ∷ []) ∵
+      -- what the worker ensures, at what is there at the end
+      use1 W (some (λ (zs : Unit {0} × (Unit {0} × (List ℤ × (Unit {0} × Unit {0})))). ‵ (lasts worker.ended (κ1, (κ2, tt)) (was, rest) zs) ⊛ raw (fact 𝓤 (Lifted (liftedLent (stateIn was (at-volts .now) (at-totals .now)) at-transistor) (r .board) (zs .1 .1 .0) (r .code))))) (id⊢ 𝓤 _) $ pick ! (λ zs.
+      split ! $
+      move ! (1 ∷ []) $
+      heard ! (Lifted (liftedLent (stateIn was (at-volts .now) (at-totals .now)) at-transistor) (r .board) (zs .1 .1 .0) (r .code)) (λ e.
+      fsplit ! $ drop ! $
+      fsplit ! $
+      drop ! $
+      fsplit ! $
+      fsplit ! $
+      move ! (1 ∷ []) $
+      feqL ! (λ long-totals.
+      move ! (1 ∷ []) $
+      fsplit ! $
+      drop ! $
+      drop ! $
+      -- and with it what the function ensures
+      suffices ! _ (ends-at 𝓤 H A own.ended stayed (own.clauses 𝓤 H A at-mem run) W (((κ0, (κ1, (κ2, tt))), (q0, (q1, (q2, tt))), tt, all, all-vals), tt) (vint w32 (r .code)) (r .code) (r .board, (tt, ((zs .1 .1 .0), (tt, tt)))) (tt, (tt, (long-totals, (tt, tt))))) $
       says ! e $
-      move ! (2 ∷ 3 ∷ []) $
+      move ! (3 ∷ 4 ∷ []) $
       join ! $ frame ! $
+      move ! (1 ∷ 2 ∷ []) $
       feqI ! (List Val) (vptr b o ∷ []) (vptr b o ∷ []) refl $ fjoin3 ! $
       nothing ! $
       nothing ! $ fjoin ! $
@@ -114,115 +130,47 @@ module _ {M : Type 1} (𝓤 : URA M) (H : Heap 𝓤) (A : Atoms 𝓤) (W : Given
       fjoin ! $
       nothing ! $ fjoin ! $
       move ! (1 ∷ 0 ∷ []) $
-      fjoin ! $ frame ! $ owned ! u32 (Is u32) (uint-makes 𝓤 H A W w32) (r .code) _ (refl, small) $ done !
+      fjoin ! $ frame ! $ owned ! u32 (Is u32) (uint-makes 𝓤 H A W w32) (r .code) _ (refl, small) $ done !)))
 
   module _ (C : Calls 𝓤 H) (Λ : Loops 𝓤 H) (fm : FmC 𝓤 H (W .laws) C) (known : Triple 𝓤 (C #worker) (Worker 𝓤 H A at-mem run)) where
     walk : Room i64 (length (at-volts .now)) → Room i64 (length (at-totals .now)) → Is i64 at-transistor (vint w64 (ofZ w64 at-transistor) ∷ []) → Reached was → ent 𝓤 (onEntry 𝓤 H A own.signature (κ0, (κ1, (κ2, tt))) (q0, (q1, (q2, tt))) all all-vals) (WpFn 𝓤 H C Λ code.function (vptr b o ∷ sliceVal (at-volts .ptr) (length (at-volts .now)) ∷ sliceVal (at-totals .ptr) (length (at-totals .now)) ∷ vint w64 (ofZ w64 at-transistor) ∷ []) Post)
     walk fits-volts fits-totals fits-transistor reached =
         qed W ((‵ (flft κ0 q0) ⊛ ‵ (flft κ1 q1) ⊛ ‵ (flft κ2 q2) ⊛ ‵ ftrue) ∷ ‵ (owns (MutRef (named 0) κ0 B.the-row ∷ ShrSlice (named 1) κ1 i64 ∷ MutSlice (named 2) κ2 i64 ∷ i64 ∷ []) all all-vals) ∷ []) ∵
-        enter ! C Λ code.function (vptr b o ∷ sliceVal (at-volts .ptr) (length (at-volts .now)) ∷ sliceVal (at-totals .ptr) (length (at-totals .now)) ∷ vint w64 (ofZ w64 at-transistor) ∷ []) _ $
-        alloc1 ! (λ m0.
-        alloc1 ! (λ m1.
-        alloc1 ! (λ m2.
-        alloc1 ! (λ m3.
-        alloc1 ! (λ m4.
-        alloc1 ! (λ m5.
-        alloc1 ! (λ m6.
-        alloc1 ! (λ m7.
-        alloc1 ! (λ m8.
-        alloc0 ! $ params1 ! $
-        pass1 ! (init ! 14 refl (tt, tt)) $
-        pass1 ! (init ! 12 refl (tt, (tt, (record { fits = fits-volts .0 }, tt)))) $
-        pass1 ! (init ! 10 refl (tt, (tt, (record { fits = fits-totals .0 }, tt)))) $
-        pass1 ! (init ! 8 refl (sint-lawful 𝓤 H A W w64 .typed at-transistor _ fits-transistor .0)) $
-        pass0 ! $
+        begins ! C Λ code.function (vptr b o ∷ sliceVal (at-volts .ptr) (length (at-volts .now)) ∷ sliceVal (at-totals .ptr) (length (at-totals .now)) ∷ vint w64 (ofZ w64 at-transistor) ∷ []) _ ((tt, tt), ((tt, (tt, (record { fits = fits-volts .0 }, tt))), ((tt, (tt, (record { fits = fits-totals .0 }, tt))), ((sint-lawful 𝓤 H A W w64 .typed at-transistor _ fits-transistor .0), tt)))) (λ at-local.
         -- the reference is opened, and the board copied
-        move ! (19 ∷ []) $
+        move ! (11 ∷ []) $
         fsplit ! $ fsplit3 ! $ drop ! $
-        move ! (21 ∷ []) $
+        move ! (13 ∷ []) $
         split ! $
         move ! (2 ∷ 3 ∷ 0 ∷ []) $
-        opens ! tt B.the-row {h = was} b o (λ vs.
-        spelt ! B.the-row (Is B.the-row) (shows 𝓤 H A B.the-row) (LL.vals B.the-type B′.the-laws) (LL.tells B.the-type B′.the-laws) fullShare was vs b o $
-        move ! (1 ∷ []) $
-        peeks ! B.the-row (Is B.the-row) (shows 𝓤 H A B.the-row) was (mach was ∷ []) (λ g.
-        move ! (1 ∷ 0 ∷ []) $
-        assigns ! (of-opd ! (load ! (from ! (hop ! (look ! 21 refl) (stop !))) (look-raw ! 0 refl))) (from ! (stop !))
-        (init ! 11 refl (LL.lawful B.the-type B′.the-laws 𝓤 H A W .typed was _ g .0)) $
+        opened ! tt was b o (λ g.
+        assigns ! (of-opd ! (load ! (from ! (hop ! (look ! 7 refl) (stop !))) (look-raw ! 0 refl))) (from ! (stop !))
+        (init ! 12 refl (typed W was g)) $
         -- what is lent goes on to the worker
-        assigns ! (addr ! (from ! (fld ! refl (hop ! (look-in ! 17 (sub ! 0 refl (whole !))) (stop !))))) (from ! (stop !)) (init ! 9 refl (tt, tt)) $
-        assigns ! (agg ! (and-then ! (load ! (from ! (stop !)) (look ! 9 refl)) (and-then ! (load ! (from ! (fld ! refl (stop !))) (look-in ! 17 (sub ! 1 refl (whole !)))) (no-more !))))
-        (from ! (stop !)) (init ! 7 refl (tt, (tt, (record { fits = fits-totals .0 }, tt)))) $
-        move ! (5 ∷ 6 ∷ []) $
+        assigns ! (addr ! (from ! (fld ! refl (hop ! (look-in ! 9 (sub ! 0 refl (whole !))) (stop !))))) (from ! (stop !)) (init ! 13 refl (tt, tt)) $
+        assigns ! (agg ! (and-then ! (load ! (from ! (stop !)) (look ! 13 refl)) (and-then ! (load ! (from ! (fld ! refl (stop !))) (look-in ! 9 (sub ! 1 refl (whole !)))) (no-more !))))
+        (from ! (stop !)) (init ! 14 refl (tt, (tt, (record { fits = fits-totals .0 }, tt)))) $
+        move ! (4 ∷ 5 ∷ []) $
         use2 W (raw (Worker 𝓤 H A at-mem run .pre to-worker)) (hands-over g reached) $
-        calls-at ! fm (Worker 𝓤 H A at-mem run) known to-worker (and-then ! (load ! (from ! (stop !)) (look ! 10 refl)) (and-then ! (load ! (from ! (stop !)) (look ! 18 refl)) (and-then ! (load ! (from ! (stop !)) (look ! 6 refl)) (and-then ! (load ! (from ! (stop !)) (look ! 14 refl)) (no-more !))))) (λ w.
+        calls-at ! fm (Worker 𝓤 H A at-mem run) known to-worker (and-then ! (load ! (from ! (stop !)) (look ! 11 refl)) (and-then ! (load ! (from ! (stop !)) (look ! 7 refl)) (and-then ! (load ! (from ! (stop !)) (look ! 13 refl)) (and-then ! (load ! (from ! (stop !)) (look ! 9 refl)) (no-more !))))) (λ w.
         use1 W (later (some (λ (r : outcome.Outcome). ((‵ (flft κ1 q1) ⊛ ‵ (flft κ2 q2) ⊛ ‵ ftrue) ⊛ ‵ (O.the-row .own r (w ∷ []))) ⊛ raw (ensured 𝓤 H A worker.ended (worker.clauses 𝓤 H A at-mem run) (κ1, (κ2, tt)) (was, rest) tt r)))) (id⊢ 𝓤 _) $
         await ! tt $ pick ! (λ r.
-        -- what the worker ensures, at what is there at the end
+        split ! $
         split ! $
         move ! (1 ∷ []) $
-        use1 W (some (λ (zs : Unit {0} × (Unit {0} × (List ℤ × (Unit {0} × Unit {0})))). ‵ (lasts worker.ended (κ1, (κ2, tt)) (was, rest) zs) ⊛ raw (fact 𝓤 (Lifted (liftedLent (stateIn was (at-volts .now) (at-totals .now)) at-transistor) (r .board) (zs .1 .1 .0) (r .code))))) (id⊢ 𝓤 _) $ pick ! (λ zs.
-        split ! $
-        move ! (1 ∷ []) $
-        heard ! (Lifted (liftedLent (stateIn was (at-volts .now) (at-totals .now)) at-transistor) (r .board) (zs .1 .1 .0) (r .code)) (λ e.
-        fsplit ! $ drop ! $
-        fsplit ! $
-        drop ! $
-        fsplit ! $
-        fsplit ! $
-        move ! (1 ∷ []) $
-        feqL ! (λ long-totals.
-        move ! (1 ∷ []) $
-        fsplit ! $
-        drop ! $
-        drop ! $
-        move ! (1 ∷ []) $
-        split ! $
-        move ! (1 ∷ []) $
-        peeks ! O.the-row (Is O.the-row) (shows 𝓤 H A O.the-row) r (w ∷ []) (λ is.
-        land ! (from ! (stop !)) (init ! 14 refl (LL.lawful O.the-type O′.the-laws 𝓤 H A W .typed r _ is .0)) $
-        rewrite ! 14 (λ (u : Val). ‵ (fat fullShare O′.mir m5 0 u)) (ap only (LL.tells O.the-type O′.the-laws r _ is)) refl $
+        gave ! r w (λ is.
+        land ! (from ! (stop !)) (init ! 11 refl (outcome-typed W r w is)) $
+        rewrite ! 11 (λ (u : Val). ‵ (fat fullShare O′.mir (at-local .1 .1 .1 .1 .1 .0) 0 u)) (outcome-tells r w is) refl $
         -- the board that it gave is written back, and the reference closed
-        assigns ! (of-opd ! (load ! (from ! (fld ! refl (stop !))) (look-in ! 14 (sub ! 0 refl (whole !))))) (from ! (hop ! (look ! 22 refl) (stop !)))
-        (store-raw ! 3 refl (LL.lawful B.the-type B′.the-laws 𝓤 H A W .typed (r .board) _ (parts r w is .0) .0)) $
-        assigns ! (of-opd ! (load ! (from ! (fld ! refl (stop !))) (look-in ! 14 (sub ! 1 refl (whole !))))) (from ! (stop !)) (init ! 24 refl (tt, record { fits = parts r w is .1 })) $
-        drop ! $
-        move ! (3 ∷ []) $
-        drop ! $
-        owned ! B.the-row (Is B.the-row) (LL.makes B.the-type B′.the-plain 𝓤 H A) (r .board) _ (parts r w is .0) $
-        move ! (3 ∷ 0 ∷ 4 ∷ 5 ∷ 6 ∷ []) $
-        closes ! tt B.the-row (r .board) (mach (r .board) ∷ []) b o $
+        assigns ! (of-opd ! (load ! (from ! (fld ! refl (stop !))) (look-in ! 11 (sub ! 0 refl (whole !))))) (from ! (hop ! (look ! 7 refl) (stop !)))
+        (store-raw ! 2 refl (typed W (r .board) (parts r w is .0))) $
+        assigns ! (of-opd ! (load ! (from ! (fld ! refl (stop !))) (look-in ! 11 (sub ! 1 refl (whole !))))) (from ! (stop !)) (init ! 6 refl (tt, record { fits = parts r w is .1 })) $
+        move ! (2 ∷ 3 ∷ 4 ∷ 5 ∷ []) $
+        closed ! tt (r .board) (parts r w is .0) b o $
         -- the locals are given up
-        returns ! (look ! 21 refl) $
-        forget ! 5 refl $
-        forget ! 7 refl $
-        forget ! 9 refl $
-        forget ! 11 refl $
-        forget ! 13 refl $
-        forget ! 15 refl $
-        forget ! 17 refl $
-        forget ! 19 refl $
-        forget ! 21 refl $
-        move ! (21 ∷ 22 ∷ []) $
-        free1 ! $
-        move ! (19 ∷ 20 ∷ []) $
-        free1 ! $
-        move ! (17 ∷ 18 ∷ []) $
-        free1 ! $
-        move ! (15 ∷ 16 ∷ []) $
-        free1 ! $
-        move ! (13 ∷ 14 ∷ []) $
-        free1 ! $
-        move ! (11 ∷ 12 ∷ []) $
-        free1 ! $
-        move ! (9 ∷ 10 ∷ []) $
-        free1 ! $
-        move ! (7 ∷ 8 ∷ []) $
-        free1 ! $
-        move ! (5 ∷ 6 ∷ []) $
-        free1 ! $
-        free0 ! $
-        keep ! (0 ∷ 1 ∷ 2 ∷ 3 ∷ 4 ∷ []) $ by ! (at-end r (zs .1 .1 .0) e long-totals (parts r w is .1)))))))))))))))))))
+        returns ! (look ! 5 refl) $
+        ends ! 5 (W .laws .at-room _ _ _ _, (W .laws .at-room _ _ _ _, (W .laws .at-room _ _ _ _, (W .laws .at-room _ _ _ _, (W .laws .at-room _ _ _ _, (W .laws .at-room _ _ _ _, (W .laws .at-room _ _ _ _, (W .laws .at-room _ _ _ _, (W .laws .at-room _ _ _ _, id⊢ 𝓤 _))))))))) $
+        keep ! (4 ∷ 0 ∷ 1 ∷ 2 ∷ 3 ∷ []) $ by ! (at-end r (parts r w is .1)))))))
 
 module _ {M : Type 1} (𝓤 : URA M) (H : Heap 𝓤) (A : Atoms 𝓤) (W : Given 𝓤 H A) (mem : Memory → SProp 𝓤) (run : Routine → Fun 𝓤) where
   walks : (C : Calls 𝓤 H) (Λ : Loops 𝓤 H) → FmC 𝓤 H (W .laws) C → Triple 𝓤 (C #worker) (Worker 𝓤 H A mem run) → Walks 𝓤 H A own.ended stayed (WpFn 𝓤 H C Λ code.function) (own.clauses 𝓤 H A mem run)

@@ -12,4 +12,4 @@ returns c =
     rw (toZ-ofZ w64 (s .args .transistor) (s .fits .transistor)) at h
 
 pub lift-spec : {M : Type 1} → statement M
-lift-spec = tie.close (tie.spec (λ c κs. search needs) (λ c. search needs) returns)
+lift-spec = tie.close (tie.spec (λ c. search needs) (λ c κs. search needs) (λ c. search needs) returns)

@@ -1,8 +1,9 @@
--- `lift` turns away slices and unknown numbers, judges the totals without what the transistor holds, and unless one
--- would leave 64 bits writes them, empties its place and leaves the sets of its nodes.
+-- `lift` turns away slices and unknown numbers, takes what the transistor holds out of the totals, and unless one would
+-- leave 64 bits empties its place and leaves the sets of its nodes.
 use mathlib.Core.Path.{_≡_, sym, ap, subst, _∙_}
 use mathlib.Core.Bool.{false}
 use Prim.Native.Nat.{ℕ, _≤_, _<_}
+use lib.ListN.{length}
 use borrow.Author.Needs.{needs}
 use borrow.Author.Tests.{not-true, not-false}
 use mir.Syntax.{w64}
@@ -10,11 +11,12 @@ use mir.ValLaws.{toZ-ofZ}
 use Rattle.given.specs.Arguments.{issueOf, some}
 use Rattle.slices.specs.Slices.{offSlices}
 use Rattle.slices.proofs.Keeping.{slices-off, slices-on, totals-long}
+use Rattle.slices.proofs.Passing.{in-long}
 use Rattle.places.specs.inner.Parts.{placeOr}
 use Rattle.places.specs.inner.Flat.{numberPlace}
 use Rattle.places.specs.laws.Founds.{is-there}
-use Rattle.model.specs.Counts.{transistorsMost}
-use Rattle.lifting.proofs.Lent.{lift-off, lift-none, lift-puts, lift-parts, lift-long, lift-leaves-64, lift-done}
+use Rattle.model.specs.Counts.{nodesMost, transistorsMost}
+use Rattle.lifting.proofs.Lent.{lift-off, lift-none, lift-puts, lift-parts, lift-leaves-64, lift-done}
 use Rattle.lifting.proofs.lift.Statement.{statement}
 use Rattle.lifting.proofs.lift.Tie as tie
 
@@ -34,14 +36,14 @@ noted c = c .before .before .before .before .before
 abbrev read : tie.After-own → tie.After-currents-at
 read c = c .before .before .before
 
-abbrev put : tie.After-stand-all → tie.After-put-in
-put c = c .before .before .before .before .before
+abbrev put : tie.After-stand-in → tie.After-put-in
+put c = c .before .before .before .before
 
-abbrev fitted : tie.After-next2 → tie.Else3
-fitted c = c .before .before
+abbrev judged : tie.After-on2 → tie.Else3
+judged c = c .before .before .before .before .before
 
-abbrev totalled : tie.After-on2 → tie.After-next2
-totalled c = c .before .before .before .before .before .before .before
+abbrev stood : tie.Else3 → tie.After-stand-in
+stood c = c .before .before
 
 -- what the tests have shown
 good : (c : tie.Else1) →
@@ -96,38 +98,33 @@ put-in-requires c κs =
     lift-puts (p .2) (p .1) (s .args .volts .now) (s .args .totals .now) (s .args .transistor) (good t) _
     (there (found c)) (noted c .nodes-at .ensures) (read c .currents-at .ensures)
 
-stand-all-requires : tie.Need-stand-all-requires
-stand-all-requires c κs =
-    let t = tested (found (c .before .before .before .before .before) .before) in
+totals-are : (c : tie.After-own) → length (start (tested (found c .before) .before) .args .totals .now) ≡ nodesMost
+totals-are c =
+    let t = tested (found c .before) in
     let s = start (t .before) in totals-long (s .args .volts .now) (s .args .totals .now) (good t)
+
+stand-in-requires : tie.Need-stand-in-requires
+stand-in-requires c κs = totals-are (c .before .before .before .before)
+
+-- as many totals as before
+same : (c : tie.After-stand-in) →
+    length (c .stand-in .last .0) ≡ length (start (tested (found (put c .before) .before) .before) .args .totals .now)
+same c = in-long _ _ _ (c .stand-in .ensures) (totals-are (put c .before))
 
 returns-3 : tie.Need-returns-3
 returns-3 c =
-    let u = put (c .before) in
+    let j = c .before .before in
+    let u = put j in
     let o = u .before in
     let t = tested (found o .before) in
     let s = start (t .before) in
     λ r k l. lift-leaves-64 l k (s .args .volts .now) (s .args .totals .now) (s .args .transistor) (good t) _
     (there (found o)) (noted o .nodes-at .ensures) (read o .currents-at .ensures) (u .put-in .ensures)
-    (c .before .stand-all .ensures) (not-true _ (c .if3 .taken))
-
-put-totals-requires : tie.Need-put-totals-requires
-put-totals-requires c κs =
-    let f = fitted c .before in
-    let u = put f in
-    let o = u .before in
-    let t = tested (found o .before) in
-    let s = start (t .before) in
-    let p = s .pre in (
-      totals-long (s .args .volts .now) (s .args .totals .now) (good t),
-      lift-long (p .2) (p .1) (s .args .volts .now) (s .args .totals .now) (s .args .transistor) (good t) _
-          (there (found o)) (noted o .nodes-at .ensures) (read o .currents-at .ensures) (u .put-in .ensures)
-          (f .stand-all .ensures),
-    )
+    (j .stand-in .ensures) (not-true _ (c .if3 .taken))
 
 leave-requires : tie.Need-leave-requires
 leave-requires c κs =
-    let o = put (fitted (totalled c) .before) .before in
+    let o = put (stood (judged c)) .before in
     let t = tested (found o .before) in
     let s = start (t .before) in
     let p = s .pre in
@@ -135,29 +132,28 @@ leave-requires c κs =
     (there (found o)) (noted o .nodes-at .ensures) (read o .currents-at .ensures)
 
 put-currents-requires : tie.Need-put-currents-requires
-put-currents-requires c κs = found (put (fitted (totalled (c .before .before .before)) .before) .before) .if2 .left
+put-currents-requires c κs = found (put (stood (judged (c .before .before .before))) .before) .if2 .left
 
 returns-4 : tie.Need-returns-4
 returns-4 c =
     let v = c .before .before .before in
     let n = v .before .before .before in
-    let a = totalled (v .before) in
-    let e = fitted a in
-    let u = put (e .before) in
+    let e = judged (v .before) in
+    let j = stood e in
+    let u = put j in
     let o = u .before in
     let t = tested (found o .before) in
     let s = start (t .before) in
     λ r k l. rw (n .put-nodes .ensures, v .leave .ensures, c .put-currents .ensures)
     (lift-done l k (s .args .volts .now) (s .args .totals .now) (s .args .transistor) (good t) _ (there (found o))
-    (noted o .nodes-at .ensures) (read o .currents-at .ensures) (u .put-in .ensures)
-    (e .before .stand-all .ensures) (not-false _ (e .if3 .left))
-    (n .before .before .before .before .put-totals .ensures))
+    (noted o .nodes-at .ensures) (read o .currents-at .ensures) (u .put-in .ensures) (j .stand-in .ensures)
+    (not-false _ (e .if3 .left)))
 
 pub lift-spec : {M : Type 1} → statement M
 lift-spec =
     tie.close
     (tie.spec (λ c κs. search needs) (λ c. search needs) returns (λ c κs. search needs) (λ c κs. search needs)
-    (λ c. search needs) returns-2 (λ c κs. search needs) (λ c κs. search needs) put-in-requires stand-all-requires
-    (λ c. search needs) returns-3 put-totals-requires (λ c. search needs) (λ c. search needs) (λ c. search needs)
+    (λ c. search needs) returns-2 (λ c κs. search needs) (λ c κs. search needs) put-in-requires stand-in-requires
+    (λ c. same (c .before .before)) returns-3 (λ c. search needs) (λ c. search needs) (λ c. search needs)
     (λ c. search needs) (λ c. search needs) (λ c κs. search needs) leave-requires put-currents-requires
-    (λ c. search needs) returns-4)
+    (λ c. same (stood (judged (c .before .before .before .before)))) returns-4)

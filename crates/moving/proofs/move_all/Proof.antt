@@ -5,6 +5,7 @@ use mathlib.Core.Bool.{Bool, true, false, not}
 use mathlib.Core.List.{List, map}
 use mathlib.Core.Logic.{_⊎_, inl, inr, ⊎-elim}
 use Prim.Native.Nat.{ℕ}
+use lib.IntN.{ℤ}
 use lib.ListN.{length, length-map}
 use borrow.Author.Needs.{needs}
 use borrow.Author.Tests.{not-true, not-false}
@@ -12,12 +13,15 @@ use Rattle.refusal.specs.Clash.{clash}
 use Rattle.volts.specs.Volts.{givenBack, keptAs}
 use Rattle.given.specs.Pairs.{arePairs, somePairOff, shiftsOf}
 use Rattle.slices.specs.Slices.{offSlices}
-use Rattle.slices.proofs.Keeping.{slices-off, slices-on, volts-long, totals-long}
+use Rattle.slices.proofs.Keeping.{slices-off, slices-on, volts-long, totals-long, volts-on, all-back}
 use Rattle.flows.specs.inner.Workable.{deckOf}
 use Rattle.settle.specs.inner.Working.{roundOf, isTaken, Settling}
+use Rattle.settle.proofs.Going.{settled-long}
 use Rattle.model.specs.Counts.{nodesMost}
+use Rattle.model.specs.Desk.{movedTo}
 use Rattle.model.specs.Model.{shifted}
-use Rattle.moving.proofs.Moving.{lent-turned, lent-malformed, lent-off, lent-settling, lent-taken, lent-left, next-long}
+use Rattle.model.proofs.Shifts.{shifted-back}
+use Rattle.moving.proofs.Moving.{lent-turned, lent-malformed, lent-off, lent-settling, lent-taken, lent-left}
 use Rattle.moving.proofs.Moving.{levels-as}
 use Rattle.moving.proofs.move_all.Statement.{statement}
 use Rattle.moving.proofs.move_all.Tie as tie
@@ -33,15 +37,12 @@ abbrev turned-not : tie.Else2 → tie.Else1
 turned-not c = c .before .before
 
 abbrev named : tie.After-will3 → tie.After-naming-any
-named c = c .before .before .before .before
+named c = c .before .before .before
 
 abbrev entry : tie.Else3 → tie.Start
 entry c = start (turned-not (tested (c .before)) .before)
 
-abbrev settled : tie.After-next2 → tie.After-settle
-settled c = c .before .before .before .before .before .before .before .before
-
-abbrev told : tie.Joined4 → tie.After-settle
+abbrev told : tie.After-is-taken → tie.After-settle
 told c = c .before .before
 
 -- what the tests have shown
@@ -113,40 +114,37 @@ long c =
     let good = slices-good (turned-not (tested (c .before))) .0 in
     (volts-long (a .volts .now) (a .totals .now) good, totals-long (a .volts .now) (a .totals .now) good)
 
-put-volts-requires : tie.Need-put-volts-requires
-put-volts-requires c κs =
-    let n = named (c .before .before .before .before .before) in (long (n .before) .0, ready n .will-are .long)
+put-pairs-requires : tie.Need-put-pairs-requires
+put-pairs-requires c κs =
+    let e = named (told (c .before .before) .before) .before in (long e .0, none-off e)
 
--- as many totals come out
-next-held : (c : tie.After-settle) → length (c .settle .last .1 .0) ≡ nodesMost
-next-held c =
-    let e = named (c .before) .before in
-    let t = tested (e .before) in
-    let a = entry e .args in
-    let p = entry e .pre in
-    next-long (p .2) (a .volts .now) (a .totals .now) (a .pairs .now) (slices-good (turned-not t) .0) (p .1) (are-pairs t)
-    (none-off e) _ (will-is e) _ (named (c .before) .naming-any .ensures) (c .settle .ensures)
+-- the voltages kept, given back, are those of the slice moved to the pairs'
+back-is : (c : tie.Else3) →
+    let a = entry c .args in
+    map givenBack (c .before .keep-pairs .last .0) ≡ movedTo (a .volts .now) (shiftsOf (a .pairs .now))
+back-is c =
+    let a = entry c .args in
+    let good = slices-good (turned-not (tested (c .before))) .0 in
+    ap (map givenBack) (will-is c) ∙ shifted-back (a .pairs .now) (map keptAs (a .volts .now)) (none-off c)
+    ∙ ap (λ (l : List ℤ). movedTo l (shiftsOf (a .pairs .now)))
+    (all-back (a .volts .now) (volts-on (a .volts .now) (a .totals .now) good))
 
-put-totals-requires : tie.Need-put-totals-requires
-put-totals-requires c κs =
-    let t = settled c in (long (named (t .before) .before) .1, next-held t)
-
--- what stands in the slices then
+-- what stands in the slice of voltages then
 stand-then : (c : tie.Joined4) →
-    let t = told c in
+    let t = told (c .before) in
     let e = named (t .before) .before in
     let a = entry e .args in
-    ((isTaken (t .settle .result) ≡ true) × (c .if4 .volts ≡ map givenBack (e .before .keep-pairs .last .0))
-    × (c .if4 .totals ≡ t .settle .last .1 .0))
-    ⊎ ((isTaken (t .settle .result) ≡ false) × (c .if4 .volts ≡ a .volts .now) × (c .if4 .totals ≡ a .totals .now))
+    ((isTaken (t .settle .result) ≡ true) × (c .if4 .volts ≡ map givenBack (e .before .keep-pairs .last .0)))
+    ⊎ ((isTaken (t .settle .result) ≡ false) × (c .if4 .volts ≡ a .volts .now))
 stand-then c =
     let i = c .before .is-taken .ensures in
-    ⊎-elim (λ w. inl (sym i ∙ w .0 .taken, w .9 ∙ w .3 .ensures, w .10 ∙ w .7 .ensures))
-    (λ w. inr (sym i ∙ w .0 .left, w .1, w .2)) (c .if4 .came)
+    let e = named (told (c .before) .before) .before in
+    ⊎-elim (λ w. inl (sym i ∙ w .0 .taken, w .4 ∙ w .2 .ensures ∙ sym (back-is e)))
+    (λ w. inr (sym i ∙ w .0 .left, w .1)) (c .if4 .came)
 
 same-length-7 : tie.Need-same-length-7
 same-length-7 c =
-    let t = told (c .before) in
+    let t = told (c .before .before) in
     let e = named (t .before) .before in
     ⊎-elim
     (λ w. ap length (w .1) ∙ length-map (e .before .keep-pairs .last .0) givenBack
@@ -156,21 +154,19 @@ same-length-7 c =
 
 same-length-8 : tie.Need-same-length-8
 same-length-8 c =
-    let t = told (c .before) in
-    ⊎-elim (λ w. ap length (w .2) ∙ next-held t ∙ sym (long (named (t .before) .before) .1))
-    (λ w. ap length (w .2)) (stand-then (c .before))
+    let t = told (c .before .before) in settled-long _ _ (long (named (t .before) .before) .1) (t .settle .ensures)
 
 returns-4 : tie.Need-returns-4
 returns-4 c =
-    let t = told (c .before) in
+    let t = told (c .before .before) in
     let e = named (t .before) .before in
     let x = tested (e .before) in
     let a = entry e .args in
     λ r k l. ⊎-elim
-    (λ w. levels-as (c .answer-to .ensures) (w .1) (w .2)
+    (λ w. levels-as (c .answer-to .ensures) (w .1) refl
     (lent-taken l (a .volts .now) (a .totals .now) (a .pairs .now) (slices-good (turned-not x) .0) k (are-pairs x)
     (none-off e) _ (will-is e) _ (named (t .before) .naming-any .ensures) (t .settle .ensures) (w .0)))
-    (λ w. levels-as (c .answer-to .ensures) (w .1) (w .2)
+    (λ w. levels-as (c .answer-to .ensures) (w .1) refl
     (lent-left l (a .volts .now) (a .totals .now) (a .pairs .now) (slices-good (turned-not x) .0) k (are-pairs x)
     (none-off e) _ (will-is e) _ (named (t .before) .naming-any .ensures) (t .settle .ensures) (w .0)))
     (stand-then (c .before))
@@ -181,5 +177,5 @@ move-all-spec =
     (tie.spec (λ c κs. search needs) (λ c. search needs) (λ c. search needs) returns (λ c κs. search needs)
     (λ c. search needs) (λ c. search needs) returns-2 (λ c κs. search needs) (λ c. search needs) (λ c. search needs)
     returns-3 (λ c κs. none-off c)
-    (λ c κs. ready (named c)) (λ c κs. search needs) put-volts-requires put-totals-requires (λ c κs. search needs)
+    (λ c κs. ready (named c)) (λ c κs. search needs) put-pairs-requires (λ c κs. search needs)
     same-length-7 same-length-8 returns-4)

@@ -8,7 +8,7 @@ use borrow.Author.Needs.{needs}
 use Rattle.whole.specs.laws.Machine.{held}
 use Rattle.totals.specs.Gives.{nodesMost}
 use Rattle.given.specs.inner.Nodes.{nodeOf}
-use Rattle.pairs.proofs.Pairs.{NamedTo, named-none, node-next, named-more, named-all}
+use Rattle.pairs.proofs.Pairs.{NamedTo, next-on, named-none, named-more, named-all}
 use Rattle.pairs.proofs.naming_any.Statement.{statement}
 use Rattle.pairs.proofs.naming_any.Tie as tie
 
@@ -30,14 +30,14 @@ at-pair c = c .before .before
 
 node-is : (c : tie.After-node-of Inv-loop μ-loop) →
     let l = at-pair c .before in
-    c .node-of .result ≡ nodeOf (getD (l .before .args .pairs .now) (l .loop .i) (pos 0))
+    c .node-of .result ≡ nodeOf (getD (l .before .args .pairs .now) (l .loop .k) (pos 0))
 node-is c =
     let l = at-pair c .before in
-    let z = getD (l .before .args .pairs .now) (l .loop .i) (pos 0) in
+    let z = getD (l .before .args .pairs .now) (l .loop .k) (pos 0) in
     let e : held z ≡ z = search needs in c .node-of .ensures ∙ ap nodeOf e
 
 on-board : (c : tie.After-node-of Inv-loop μ-loop) → c .node-of .result < nodesMost
-on-board c = node-next _ _ (at-pair c .before .loop .inv) (at-pair c .loop-test .taken) (node-is c)
+on-board c = next-on _ (at-pair c .before .loop .inv .on) (at-pair c .loop-test .taken) (node-is c) .there
 
 loop-less : tie.Need-loop-less Inv-loop μ-loop
 loop-less c = omega arith

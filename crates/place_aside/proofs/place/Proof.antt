@@ -12,4 +12,4 @@ returns c =
     rw (toZ-ofZ w64 (s .args .card) (s .fits .card)) at h
 
 pub place-spec : {M : Type 1} → statement M
-place-spec = tie.close (tie.spec (λ c κs. search needs) (λ c. search needs) returns)
+place-spec = tie.close (tie.spec (λ c. search needs) (λ c κs. search needs) (λ c. search needs) returns)

@@ -11,17 +11,17 @@ use Rattle.terms.proofs.Readied.{doubled-in}
 use Rattle.ready.proofs.prepare.Statement.{statement}
 use Rattle.ready.proofs.prepare.Tie as tie
 
--- earlier places, from where the table is laid out
-abbrev doubled : tie.After-lay-table → tie.After-reciprocal-of3
-doubled c = c .before .before
+-- earlier places, from where the table is made
+abbrev doubled : tie.After-table → tie.After-reciprocal-of3
+doubled c = c .before
 
-abbrev second : tie.After-lay-table → tie.After-reciprocal-of2
+abbrev second : tie.After-table → tie.After-reciprocal-of2
 second c = doubled c .before .before
 
-abbrev plain : tie.After-lay-table → tie.After-reciprocal-of
+abbrev plain : tie.After-table → tie.After-reciprocal-of
 plain c = second c .before .before
 
-abbrev start : tie.After-lay-table → tie.Start
+abbrev start : tie.After-table → tie.Start
 start c = plain c .before .before
 
 exponential-at-requires : tie.Need-exponential-at-requires

@@ -18,11 +18,12 @@ use Rattle.terms.specs.Looked.{lookedAt}
 use Rattle.given.specs.Arguments.{issueOf, issuesMost, usedUp, wideBy}
 use Rattle.slices.specs.Slices.{offSlices}
 use Rattle.slices.proofs.Keeping.{slices-off, slices-on, totals-long}
+use Rattle.slices.proofs.Passing.{in-long}
 use Rattle.places.specs.inner.Flat.{freePlace, numberPlace, tiesAt, wideAt}
 use Rattle.placing.specs.inner.Placing.{placing, wayOf}
-use Rattle.model.specs.Counts.{cardsMost, transistorsMost}
+use Rattle.model.specs.Counts.{nodesMost, cardsMost, transistorsMost}
 use Rattle.seating.proofs.Lent.{lent-off, lent-stops, lent-free, lent-number, lent-card, lent-enters, lent-works}
-use Rattle.seating.proofs.Lent.{lent-gives, lent-over, lent-long, lent-leaves-64, lent-places}
+use Rattle.seating.proofs.Lent.{lent-gives, lent-over, lent-leaves-64, lent-places}
 use Rattle.seating.proofs.place.Statement.{statement}
 use Rattle.seating.proofs.place.Tie as tie
 
@@ -46,22 +47,22 @@ abbrev went : tie.After-known-told2 → tie.After-may-place
 went c = c .before .before .before
 
 abbrev known : tie.After-work → tie.After-known-told2
-known c = c .before .before .before .before .before .before
+known c = c .before .before .before .before .before
 
-abbrev worked : tie.After-put-in → tie.After-work
-worked c = c .before .before .before .before .before
+abbrev worked : tie.After-is-over → tie.After-work
+worked c = c .before .before
 
-abbrev put : tie.After-stand-all → tie.After-put-in
-put c = c .before .before .before .before .before
+abbrev within : tie.After-put-in → tie.Else2
+within c = c .before .before .before .before
 
-abbrev judged : tie.Else2 → tie.After-stand-all
-judged c = c .before .before
+abbrev put : tie.After-stand-in → tie.After-put-in
+put c = c .before .before .before .before
 
-abbrev passed : tie.After-totals → tie.Else3
-passed c = c .before .before .before .before
+abbrev stood : tie.Else3 → tie.After-stand-in
+stood c = c .before .before
 
-abbrev totalled : tie.After-on5 → tie.After-totals
-totalled c = c .before .before .before .before .before .before
+abbrev passed : tie.After-on5 → tie.Else3
+passed c = c .before .before .before .before .before .before
 
 -- what the test of the slices has shown
 good : (c : tie.Else1) →
@@ -112,10 +113,10 @@ way-is c =
     (number (looked c .before .before))
 
 -- the places of the card and of the transistor to be, and its number, are in range
-abbrev going : tie.After-totals → tie.After-known-told2
-going c = known (worked (put (judged (passed c .before))))
+abbrev going : tie.Else3 → tie.After-known-told2
+going c = known (worked (within (put (stood c)) .before))
 
-free-there : (c : tie.After-totals) → going c .before .way2 .given .0 .1 .0 < transistorsMost
+free-there : (c : tie.Else3) → going c .before .way2 .given .0 .1 .0 < transistorsMost
 free-there c =
     let m = went (going c) in
     let s = begun m in
@@ -123,7 +124,7 @@ free-there c =
     lent-free (p .2) (p .1) (s .args .volts .now) (s .args .totals .now) (s .args .card) (s .args .roles)
     (good (tested m)) (seen-is m) (long m) (asked m .nodes-of .ensures) (way-is m) (going c .before .way2 .given .1)
 
-card-there : (c : tie.After-totals) → going c .before .way2 .given .0 .0 < cardsMost
+card-there : (c : tie.Else3) → going c .before .way2 .given .0 .0 < cardsMost
 card-there c =
     let m = went (going c) in
     let s = begun m in
@@ -131,7 +132,7 @@ card-there c =
     lent-card (p .2) (p .1) (s .args .volts .now) (s .args .totals .now) (s .args .card) (s .args .roles)
     (good (tested m)) (seen-is m) (long m) (asked m .nodes-of .ensures) (way-is m) (going c .before .way2 .given .1)
 
-number-there : (c : tie.After-totals) → begun (went (going c)) .args .next .now ≤ issuesMost
+number-there : (c : tie.Else3) → begun (went (going c)) .args .next .now ≤ issuesMost
 number-there c =
     let m = went (going c) in
     let s = begun m in
@@ -154,17 +155,17 @@ returns c =
 work-requires : tie.Need-work-requires
 work-requires c κs =
     let t = c .before .before .before in
-    let k = t .before .before in
+    let k = t .before in
     let m = went k in
     let s = begun m in
     let p = s .pre in
     lent-works (p .2) (p .1) (s .args .volts .now) (s .args .totals .now) (s .args .card) (s .args .roles)
     (good (tested m)) (seen-is m) (long m) (asked m .nodes-of .ensures) (way-is m) (k .before .way2 .given .1)
-    (kept-are m) _ (t .lay-table .ensures)
+    (kept-are m) _ (t .table .ensures)
 
 put-in-requires : tie.Need-put-in-requires
 put-in-requires c κs =
-    let w = c .before .before .before .before in
+    let w = worked (c .before .before .before .before) in
     let k = known w in
     let m = went k in
     let s = begun m in
@@ -173,15 +174,24 @@ put-in-requires c κs =
     (good (tested m)) (seen-is m) (long m) (asked m .nodes-of .ensures) (way-is m) (k .before .way2 .given .1)
     (kept-are m) (w .work .ensures)
 
-stand-all-requires : tie.Need-stand-all-requires
-stand-all-requires c κs =
-    let e = tested (went (known (worked (c .before .before .before .before)))) in
+totals-are : (c : tie.After-put-in) → let m = went (known (worked (within c .before))) in
+    length (begun m .args .totals .now) ≡ nodesMost
+totals-are c =
+    let e = tested (went (known (worked (within c .before)))) in
     let s = start (e .before) in totals-long (s .args .volts .now) (s .args .totals .now) (good e)
+
+stand-in-requires : tie.Need-stand-in-requires
+stand-in-requires c κs = totals-are (c .before .before .before)
+
+-- as many totals as before
+same : (c : tie.After-stand-in) → let m = went (known (worked (within (put c) .before))) in
+    length (c .stand-in .last .0) ≡ length (begun m .args .totals .now)
+same c = in-long _ _ _ (c .stand-in .ensures) (totals-are (put c))
 
 returns-2 : tie.Need-returns-2
 returns-2 c =
     let f = c .before in
-    let w = worked (put (f .before .before)) in
+    let w = worked (f .before) in
     let k = known w in
     let m = went k in
     let s = begun m in
@@ -192,38 +202,21 @@ returns-2 c =
 
 returns-3 : tie.Need-returns-3
 returns-3 c =
-    let e = c .before in
-    let j = judged e in
+    let j = c .before .before in
     let u = put j in
-    let w = worked u in
+    let e = within u in
+    let w = worked (e .before) in
     let k = known w in
     let m = went k in
     let s = begun m in
     λ r q l. lent-leaves-64 l q (s .args .volts .now) (s .args .totals .now) (s .args .card) (s .args .roles)
     (good (tested m)) (seen-is m) (long m) (asked m .nodes-of .ensures) (way-is m) (k .before .way2 .given .1)
     (kept-are m) (w .work .ensures) (sym (e .before .is-over .ensures) ∙ e .if2 .left) (u .put-in .ensures)
-    (j .stand-all .ensures) (not-true _ (c .if3 .taken))
-
-put-totals-requires : tie.Need-put-totals-requires
-put-totals-requires c κs =
-    let e = c .before .before .before in
-    let j = judged e in
-    let u = put j in
-    let w = worked u in
-    let k = known w in
-    let m = went k in
-    let s = begun m in
-    let p = s .pre in (
-      totals-long (s .args .volts .now) (s .args .totals .now) (good (tested m)),
-      lent-long (p .2) (p .1) (s .args .volts .now) (s .args .totals .now) (s .args .card) (s .args .roles)
-          (good (tested m)) (seen-is m) (long m) (asked m .nodes-of .ensures) (way-is m) (k .before .way2 .given .1)
-          (kept-are m) (w .work .ensures) (sym (e .before .is-over .ensures) ∙ e .if2 .left) (u .put-in .ensures)
-          (j .stand-all .ensures),
-    )
+    (j .stand-in .ensures) (not-true _ (c .if3 .taken))
 
 join-requires : tie.Need-join-requires
 join-requires c κs =
-    let k = going (totalled c) in
+    let k = going (passed c) in
     let m = went k in
     let s = begun m in
     let p = s .pre in
@@ -241,33 +234,32 @@ returns-5 : tie.Need-returns-5
 returns-5 c =
     let v = c .before .before .before in
     let n = v .before .before .before in
-    let a = totalled (v .before) in
-    let f = passed a in
-    let e = f .before in
-    let j = judged e in
+    let f = passed (v .before) in
+    let j = stood f in
     let u = put j in
-    let w = worked u in
+    let e = within u in
+    let w = worked (e .before) in
     let k = known w in
     let m = went k in
     let s = begun m in
     λ r q l. lent-places l q (s .args .volts .now) (s .args .totals .now) (s .args .card) (s .args .roles)
     (good (tested m)) (seen-is m) (long m) (asked m .nodes-of .ensures) (way-is m) (k .before .way2 .given .1)
     (kept-are m) (w .work .ensures) (sym (e .before .is-over .ensures) ∙ e .if2 .left) (u .put-in .ensures)
-    (j .stand-all .ensures) (not-false _ (f .if3 .left)) (a .before .put-totals .ensures)
-    (n .put-nodes .ensures) (v .join .ensures) (c .put-currents .ensures)
+    (j .stand-in .ensures) (not-false _ (f .if3 .left)) (n .put-nodes .ensures) (v .join .ensures)
+    (c .put-currents .ensures)
 
 pub place-spec : {M : Type 1} → statement M
 place-spec =
     tie.close
     (tie.spec (λ c κs. search needs) (λ c. search needs) returns (λ c κs. search needs) (λ c κs. search needs)
     (λ c κs. search needs) (λ c κs. search needs) (λ c κs. search needs) (λ c. search needs) (λ c. search needs)
-    (λ c κs. search needs) work-requires put-in-requires stand-all-requires (λ c κs. search needs)
-    (λ c κs. search needs) (λ c. search needs) returns-2 (λ c. search needs) returns-3 put-totals-requires
+    (λ c κs. search needs) work-requires (λ c κs. search needs) (λ c κs. search needs) (λ c. search needs) returns-2
+    put-in-requires stand-in-requires (λ c. same (c .before .before)) returns-3
     (λ c. let h = free-there c in omega arith) (λ c. let h = free-there c in omega arith)
     (λ c. let h = card-there c in omega arith) (λ c. let h = card-there c in omega arith)
     (λ c. let h = free-there (c .before) in omega arith) (λ c. let h = free-there (c .before) in omega arith)
     (λ c. let h = card-there (c .before) in omega arith) (λ c. let h = free-there (c .before) in omega arith)
     (λ c κs. free-there (c .before .before .before)) join-requires
-    (λ c κs. free-there (totalled (c .before .before .before)))
-    (λ c. let h = number-there (totalled (c .before .before .before .before)) in omega arith) (λ c. search needs)
-    returns-4 (λ c. search needs) returns-5)
+    (λ c κs. free-there (passed (c .before .before .before)))
+    (λ c. let h = number-there (passed (c .before .before .before .before)) in omega arith) (λ c. search needs)
+    returns-4 (λ c. same (stood (passed (c .before .before .before .before)))) returns-5)

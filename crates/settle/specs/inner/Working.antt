@@ -3,7 +3,7 @@ use mathlib.Core.Path.{_≡_}
 use mathlib.Core.Bool.{Bool, true, false, cond, not}
 use mathlib.Core.List.{List, map}
 use Prim.Native.Nat.{ℕ, _-_, _*_, _≤_, _<_}
-use lib.ListN.{getD, length, replicate}
+use lib.ListN.{getD, length}
 use lib.IntN.{ℤ, pos}
 use Rattle.volts.specs.Volts.{givenBack}
 use Rattle.octave.specs.Table.{entries}
@@ -112,10 +112,11 @@ pub record Going (r : Round) (table : List ℕ) (currents totals : List ℤ) (i 
   pub settling : Settling r currents totals
   pub gone : Gone r currents i coming going first
 
--- all places of the set are passed: the first that overloads; whether every total would stay in range, and the totals
--- as they would stand or none; and what is held. It is held anew from the place i on, unless this is refused
-pub record Settled (r : Round) (currents totals : List ℤ) (i : ℕ) (told : Judgement) (next currents′ : List ℤ) : Type 0 where
+-- all places of the set are passed: the first that overloads; whether every total would stay in range, where nobody
+-- does; the totals as they stand then, and what is held. It is held anew from the place i on, unless this is refused
+pub record Settled (r : Round) (currents totals : List ℤ) (i : ℕ) (told : Judgement) (totals′ currents′ : List ℤ) :
+    Type 0 where
   pub first-is : told .first ≡ firstSo r transistorsMost
-  pub fits-is : told .fits ≡ not (someOutside (standing r currents totals))
-  pub next-is : next ≡ cond (told .fits) (standing r currents totals) (replicate nodesMost (pos 0))
+  pub fits-is : isOver (told .first .over) ≡ false → told .fits ≡ not (someOutside (standing r currents totals))
+  pub totals-are : totals′ ≡ cond (isTaken told) (standing r currents totals) totals
   pub held : currents′ ≡ cond (isTaken told) (heldFrom r currents i) currents

@@ -1,11 +1,13 @@
 -- `settle_from` works the place i and goes on to the next of the set, and judges the totals after the last; on the way
 -- back it holds the new currents unless this is refused. The places that are left are the measure.
-use mathlib.Core.Path.{refl, sym, _∙_}
+use mathlib.Core.Path.{_≡_, refl, sym, ap, _∙_}
 use Prim.Native.Nat.{ℕ, _-_, _<_}
 use native.Mathlib.Omega.{arith}
+use lib.ListN.{length}
 use borrow.Author.Needs.{needs}
 use borrow.Fn.Kinds.{In}
 use borrow.Fn.PlainCycle.{Measures, is, falls, and}
+use Rattle.slices.proofs.Passing.{in-long}
 use Rattle.places.specs.Counts.{transistorsMost}
 use Rattle.settling.proofs.settle_from.Reads as settle-from
 use Rattle.settling.proofs.settle_from.Kinds as settle-from-kinds
@@ -18,28 +20,31 @@ use Rattle.stretches.proofs.nodes_at.Reads as nodes-at-reads
 use Rattle.stretches.proofs.put_currents.Reads as put-currents-reads
 use Rattle.settle.proofs.earlier_of.Reads as earlier-of-reads
 use Rattle.settle.proofs.is_taken.Reads as is-taken-reads
-use Rattle.standing.proofs.stand_all.Reads as stand-all-reads
-use Rattle.settle.proofs.Going.{gone-works, gone-goes, gone-comes, goes-on, gone-all, back-left, back-held}
-use Rattle.settle.proofs.Going.{reach}
+use Rattle.flows.proofs.is_over.Reads as is-over-reads
+use Rattle.standing.proofs.stand_in.Reads as stand-in-reads
+use Rattle.settle.proofs.Going.{gone-works, gone-goes, gone-comes, goes-on, gone-over, gone-all, back-left, back-held}
+use Rattle.settle.proofs.Going.{reach, settled-long}
 use Rattle.settling.proofs.+settle_from.{statement}
 use Rattle.settling.proofs.+settle_from.Tie.{close}
 
-abbrev μ-settle-from : Measures 14 settle-from-kinds.ps ℕ
-μ-settle-from κs a = transistorsMost - a .1 .1 .1 .1 .1 .1 .1 .1 .1 .1 .1 .1 .1 .1 .1 .0
+abbrev μ-settle-from : Measures 13 settle-from-kinds.ps ℕ
+μ-settle-from κs a = transistorsMost - a .1 .1 .1 .1 .1 .1 .1 .1 .1 .1 .1 .1 .1 .1 .0
 
-abbrev settle-from-at : ℕ → In 14 settle-from-kinds.ps
+abbrev settle-from-at : ℕ → In 13 settle-from-kinds.ps
 settle-from-at t =
-    and 14 settle-from-kinds.ps (is 14 settle-from-kinds.ps μ-settle-from t) settle-from.Pre
+    and 13 settle-from-kinds.ps (is 13 settle-from-kinds.ps μ-settle-from t) settle-from.Pre
 
-abbrev settle-from-below : ℕ → In 14 settle-from-kinds.ps
+abbrev settle-from-below : ℕ → In 13 settle-from-kinds.ps
 settle-from-below t =
-    and 14 settle-from-kinds.ps (falls 14 settle-from-kinds.ps _<_ μ-settle-from t) settle-from.Pre
+    and 13 settle-from-kinds.ps (falls 13 settle-from-kinds.ps _<_ μ-settle-from t) settle-from.Pre
 
 -- what the calls ask and promise
 abbrev callees : ℕ → lts.Claims
 callees t = (
-  stand-all-reads.Asked,
-  stand-all-reads.Learnt,
+  is-over-reads.Asked,
+  is-over-reads.Learnt,
+  stand-in-reads.Asked,
+  stand-in-reads.Learnt,
   nodes-at-reads.Asked,
   nodes-at-reads.Learnt,
   work-reads.Asked,
@@ -86,13 +91,32 @@ module _ (t : ℕ) where
   abbrev went : lts.After-settle-from (callees t) (settle-from-at t) settle-from.Post → Went
   went c = c .before .before .before .before .before
 
-  stand-all-requires : lts.Need-stand-all-requires (callees t) (settle-from-at t) settle-from.Post
-  stand-all-requires c κs = c .before .before .before .before .pre .1 .settling .long
+  -- after the last place
+  abbrev judged : lts.After-stand-in (callees t) (settle-from-at t) settle-from.Post →
+      lts.Else2 (callees t) (settle-from-at t) settle-from.Post
+  judged c = c .before .before .before .before
 
   returns : lts.Need-returns (callees t) (settle-from-at t) settle-from.Post
   returns c =
-      let t = c .before .before .before .before in
-      gone-all _ _ (t .before .pre .1 .gone) (t .if1 .taken) (c .stand-all .ensures)
+      let o = c .before in
+      gone-over _ _ (o .before .before .pre .1 .gone) (o .before .if1 .taken) (sym (o .is-over .ensures) ∙ c .if2 .taken)
+
+  stand-in-requires : lts.Need-stand-in-requires (callees t) (settle-from-at t) settle-from.Post
+  stand-in-requires c κs = c .before .before .before .before .before .before .pre .1 .settling .long
+
+  same-length : lts.Need-same-length (callees t) (settle-from-at t) settle-from.Post
+  same-length c =
+      let s = judged (c .before) .before .before .before in
+      in-long (s .args .totals .now) (s .args .coming .now) (s .args .going .now) (c .before .stand-in .ensures)
+      (s .pre .1 .settling .long)
+
+  returns-2 : lts.Need-returns-2 (callees t) (settle-from-at t) settle-from.Post
+  returns-2 c =
+      let s = c .before in
+      let e = judged s in
+      let o = e .before in
+      gone-all _ _ (o .before .before .pre .1 .gone) (o .before .if1 .taken) (sym (o .is-over .ensures) ∙ e .if2 .left)
+      (s .stand-in .ensures)
 
   element-copy-out-s : lts.Need-element-copy-out-s (callees t) (settle-from-at t) settle-from.Post
   element-copy-out-s c = search needs
@@ -159,34 +183,46 @@ module _ (t : ℕ) where
 
   put-currents-requires : lts.Need-put-currents-requires (callees t) (settle-from-at t) settle-from.Post
   put-currents-requires c κs =
-      let s = c .before .before .before .before .before in
+      let s = c .before .before .before .before .before .before in
       let n = went s in
       let h = left (worked n) .if1 .left in search needs
 
-  returns-2 : lts.Need-returns-2 (callees t) (settle-from-at t) settle-from.Post
-  returns-2 c =
+  -- as many totals on the way back
+  back-long : (c : lts.After-settle-from (callees t) (settle-from-at t) settle-from.Post) →
+      length (c .settle-from .last .1 .1 .1 .0) ≡ length (left (worked (went c)) .before .args .totals .now)
+  back-long c = settled-long _ _ (left (worked (went c)) .before .pre .1 .settling .long) (c .settle-from .ensures)
+
+  same-length-2 : lts.Need-same-length-2 (callees t) (settle-from-at t) settle-from.Post
+  same-length-2 c = back-long (c .before .before .before .before .before .before .before)
+
+  same-length-3 : lts.Need-same-length-3 (callees t) (settle-from-at t) settle-from.Post
+  same-length-3 c = back-long (c .before .before .before)
+
+  returns-3 : lts.Need-returns-3 (callees t) (settle-from-at t) settle-from.Post
+  returns-3 c =
       let f = c .before .before .before .before in
-      let s = f .before .before in
+      let s = f .before .before .before in
       let n = went s in
       let e = left (worked n) in
       rw (c .put-currents .ensures)
       (back-held _ _ (e .if1 .left) (n .next-in .ensures) (s .settle-from .ensures)
-      (sym (f .before .is-taken .ensures) ∙ f .if2 .taken) (e .before .pre .1 .gone .is (e .if1 .left))
+      (sym (f .before .is-taken .ensures) ∙ f .if3 .taken) (e .before .pre .1 .gone .is (e .if1 .left))
       (found (worked n) .nodes-at .ensures) (worked n .work .ensures))
 
-  returns-3 : lts.Need-returns-3 (callees t) (settle-from-at t) settle-from.Post
-  returns-3 c =
-      let s = c .before .before in
+  returns-4 : lts.Need-returns-4 (callees t) (settle-from-at t) settle-from.Post
+  returns-4 c =
+      let s = c .before .before .before in
       let n = went s in
       let e = left (worked n) in
       back-left _ _ (e .if1 .left) (n .next-in .ensures) (s .settle-from .ensures)
-      (sym (c .before .is-taken .ensures) ∙ c .if2 .left)
+      (sym (c .before .is-taken .ensures) ∙ c .if3 .left)
 
 pub +settle-from-spec : {M : Type 1} → statement M
 +settle-from-spec =
     close μ-settle-from
-    (λ t. lts.spec (callees t) (settle-from-at t) settle-from.Post (stand-all-requires t) (returns t)
+    (λ t. lts.spec (callees t) (settle-from-at t) settle-from.Post (λ c κs. search needs) (returns t)
+    (stand-in-requires t) (same-length t) (returns-2 t)
     (element-copy-out-s t) (cast-s t) (nodes-at-requires t) (work-requires t) (put-out-requires t)
     (put-in-requires t) (mul-issue t) (element-copy-out-issue t) (earlier-of-requires t)
     (add-next-in t) (next-in-requires t) (settle-from-requires t) (is-taken-requires t) (put-currents-requires t)
-    (returns-2 t) (returns-3 t))
+    (same-length-2 t) (returns-3 t) (same-length-3 t) (returns-4 t))

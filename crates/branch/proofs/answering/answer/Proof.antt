@@ -14,7 +14,7 @@ use Rattle.branch.proofs.answering.answer.Tie as tie
 
 -- the entry, behind the card made ready
 abbrev start : tie.After-prepare → tie.Start
-start c = c .before .before .before .before
+start c = c .before .before .before
 
 work-out-requires : tie.Need-work-out-requires
 work-out-requires c κs =

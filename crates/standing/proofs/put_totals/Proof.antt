@@ -9,8 +9,8 @@ use borrow.Author.Needs.{needs}
 use Rattle.whole.specs.laws.Machine.{held}
 use Rattle.rows.specs.laws.Filled.{Filled, filled-none, filled-more}
 use Rattle.totals.specs.Gives.{nodesMost}
-use Rattle.putting.proofs.put_totals.Statement.{statement}
-use Rattle.putting.proofs.put_totals.Tie as tie
+use Rattle.standing.proofs.put_totals.Statement.{statement}
+use Rattle.standing.proofs.put_totals.Tie as tie
 
 abbrev Inv-loop : tie.InvT-loop
 Inv-loop totals₀ next k₀ totals k =

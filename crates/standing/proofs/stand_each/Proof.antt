@@ -1,4 +1,4 @@
--- `stand_all` has the first k totals as they would stand, all of them in their range.
+-- `stand_each` has the first k totals as they would stand, all of them in their range.
 use mathlib.Core.Path.{_≡_, _∙_}
 use Prim.Native.Nat.{_≤_, _-_}
 use native.Mathlib.Omega.{arith}
@@ -9,8 +9,8 @@ use Rattle.whole.specs.laws.Machine.{held}
 use Rattle.totals.specs.Gives.{nodesMost}
 use Rattle.slices.proofs.Passing.{Passing, passing-none, passing-more, wouldAt, outAt, out-by, in-by}
 use Rattle.slices.proofs.Passing.{stood-all, stood-none}
-use Rattle.standing.proofs.stand_all.Statement.{statement}
-use Rattle.standing.proofs.stand_all.Tie as tie
+use Rattle.standing.proofs.stand_each.Statement.{statement}
+use Rattle.standing.proofs.stand_each.Tie as tie
 
 abbrev Inv-loop : tie.InvT-loop
 Inv-loop next₀ totals coming going k₀ next k =
@@ -65,8 +65,8 @@ returns-2 c =
     let a = c .before .before .before .args in
     stood-all (a .totals .now) (a .coming .now) (a .going .now) (omega arith) (c .before .loop .inv .1)
 
-pub stand-all-spec : {M : Type 1} → statement M
-stand-all-spec =
+pub stand-each-spec : {M : Type 1} → statement M
+stand-each-spec =
     tie.close
     (tie.spec Inv-loop μ-loop loop-holds (λ c. search needs) (λ c. search needs) (λ c. search needs)
     (λ c. search needs) (λ c. search needs) (λ c. search needs) (λ c κs. search needs) (λ c. search needs)

@@ -1,0 +1,2 @@
+-- Words of inner contracts: numbers that are judged all at once.
+pub mod Small
