@@ -16,7 +16,7 @@ use Rattle.polarity.specs.Polarity.{outcomeOf}
 use Rattle.totals.specs.Gives.{nodesMost}
 use Rattle.totals.specs.Flow.{rolesAt, ticksAt, flow, sumOver, sumBelow, withMore}
 use Rattle.totals.specs.inner.Sums.{More}
-use Rattle.deck.specs.laws.Ups.{length-up}
+use Rattle.slices.proofs.Passing.{more-long}
 use Rattle.given.specs.Lists.{anyOf}
 use Rattle.places.specs.Gathered.{Card, Transistor, noTransistor, workedAt}
 use Rattle.places.specs.Finding.{names, standsAt}
@@ -28,10 +28,6 @@ use Rattle.model.specs.inner.Sums.{placeGives, totalsOf}
 use Rattle.model.proofs.NodeSums.{up-at, totals-at, are-totals}
 
 -- ---- totals with more
-
-pub more-long : (l : List ℤ) (f : ℕ → ℤ) → length (withMore l f) ≡ nodesMost
-unfolding withMore
-more-long l f = length-up (λ (n : ℕ). getD l n (pos 0) +ℤ f n) nodesMost 0
 
 pub more-at : (l : List ℤ) (f : ℕ → ℤ) (n : ℕ) → n < nodesMost →
     getD (withMore l f) n (pos 0) ≡ getD l n (pos 0) +ℤ f n

@@ -27,8 +27,9 @@ use Rattle.totals.specs.inner.Sizes.{flowMost, roomMost}
 use Rattle.totals.proofs.Integers.{abs-add, swap-inner}
 use Rattle.deck.specs.Stretch.{written}
 use Rattle.deck.specs.laws.Stretches.{length-stretch, getD-none}
-use Rattle.deck.specs.laws.Ups.{up-same, length-up}
+use Rattle.deck.specs.laws.Ups.{up-same}
 use Rattle.slices.specs.Slices.{someOutside, changed, StandsIn}
+use Rattle.slices.proofs.Passing.{more-long}
 use Rattle.flows.specs.Back.{ticksBack}
 use Rattle.flows.specs.inner.Workable.{Workable, Works, cardOf}
 use Rattle.flows.proofs.Currents.{ticks-within, ticks-count, ticks-small-give}
@@ -335,11 +336,10 @@ module _ (r : Round) (currents : List ℤ) where
   -- as many totals as before
   pub settled-long : {totals : List ℤ} → length totals ≡ nodesMost → {i : ℕ} {told : Judgement} {totals′ held : List ℤ} →
       Settled r currents totals i told totals′ held → length totals′ ≡ length totals
-  unfolding withMore
   settled-long {totals} long {told = told} s = ap length (s .totals-are) ∙ go (isTaken told)
     where
       go : (t : Bool) → length (cond t (standing r currents totals) totals) ≡ length totals
-      go true = length-up (λ (n : ℕ). getD totals n (pos 0) +ℤ gained r currents transistorsMost n) nodesMost 0 ∙ sym long
+      go true = more-long totals _ ∙ sym long
       go false = refl
 
   module _ {i next : ℕ} (h : i < transistorsMost) (n : NextIn (r .marked) (i + 1) next) {totals : List ℤ}

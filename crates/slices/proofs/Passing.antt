@@ -140,6 +140,11 @@ module _ (volts totals : List ℤ) where
 
 -- ---- totals that would stand
 
+-- as many with more at each node
+pub more-long : (l : List ℤ) (f : ℕ → ℤ) → length (withMore l f) ≡ nodesMost
+unfolding withMore
+more-long l f = length-up (λ (n : ℕ). getD l n (pos 0) +ℤ f n) nodesMost 0
+
 module _ (totals coming going : List ℤ) where
   -- what would stand at a node
   abbrev pub wouldAt : ℕ → ℤ
@@ -176,8 +181,7 @@ module _ (totals coming going : List ℤ) where
       let z : 0 + n ≡ n = omega arith in getD-up wouldAt nodesMost 0 n (pos 0) h ∙ ap wouldAt z
 
   changed-long : length (changed totals coming going) ≡ nodesMost
-  unfolding withMore
-  changed-long = length-up wouldAt nodesMost 0
+  changed-long = more-long totals _
 
   pub stood-all : {k : ℕ} {r : List ℤ} → nodesMost ≤ k → Passing (pos 0) nodesMost outAt wouldAt k r →
       Stands totals coming going true r

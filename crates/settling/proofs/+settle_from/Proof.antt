@@ -1,6 +1,6 @@
 -- `settle_from` works the place i and goes on to the next of the set, and judges the totals after the last; on the way
 -- back it holds the new currents unless this is refused. The places that are left are the measure.
-use mathlib.Core.Path.{_≡_, refl, sym, ap, _∙_}
+use mathlib.Core.Path.{_≡_, refl, sym, _∙_}
 use Prim.Native.Nat.{ℕ, _-_, _<_}
 use native.Mathlib.Omega.{arith}
 use lib.ListN.{length}
