@@ -7,8 +7,8 @@ use mir.ValLaws.{toZ-ofZ}
 use borrow.Author.Needs.{needs}
 use Rattle.whole.specs.Signed.{signedSpan}
 use Rattle.whole.specs.laws.Biased.{sub-up, sub-down}
-use Rattle.standing.proofs.lower.Statement.{statement}
-use Rattle.standing.proofs.lower.Tie as tie
+use Rattle.judging.proofs.lower.Statement.{statement}
+use Rattle.judging.proofs.lower.Tie as tie
 
 returns : tie.Need-returns
 returns c =

@@ -7,9 +7,9 @@ use Rattle.whole.specs.Signed.{opened}
 use Rattle.whole.specs.laws.Machine.{held}
 use Rattle.whole.proofs.Halves.{less-fits, open-down, open-up}
 use Rattle.slices.proofs.Raised.{half-small, lower-half-small}
-use Rattle.standing.proofs.Small.{small-below, small-above}
-use Rattle.standing.proofs.around.Statement.{statement}
-use Rattle.standing.proofs.around.Tie as tie
+use Rattle.small.proofs.Small.{small-below, small-above}
+use Rattle.small.proofs.around.Statement.{statement}
+use Rattle.small.proofs.around.Tie as tie
 
 down : (c : tie.Then1) → negsuc (natAbs (held (negsuc 0 -ℤ held (c .before .args .v)))) ≡ c .before .args .v
 down c =

@@ -9,8 +9,8 @@ use borrow.Author.Needs.{needs}
 use Rattle.whole.specs.Signed.{signedSpan, opened}
 use Rattle.slices.specs.Slices.{raisedBy}
 use Rattle.slices.proofs.Raised.{half-small, lower-half-small}
-use Rattle.standing.proofs.raise.Statement.{statement}
-use Rattle.standing.proofs.raise.Tie as tie
+use Rattle.judging.proofs.raise.Statement.{statement}
+use Rattle.judging.proofs.raise.Tie as tie
 
 is-up : (c : tie.After-known-told) → pos (c .before .i .given .0 .0) ≡ c .before .before .before .before .args .v
 is-up c =

@@ -5,8 +5,8 @@ use mir.Val.{toZ}
 use mir.ValLaws.{toZ-ofZ}
 use borrow.Author.Needs.{needs}
 use Rattle.slices.proofs.Raised.{Raised, raised, up-stands, up-leaves, down-stands, down-leaves, same-stands}
-use Rattle.standing.proofs.stand.Statement.{statement}
-use Rattle.standing.proofs.stand.Tie as tie
+use Rattle.judging.proofs.stand.Statement.{statement}
+use Rattle.judging.proofs.stand.Tie as tie
 
 total-raised : (c : tie.After-raise3) →
     Raised (c .before .before .raise .result) (c .before .before .before .before .args .total)

@@ -18,7 +18,16 @@ pub record SmallNode (total coming going : ℤ) : Type 0 where
   pub coming-small : Small coming
   pub going-small : Small going
 
--- those of every node
+-- the number of every node
+pub record EachSmall (l : List ℤ) : Type 0 where
+  pub each : (k : ℕ) → k < nodesMost → Small (getD l k (pos 0))
+
+-- what comes in and what goes out
+pub record Near (coming going : List ℤ) : Type 0 where
+  pub coming-small : EachSmall coming
+  pub going-small : EachSmall going
+
+-- and the totals
 pub record AllSmall (totals coming going : List ℤ) : Type 0 where
-  pub each : (k : ℕ) → k < nodesMost →
-      SmallNode (getD totals k (pos 0)) (getD coming k (pos 0)) (getD going k (pos 0))
+  pub totals-small : EachSmall totals
+  pub near : Near coming going
