@@ -1,9 +1,9 @@
 // What waits is written before a line whose answer might have no room, and when a script has been obeyed as far as it
 // was read.
 use libc::STDOUT_FILENO;
-use obeying::ANSWERS;
-use obeying::ROOM;
-use obeying::part;
+use saying::ANSWERS;
+use saying::ROOM;
+use saying::part;
 
 // Room for the answer to the longest path that an argument gives.
 const PATH_ROOM: usize = 131104;

@@ -2,27 +2,15 @@
 // voltages and totals stand in two slices that are lent to it. The answer is put to the bytes that wait.
 ghost use Rattle.board.specs.Promise.{Reached};
 
-mod out; // out.rt: bytes that wait to be written
-mod shelf; // shelf.rt: the library held
-mod answer; // answer.rt: the answers to a line, as `answers`, `spaced`, `clipped` and `quoting` word them
-
-use crate::answer::put_answer;
-use crate::answer::put_clipping;
-use crate::answer::put_currents;
-use crate::answer::put_error;
-use crate::answer::put_model;
-use crate::answer::put_refused;
-use crate::answer::put_sum;
-use crate::answer::put_who;
-use crate::out::put_text;
 use answers::Answer;
 use board::Board;
 use library::Located;
-use library::Reading;
-use line_write::Written;
-use mending::Mending;
-pub use out::part;
 use places::TRANSISTORS;
+use saying::ROOM;
+use saying::part;
+use saying::put_answer;
+use saying::put_error;
+use saying::put_refused;
 use script::Command;
 use script::MOST_BYTES;
 use script::MOST_NUMBERS;
@@ -30,138 +18,21 @@ use script::MOST_WORDS;
 use script::Series;
 use script::Verb;
 use script::Words;
-use terms::BRANCHES;
+use shelving::MOST;
+use telling::node_number;
+use telling::put_card;
+use telling::put_done;
+use telling::put_listed;
+use telling::put_reading;
+use telling::put_row;
+use telling::put_summed;
+use telling::put_told;
+use telling::put_transistor;
 use terms::ROLES;
 use totals::NODES;
 
-// Room for the bytes that wait, and for the longest answer to a line among them.
-pub const ROOM: usize = 65536;
-
-pub const ANSWERS: usize = 8192;
-
-// One byte more than the longest library.
-pub const MOST: usize = 53265;
-
-// Room for the longest model line.
-const MODEL_ROOM: usize = 640;
-
 // A node that is on no board.
 const OFF: i64 = -1;
-
-// The n bytes that were read become the library held, where they are a library.
-pub fn keep_library(
-    n: usize,
-    read: &[u8; MOST],
-    held: &mut [u8; MOST],
-    out: &mut [u8; ROOM],
-    at: &mut usize,
-) {
-    let bytes = part(read, 0, n);
-    match shelf::judge(bytes) {
-        Reading::Cards(cards, _) => {
-            shelf::keep(bytes, held);
-            put_answer(Answer::Library(cards), out, at);
-        }
-        Reading::Refused(f) => put_refused(f, out, at),
-    }
-}
-
-// The library held is replaced by what mending makes of it.
-fn mend(held: &mut [u8; MOST], out: &mut [u8; ROOM], at: &mut usize) {
-    let mut mended = [0u8; MOST];
-    match mending::mend(shelf::held(held), &mut mended) {
-        Mending::Set(n) => {
-            shelf::keep(shelf::held(&mended), held);
-            put_answer(Answer::Mended(n), out, at);
-        }
-        Mending::Refused(f) => put_refused(f, out, at),
-    }
-}
-
-fn find(name: &[u8], library: &[u8], out: &mut [u8; ROOM], at: &mut usize) {
-    match library::locate(library, name) {
-        Located::Record { at: place, size: _ } => put_answer(Answer::Offset(place), out, at),
-        Located::Refused(f) => put_refused(f, out, at),
-    }
-}
-
-fn clip_record(bytes: &[u8], out: &mut [u8; ROOM], at: &mut usize) {
-    let clipping = card::clip(bytes);
-    let answer = clipping.answer;
-    match answer {
-        card::Answer::Taken => put_clipping(clipping, clip::is_wide(bytes), out, at),
-        card::Answer::Refused(f) => put_refused(f, out, at),
-    }
-}
-
-fn clip(name: &[u8], library: &[u8], out: &mut [u8; ROOM], at: &mut usize) {
-    match library::locate(library, name) {
-        Located::Record { at: place, size } => clip_record(part(library, place, size), out, at),
-        Located::Refused(f) => put_refused(f, out, at),
-    }
-}
-
-// The model line of a card of the library held.
-fn write_model(name: &[u8], rec: &[u8], out: &mut [u8; ROOM], at: &mut usize) {
-    let mut line = [0u8; MODEL_ROOM];
-    match line_write::write_line(name, rec, &mut line) {
-        Written::Bytes(n) => put_model(part(&line, 0, n), out, at),
-        Written::Refused(f) => put_refused(f, out, at),
-    }
-}
-
-fn model(name: &[u8], library: &[u8], out: &mut [u8; ROOM], at: &mut usize) {
-    match library::locate(library, name) {
-        Located::Record { at: place, size } => write_model(
-            name,
-            part(library, place, size),
-            out,
-            at,
-        ),
-        Located::Refused(f) => put_refused(f, out, at),
-    }
-}
-
-// What is printed of the board's answer to a call that gives a card's number, or a transistor's.
-fn put_card(answer: board::Answer, out: &mut [u8; ROOM], at: &mut usize) {
-    match answer {
-        board::Answer::Issue(i) => put_answer(Answer::Card(i), out, at),
-        board::Answer::Refused(f) => put_refused(f, out, at),
-        _ => {}
-    }
-}
-
-fn put_transistor(answer: board::Answer, out: &mut [u8; ROOM], at: &mut usize) {
-    match answer {
-        board::Answer::Issue(i) => put_answer(Answer::Transistor(i), out, at),
-        board::Answer::Refused(f) => put_refused(f, out, at),
-        _ => {}
-    }
-}
-
-// To a call that gives nothing: what was done.
-fn put_done(answer: board::Answer, done: Answer, out: &mut [u8; ROOM], at: &mut usize) {
-    match answer {
-        board::Answer::Refused(f) => put_refused(f, out, at),
-        _ => put_answer(done, out, at),
-    }
-}
-
-// The number of a node that the board has.
-fn node_number(node: i64) -> u32 {
-    match whole::open(node) {
-        whole::Int::Pos(n) => { if n < 32 { n as u32 } else { 32 } }
-        whole::Int::NegSuc(_) => 32,
-    }
-}
-
-fn put_reading(node: i64, answer: board::Answer, out: &mut [u8; ROOM], at: &mut usize) {
-    match answer {
-        board::Answer::Node(v, t) => put_answer(Answer::Reading(node_number(node), v, t), out, at),
-        board::Answer::Refused(f) => put_refused(f, out, at),
-        _ => {}
-    }
-}
 
 fn load_record(
     board: Board,
@@ -222,24 +93,25 @@ fn look_up(board: Board, name: &[u8], out: &mut [u8; ROOM], at: &mut usize)
     put_card(answer, out, at);
 }
 
-// The nodes of a transistor's roles, after its card's number: all eleven, or seven and the others off the board.
-fn roles(v: [i64; MOST_NUMBERS], words: usize) -> [i64; ROLES] {
+// How many roles a line gives nodes of, by its words: all eleven, or seven.
+fn given(words: usize) -> usize {
     if words == MOST_WORDS {
-        return [
-            v[1],
-            v[2],
-            v[3],
-            v[4],
-            v[5],
-            v[6],
-            v[7],
-            v[8],
-            v[9],
-            v[10],
-            v[11],
-        ];
+        return ROLES;
     }
-    [v[1], v[2], v[3], v[4], v[5], v[6], v[7], OFF, OFF, OFF, OFF]
+    7
+}
+
+// The nodes of a transistor's roles, after its card's number; those of the others are off the board.
+fn roles(v: [i64; MOST_NUMBERS], words: usize) -> [i64; ROLES] {
+    let n = given(words);
+    let mut nodes = [OFF; ROLES];
+    for k in 0..ROLES {
+        if n <= k {
+            return nodes;
+        }
+        nodes[k] = v[k + 1];
+    }
+    nodes
 }
 
 fn place(
@@ -260,24 +132,6 @@ fn place(
     asked.board
 }
 
-fn move_to(
-    board: Board,
-    volts: &mut [i64],
-    totals: &mut [i64],
-    node: i64,
-    microvolts: i64,
-    out: &mut [u8; ROOM],
-    at: &mut usize,
-) -> Board
-    requires { ⌜ Reached board ⌝ }
-    ensures { λ r. ⌜ Reached r ⌝ }
-{
-    let asked = board.move_all(volts, totals, &[node, microvolts]);
-    let answer = asked.answer;
-    put_done(answer, Answer::Moved, out, at);
-    asked.board
-}
-
 // The first n of the numbers; all of them where there are not so many.
 fn first(numbers: &[i64], n: usize) -> &[i64] {
     if n < numbers.len() {
@@ -290,6 +144,23 @@ fn move_all(
     board: Board,
     volts: &mut [i64],
     totals: &mut [i64],
+    pairs: &[i64],
+    out: &mut [u8; ROOM],
+    at: &mut usize,
+) -> Board
+    requires { ⌜ Reached board ⌝ }
+    ensures { λ r. ⌜ Reached r ⌝ }
+{
+    let asked = board.move_all(volts, totals, pairs);
+    let answer = asked.answer;
+    put_done(answer, Answer::Moved, out, at);
+    asked.board
+}
+
+fn move_list(
+    board: Board,
+    volts: &mut [i64],
+    totals: &mut [i64],
     list: Series,
     out: &mut [u8; ROOM],
     at: &mut usize,
@@ -298,10 +169,7 @@ fn move_all(
     ensures { λ r. ⌜ Reached r ⌝ }
 {
     let numbers = list.numbers;
-    let asked = board.move_all(volts, totals, first(&numbers, list.count));
-    let answer = asked.answer;
-    put_done(answer, Answer::Moved, out, at);
-    asked.board
+    move_all(board, volts, totals, first(&numbers, list.count), out, at)
 }
 
 fn lift(
@@ -346,14 +214,6 @@ fn read_node(
     put_reading(node, answer, out, at);
 }
 
-fn put_told(answer: board::Answer, ticks: &[i64; BRANCHES], out: &mut [u8; ROOM], at: &mut usize) {
-    match answer {
-        board::Answer::Currents => put_currents(ticks, out, at),
-        board::Answer::Refused(f) => put_refused(f, out, at),
-        _ => {}
-    }
-}
-
 fn read_currents(board: Board, transistor: i64, out: &mut [u8; ROOM], at: &mut usize)
     requires { ⌜ Reached board ⌝ }
 {
@@ -361,19 +221,6 @@ fn read_currents(board: Board, transistor: i64, out: &mut [u8; ROOM], at: &mut u
     let answer = asked.answer;
     let ticks = asked.ticks;
     put_told(answer, &ticks, out, at);
-}
-
-fn put_listed(
-    answer: board::Answer,
-    list: &[u32; TRANSISTORS],
-    out: &mut [u8; ROOM],
-    at: &mut usize,
-) {
-    match answer {
-        board::Answer::Listed(n) => put_who(list, n as usize, out, at),
-        board::Answer::Refused(f) => put_refused(f, out, at),
-        _ => {}
-    }
 }
 
 fn list_node(board: Board, node: i64, out: &mut [u8; ROOM], at: &mut usize)
@@ -385,27 +232,12 @@ fn list_node(board: Board, node: i64, out: &mut [u8; ROOM], at: &mut usize)
     put_listed(answer, &list, out, at);
 }
 
-fn put_summed(answer: board::Answer, out: &mut [u8; ROOM], at: &mut usize) {
-    match answer {
-        board::Answer::Summed(t, c, most) => put_sum(t, c, most, out, at),
-        board::Answer::Refused(f) => put_refused(f, out, at),
-        _ => {}
-    }
-}
-
 fn sum_up(board: Board, node: i64, out: &mut [u8; ROOM], at: &mut usize)
     requires { ⌜ Reached board ⌝ }
 {
     let asked = board.sum_up(node);
     let answer = asked.answer;
     put_summed(answer, out, at);
-}
-
-fn put_row(node: u32, answer: board::Answer, out: &mut [u8; ROOM], at: &mut usize) {
-    match answer {
-        board::Answer::Node(v, t) => put_text(sheet::sheet_line(node, v, t), out, at),
-        _ => {}
-    }
 }
 
 fn put_rows(board: Board, volts: &[i64], totals: &[i64], out: &mut [u8; ROOM], at: &mut usize)
@@ -482,22 +314,6 @@ fn asked_by(v: Verb) -> Asks {
     }
 }
 
-// A line about the library held, by its first word's argument: a name, or none.
-fn obey_shelf(
-    verb: Verb,
-    word: &[u8],
-    held: &mut [u8; MOST],
-    out: &mut [u8; ROOM],
-    at: &mut usize,
-) {
-    match verb {
-        Verb::Find => find(word, shelf::held(held), out, at),
-        Verb::Mend => mend(held, out, at),
-        Verb::Model => model(word, shelf::held(held), out, at),
-        _ => clip(word, shelf::held(held), out, at),
-    }
-}
-
 // A line that asks nothing of the board.
 fn obey_apart(
     c: Command,
@@ -512,7 +328,7 @@ fn obey_apart(
         Verb::Nothing => {}
         Verb::TooLong => put_answer(Answer::TooLong, out, at),
         Verb::Error => put_error(script::word(line, words, 0), out, at),
-        _ => obey_shelf(verb, script::word(line, words, 1), held, out, at),
+        _ => shelving::obey_shelf(verb, script::word(line, words, 1), held, out, at),
     }
 }
 
@@ -551,13 +367,14 @@ fn obey_numbers(
     requires { ⌜ Reached board ⌝ }
     ensures { λ r. ⌜ Reached r ⌝ }
 {
+    let number = v[0];
     match verb {
         Verb::Place => place(board, volts, totals, v, words, out, at),
-        Verb::Move => move_to(board, volts, totals, v[0], v[1], out, at),
-        Verb::Lift => lift(board, volts, totals, v[0], out, at),
-        Verb::Withdraw => withdraw(board, v[0], out, at),
+        Verb::Move => move_all(board, volts, totals, first(&v, 2), out, at),
+        Verb::Lift => lift(board, volts, totals, number, out, at),
+        Verb::Withdraw => withdraw(board, number, out, at),
         _ => {
-            show(board, volts, totals, verb, v[0], out, at);
+            show(board, volts, totals, verb, number, out, at);
             board
         }
     }
@@ -580,8 +397,6 @@ fn obey_board(
 {
     let words = c.words;
     let name = script::word(line, words, 1);
-    let v = c.numbers;
-    let list = c.list;
     let verb = c.verb;
     match verb {
         Verb::Load => load(board, name, library, out, at),
@@ -591,8 +406,14 @@ fn obey_board(
             look_up(board, name, out, at);
             board
         }
-        Verb::Moves => move_all(board, volts, totals, list, out, at),
-        _ => obey_numbers(board, volts, totals, verb, v, words.count, out, at),
+        Verb::Moves => {
+            let list = c.list;
+            move_list(board, volts, totals, list, out, at)
+        }
+        _ => {
+            let v = c.numbers;
+            obey_numbers(board, volts, totals, verb, v, words.count, out, at)
+        }
     }
 }
 
@@ -621,7 +442,7 @@ pub fn obey(
             c,
             line,
             spelled,
-            shelf::held(held),
+            shelving::held(held),
             out,
             at,
         ),
