@@ -1,7 +1,7 @@
 // The library held: none at first, then what is read from a file.
 use crate::out::put_part;
-use shelving::MOST;
 use saying::ROOM;
+use shelving::MOST;
 
 // Room for the answer to the longest path that a line gives.
 const PATH_ROOM: usize = 4128;

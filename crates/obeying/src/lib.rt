@@ -1,11 +1,12 @@
-// A command obeyed, but for what reads a file. Each function that changes the board takes it and gives the next one;
-// voltages and totals stand in two slices that are lent to it. The answer is put to the bytes that wait.
+// A command obeyed, but for what reads a file. The board is asked, gives the next one beside its answer, and the answer
+// is put to the bytes that wait; voltages and totals stand in two slices that are lent to the board.
 ghost use Rattle.board.specs.Promise.{Reached};
-
 use answers::Answer;
+use board::Answered;
 use board::Board;
 use library::Located;
 use places::TRANSISTORS;
+use refusal::Refusal;
 use saying::ROOM;
 use saying::part;
 use saying::put_answer;
@@ -20,77 +21,71 @@ use script::Verb;
 use script::Words;
 use shelving::MOST;
 use telling::node_number;
-use telling::put_card;
-use telling::put_done;
 use telling::put_listed;
-use telling::put_reading;
 use telling::put_row;
-use telling::put_summed;
-use telling::put_told;
-use telling::put_transistor;
+use telling::tell;
+use terms::BRANCHES;
 use terms::ROLES;
 use totals::NODES;
 
 // A node that is on no board.
 const OFF: i64 = -1;
 
-fn load_record(
-    board: Board,
-    name: &[u8],
-    bytes: &[u8],
-    out: &mut [u8; ROOM],
-    at: &mut usize,
-) -> Board
+// Refused before the board is asked.
+fn refused(board: Board, f: Refusal) -> Answered
     requires { ⌜ Reached board ⌝ }
-    ensures { λ r. ⌜ Reached r ⌝ }
+    ensures { λ r. ⌜ Reached (r .board) ⌝ }
 {
-    let asked = board.load(name, bytes);
-    let answer = asked.answer;
-    put_card(answer, out, at);
-    asked.board
+    Answered {
+        board: board,
+        answer: board::Answer::Refused(f),
+        ticks: [0i64; BRANCHES],
+    }
 }
 
-fn load(board: Board, name: &[u8], library: &[u8], out: &mut [u8; ROOM], at: &mut usize) -> Board
+fn load(board: Board, name: &[u8], library: &[u8]) -> Answered
     requires { ⌜ Reached board ⌝ }
-    ensures { λ r. ⌜ Reached r ⌝ }
+    ensures { λ r. ⌜ Reached (r .board) ⌝ }
 {
     match library::locate(library, name) {
-        Located::Record { at: place, size } => load_record(
-            board,
-            name,
-            part(library, place, size),
-            out,
-            at,
-        ),
-        Located::Refused(f) => {
-            put_refused(f, out, at);
-            board
-        }
+        Located::Record { at, size } => board.load(name, part(library, at, size)),
+        Located::Refused(f) => refused(board, f),
     }
 }
 
 // A model line loads its card.
-fn load_line(board: Board, line: &[u8], out: &mut [u8; ROOM], at: &mut usize) -> Board
+fn load_line(board: Board, line: &[u8]) -> Answered
     requires { ⌜ Reached board ⌝ }
-    ensures { λ r. ⌜ Reached r ⌝ }
+    ensures { λ r. ⌜ Reached (r .board) ⌝ }
 {
     let mut name = [0u8; name::LENGTH];
     let mut rec = [0u8; line_read::RECORD_BYTES];
     match line_read::read_line(trimming::trimmed(line), &mut name, &mut rec) {
-        line_read::Answer::Taken => load_record(board, sheet::bare_name(&name), &rec, out, at),
-        line_read::Answer::Refused(f) => {
-            put_refused(f, out, at);
-            board
-        }
+        line_read::Answer::Taken => board.load(sheet::bare_name(&name), &rec),
+        line_read::Answer::Refused(f) => refused(board, f),
     }
 }
 
-fn look_up(board: Board, name: &[u8], out: &mut [u8; ROOM], at: &mut usize)
+// A command about a card that it names; the bytes that its hex digits spell begin `spelled`.
+fn ask_card(
+    board: Board,
+    c: Command,
+    line: &[u8],
+    spelled: &[u8; MOST_BYTES],
+    library: &[u8],
+) -> Answered
     requires { ⌜ Reached board ⌝ }
+    ensures { λ r. ⌜ Reached (r .board) ⌝ }
 {
-    let asked = board.look_up(name);
-    let answer = asked.answer;
-    put_card(answer, out, at);
+    let words = c.words;
+    let name = script::word(line, words, 1);
+    let verb = c.verb;
+    match verb {
+        Verb::Load => load(board, name, library),
+        Verb::Record => board.load(name, part(spelled, 0, c.bytes)),
+        Verb::ModelLine => load_line(board, line),
+        _ => board.look_up(name),
+    }
 }
 
 // How many roles a line gives nodes of, by its words: all eleven, or seven.
@@ -114,24 +109,6 @@ fn roles(v: [i64; MOST_NUMBERS], words: usize) -> [i64; ROLES] {
     nodes
 }
 
-fn place(
-    board: Board,
-    volts: &[i64],
-    totals: &mut [i64],
-    v: [i64; MOST_NUMBERS],
-    words: usize,
-    out: &mut [u8; ROOM],
-    at: &mut usize,
-) -> Board
-    requires { ⌜ Reached board ⌝ }
-    ensures { λ r. ⌜ Reached r ⌝ }
-{
-    let asked = board.place(volts, totals, v[0], roles(v, words));
-    let answer = asked.answer;
-    put_transistor(answer, out, at);
-    asked.board
-}
-
 // The first n of the numbers; all of them where there are not so many.
 fn first(numbers: &[i64], n: usize) -> &[i64] {
     if n < numbers.len() {
@@ -140,87 +117,79 @@ fn first(numbers: &[i64], n: usize) -> &[i64] {
     numbers
 }
 
-fn move_all(
-    board: Board,
-    volts: &mut [i64],
-    totals: &mut [i64],
-    pairs: &[i64],
-    out: &mut [u8; ROOM],
-    at: &mut usize,
-) -> Board
+fn move_list(board: Board, volts: &mut [i64], totals: &mut [i64], list: Series) -> Answered
     requires { ⌜ Reached board ⌝ }
-    ensures { λ r. ⌜ Reached r ⌝ }
-{
-    let asked = board.move_all(volts, totals, pairs);
-    let answer = asked.answer;
-    put_done(answer, Answer::Moved, out, at);
-    asked.board
-}
-
-fn move_list(
-    board: Board,
-    volts: &mut [i64],
-    totals: &mut [i64],
-    list: Series,
-    out: &mut [u8; ROOM],
-    at: &mut usize,
-) -> Board
-    requires { ⌜ Reached board ⌝ }
-    ensures { λ r. ⌜ Reached r ⌝ }
+    ensures { λ r. ⌜ Reached (r .board) ⌝ }
 {
     let numbers = list.numbers;
-    move_all(board, volts, totals, first(&numbers, list.count), out, at)
+    board.move_all(volts, totals, first(&numbers, list.count))
 }
 
-fn lift(
+// What a command asks of the board by one number and does not change.
+fn read(board: Board, volts: &[i64], totals: &[i64], verb: Verb, number: i64) -> Answered
+    requires { ⌜ Reached board ⌝ }
+    ensures { λ r. ⌜ Reached (r .board) ⌝ }
+{
+    match verb {
+        Verb::Node => board.read_node(volts, totals, number),
+        Verb::Currents => board.read_currents(number),
+        _ => board.sum_up(number),
+    }
+}
+
+// A command that says numbers.
+fn ask_numbers(
     board: Board,
-    volts: &[i64],
+    volts: &mut [i64],
     totals: &mut [i64],
-    transistor: i64,
-    out: &mut [u8; ROOM],
-    at: &mut usize,
-) -> Board
+    verb: Verb,
+    v: [i64; MOST_NUMBERS],
+    words: usize,
+) -> Answered
     requires { ⌜ Reached board ⌝ }
-    ensures { λ r. ⌜ Reached r ⌝ }
+    ensures { λ r. ⌜ Reached (r .board) ⌝ }
 {
-    let asked = board.lift(volts, totals, transistor);
-    let answer = asked.answer;
-    put_done(answer, Answer::Lifted, out, at);
-    asked.board
+    let number = v[0];
+    match verb {
+        Verb::Place => board.place(volts, totals, number, roles(v, words)),
+        Verb::Move => board.move_all(volts, totals, first(&v, 2)),
+        Verb::Lift => board.lift(volts, totals, number),
+        Verb::Withdraw => board.withdraw(number),
+        _ => read(board, volts, totals, verb, number),
+    }
 }
 
-fn withdraw(board: Board, card: i64, out: &mut [u8; ROOM], at: &mut usize) -> Board
-    requires { ⌜ Reached board ⌝ }
-    ensures { λ r. ⌜ Reached r ⌝ }
-{
-    let asked = board.withdraw(card);
-    let answer = asked.answer;
-    put_done(answer, Answer::Withdrawn, out, at);
-    asked.board
-}
-
-fn read_node(
+fn ask(
     board: Board,
-    volts: &[i64],
-    totals: &[i64],
-    node: i64,
-    out: &mut [u8; ROOM],
-    at: &mut usize,
-)
+    volts: &mut [i64],
+    totals: &mut [i64],
+    c: Command,
+    line: &[u8],
+    spelled: &[u8; MOST_BYTES],
+    library: &[u8],
+) -> Answered
     requires { ⌜ Reached board ⌝ }
+    ensures { λ r. ⌜ Reached (r .board) ⌝ }
 {
-    let asked = board.read_node(volts, totals, node);
-    let answer = asked.answer;
-    put_reading(node, answer, out, at);
-}
-
-fn read_currents(board: Board, transistor: i64, out: &mut [u8; ROOM], at: &mut usize)
-    requires { ⌜ Reached board ⌝ }
-{
-    let asked = board.read_currents(transistor);
-    let answer = asked.answer;
-    let ticks = asked.ticks;
-    put_told(answer, &ticks, out, at);
+    let words = c.words;
+    let verb = c.verb;
+    match verb {
+        Verb::Load | Verb::Record | Verb::ModelLine | Verb::Lookup => ask_card(
+            board,
+            c,
+            line,
+            spelled,
+            library,
+        ),
+        Verb::Moves => {
+            let list = c.list;
+            move_list(board, volts, totals, list)
+        }
+        _ => {
+            let v = c.numbers;
+            ask_numbers(board, volts, totals, verb, v, words.count)
+        }
+    }
 }
 
 fn list_node(board: Board, node: i64, out: &mut [u8; ROOM], at: &mut usize)
@@ -230,14 +199,6 @@ fn list_node(board: Board, node: i64, out: &mut [u8; ROOM], at: &mut usize)
     let asked = board.list_node(node, &mut list);
     let answer = asked.answer;
     put_listed(answer, &list, out, at);
-}
-
-fn sum_up(board: Board, node: i64, out: &mut [u8; ROOM], at: &mut usize)
-    requires { ⌜ Reached board ⌝ }
-{
-    let asked = board.sum_up(node);
-    let answer = asked.answer;
-    put_summed(answer, out, at);
 }
 
 fn put_rows(board: Board, volts: &[i64], totals: &[i64], out: &mut [u8; ROOM], at: &mut usize)
@@ -332,54 +293,6 @@ fn obey_apart(
     }
 }
 
-// What a command asks of the board and does not change.
-fn show(
-    board: Board,
-    volts: &[i64],
-    totals: &[i64],
-    verb: Verb,
-    number: i64,
-    out: &mut [u8; ROOM],
-    at: &mut usize,
-)
-    requires { ⌜ Reached board ⌝ }
-{
-    match verb {
-        Verb::Node => read_node(board, volts, totals, number, out, at),
-        Verb::Currents => read_currents(board, number, out, at),
-        Verb::Who => list_node(board, number, out, at),
-        Verb::Sum => sum_up(board, number, out, at),
-        _ => put_sheet(board, volts, totals, out, at),
-    }
-}
-
-// A command that says numbers, or nothing more.
-fn obey_numbers(
-    board: Board,
-    volts: &mut [i64],
-    totals: &mut [i64],
-    verb: Verb,
-    v: [i64; MOST_NUMBERS],
-    words: usize,
-    out: &mut [u8; ROOM],
-    at: &mut usize,
-) -> Board
-    requires { ⌜ Reached board ⌝ }
-    ensures { λ r. ⌜ Reached r ⌝ }
-{
-    let number = v[0];
-    match verb {
-        Verb::Place => place(board, volts, totals, v, words, out, at),
-        Verb::Move => move_all(board, volts, totals, first(&v, 2), out, at),
-        Verb::Lift => lift(board, volts, totals, number, out, at),
-        Verb::Withdraw => withdraw(board, number, out, at),
-        _ => {
-            show(board, volts, totals, verb, number, out, at);
-            board
-        }
-    }
-}
-
 // A command that asks the board; the bytes that its hex digits spell begin `spelled`.
 fn obey_board(
     board: Board,
@@ -395,24 +308,24 @@ fn obey_board(
     requires { ⌜ Reached board ⌝ }
     ensures { λ r. ⌜ Reached r ⌝ }
 {
-    let words = c.words;
-    let name = script::word(line, words, 1);
+    let v = c.numbers;
+    let number = v[0];
     let verb = c.verb;
     match verb {
-        Verb::Load => load(board, name, library, out, at),
-        Verb::Record => load_record(board, name, part(spelled, 0, c.bytes), out, at),
-        Verb::ModelLine => load_line(board, line, out, at),
-        Verb::Lookup => {
-            look_up(board, name, out, at);
+        Verb::Who => {
+            list_node(board, number, out, at);
             board
         }
-        Verb::Moves => {
-            let list = c.list;
-            move_list(board, volts, totals, list, out, at)
+        Verb::Sheet => {
+            put_sheet(board, volts, totals, out, at);
+            board
         }
         _ => {
-            let v = c.numbers;
-            obey_numbers(board, volts, totals, verb, v, words.count, out, at)
+            let asked = ask(board, volts, totals, c, line, spelled, library);
+            let answer = asked.answer;
+            let ticks = asked.ticks;
+            tell(verb, number, answer, &ticks, out, at);
+            asked.board
         }
     }
 }

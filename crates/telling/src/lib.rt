@@ -10,31 +10,7 @@ use saying::put_refused;
 use saying::puts;
 use sheet::Text;
 use terms::BRANCHES;
-
-// To a call that gives a card's number, or a transistor's.
-pub fn put_card(answer: model::Answer, out: &mut [u8; ROOM], at: &mut usize) {
-    match answer {
-        model::Answer::Issue(i) => put_answer(Answer::Card(i), out, at),
-        model::Answer::Refused(f) => put_refused(f, out, at),
-        _ => {}
-    }
-}
-
-pub fn put_transistor(answer: model::Answer, out: &mut [u8; ROOM], at: &mut usize) {
-    match answer {
-        model::Answer::Issue(i) => put_answer(Answer::Transistor(i), out, at),
-        model::Answer::Refused(f) => put_refused(f, out, at),
-        _ => {}
-    }
-}
-
-// To a call that gives nothing: what was done.
-pub fn put_done(answer: model::Answer, done: Answer, out: &mut [u8; ROOM], at: &mut usize) {
-    match answer {
-        model::Answer::Refused(f) => put_refused(f, out, at),
-        _ => put_answer(done, out, at),
-    }
-}
+use verbs::Verb;
 
 // The number of a node that the board has.
 pub fn node_number(node: i64) -> u32 {
@@ -44,31 +20,56 @@ pub fn node_number(node: i64) -> u32 {
     }
 }
 
-pub fn put_reading(node: i64, answer: model::Answer, out: &mut [u8; ROOM], at: &mut usize) {
-    match answer {
-        model::Answer::Node(v, t) => put_answer(Answer::Reading(node_number(node), v, t), out, at),
-        model::Answer::Refused(f) => put_refused(f, out, at),
-        _ => {}
-    }
-}
-
 fn put_currents(ticks: &[i64; BRANCHES], out: &mut [u8; ROOM], at: &mut usize) {
     let mut text = [0u8; ANSWER_ROOM];
     let n = spaced::currents_line(ticks, &mut text);
     put_part(&text, n, out, at);
 }
 
-// The currents of a transistor.
-pub fn put_told(
+fn put_sum(transistors: u32, cards: u32, most: u64, out: &mut [u8; ROOM], at: &mut usize) {
+    let mut text = [0u8; ANSWER_ROOM];
+    let n = spaced::sum_line(transistors, cards, most, &mut text);
+    put_part(&text, n, out, at);
+}
+
+// To a call that gives a number: that of a card, or of a transistor.
+fn issued(verb: Verb, i: u32) -> Answer {
+    match verb {
+        Verb::Place => Answer::Transistor(i),
+        _ => Answer::Card(i),
+    }
+}
+
+// To a call that gives nothing: what was done.
+fn done(verb: Verb) -> Answer {
+    match verb {
+        Verb::Lift => Answer::Lifted,
+        Verb::Withdraw => Answer::Withdrawn,
+        _ => Answer::Moved,
+    }
+}
+
+// To a command of this verb and first number; the currents stand beside the answer. Who is listed is told apart.
+pub fn tell(
+    verb: Verb,
+    number: i64,
     answer: model::Answer,
     ticks: &[i64; BRANCHES],
     out: &mut [u8; ROOM],
     at: &mut usize,
 ) {
     match answer {
+        model::Answer::Issue(i) => put_answer(issued(verb, i), out, at),
+        model::Answer::Done => put_answer(done(verb), out, at),
+        model::Answer::Node(v, t) => put_answer(
+            Answer::Reading(node_number(number), v, t),
+            out,
+            at,
+        ),
         model::Answer::Currents => put_currents(ticks, out, at),
+        model::Answer::Listed(_) => {}
+        model::Answer::Summed(t, c, most) => put_sum(t, c, most, out, at),
         model::Answer::Refused(f) => put_refused(f, out, at),
-        _ => {}
     }
 }
 
@@ -104,21 +105,6 @@ pub fn put_listed(
 ) {
     match answer {
         model::Answer::Listed(n) => put_who(list, n as usize, out, at),
-        model::Answer::Refused(f) => put_refused(f, out, at),
-        _ => {}
-    }
-}
-
-fn put_sum(transistors: u32, cards: u32, most: u64, out: &mut [u8; ROOM], at: &mut usize) {
-    let mut text = [0u8; ANSWER_ROOM];
-    let n = spaced::sum_line(transistors, cards, most, &mut text);
-    put_part(&text, n, out, at);
-}
-
-// A node summed up.
-pub fn put_summed(answer: model::Answer, out: &mut [u8; ROOM], at: &mut usize) {
-    match answer {
-        model::Answer::Summed(t, c, most) => put_sum(t, c, most, out, at),
         model::Answer::Refused(f) => put_refused(f, out, at),
         _ => {}
     }
