@@ -275,24 +275,6 @@ fn asked_by(v: Verb) -> Asks {
     }
 }
 
-// A line that asks nothing of the board.
-fn obey_apart(
-    c: Command,
-    line: &[u8],
-    held: &mut [u8; MOST],
-    out: &mut [u8; ROOM],
-    at: &mut usize,
-) {
-    let words = c.words;
-    let verb = c.verb;
-    match verb {
-        Verb::Nothing => {}
-        Verb::TooLong => put_answer(Answer::TooLong, out, at),
-        Verb::Error => put_error(script::word(line, words, 0), out, at),
-        _ => shelving::obey_shelf(verb, script::word(line, words, 1), held, out, at),
-    }
-}
-
 // A command that asks the board; the bytes that its hex digits spell begin `spelled`.
 fn obey_board(
     board: Board,
@@ -364,7 +346,7 @@ pub fn obey(
             board
         }
         Asks::Neither => {
-            obey_apart(c, line, held, out, at);
+            shelving::obey_apart(c, line, held, out, at);
             board
         }
     }

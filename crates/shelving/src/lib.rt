@@ -1,5 +1,5 @@
-// The library held, and a command obeyed that asks it alone. It fills the start of a buffer, and its own header says how
-// long it is. The answer is put to the bytes that wait.
+// The library held, and a line obeyed that asks it or nobody. It fills the start of a buffer, and its own header says
+// how long it is. The answer is put to the bytes that wait.
 use answers::Answer;
 use card::Clipping;
 use library::Located;
@@ -10,10 +10,12 @@ use page::ANSWER_ROOM;
 use saying::ROOM;
 use saying::part;
 use saying::put_answer;
+use saying::put_error;
 use saying::put_part;
 use saying::put_refused;
 use saying::puts;
-use verbs::Verb;
+use script::Command;
+use script::Verb;
 
 // One byte more than the longest library.
 pub const MOST: usize = 53265;
@@ -141,7 +143,7 @@ fn model(name: &[u8], library: &[u8], out: &mut [u8; ROOM], at: &mut usize) {
 }
 
 // A line about the library held, by its first word's argument: a name, or none.
-pub fn obey_shelf(
+fn obey_shelf(
     verb: Verb,
     word: &[u8],
     shelf: &mut [u8; MOST],
@@ -153,5 +155,23 @@ pub fn obey_shelf(
         Verb::Mend => mend(shelf, out, at),
         Verb::Model => model(word, held(shelf), out, at),
         _ => clip(word, held(shelf), out, at),
+    }
+}
+
+// A line that asks nothing of the board.
+pub fn obey_apart(
+    c: Command,
+    line: &[u8],
+    shelf: &mut [u8; MOST],
+    out: &mut [u8; ROOM],
+    at: &mut usize,
+) {
+    let words = c.words;
+    let verb = c.verb;
+    match verb {
+        Verb::Nothing => {}
+        Verb::TooLong => put_answer(Answer::TooLong, out, at),
+        Verb::Error => put_error(script::word(line, words, 0), out, at),
+        _ => obey_shelf(verb, script::word(line, words, 1), shelf, out, at),
     }
 }
