@@ -4,8 +4,8 @@ use Prim.Native.Nat.{_-_}
 use lib.ListN.{length}
 use borrow.Author.Needs.{needs}
 use Rattle.places.specs.Counts.{transistorsMost}
-use Rattle.obeying.proofs.answer.put_who.Statement.{statement}
-use Rattle.obeying.proofs.answer.put_who.Tie as tie
+use Rattle.telling.proofs.put_who.Statement.{statement}
+use Rattle.telling.proofs.put_who.Tie as tie
 
 abbrev Inv-loop : tie.InvT-loop
 Inv-loop list count out at issues₀ k₀ issues k = length issues ≡ transistorsMost

@@ -2,8 +2,8 @@
 use borrow.Author.Needs.{needs}
 use Prim.Native.Nat.{_-_}
 use lib.ListN.{length}
-use Rattle.obeying.proofs.shelf.keep.Statement.{statement}
-use Rattle.obeying.proofs.shelf.keep.Tie as tie
+use Rattle.shelving.proofs.keep.Statement.{statement}
+use Rattle.shelving.proofs.keep.Tie as tie
 
 abbrev Inv-loop : tie.InvT-loop
 Inv-loop bytes shelf₀ i₀ i-end shelf i = Unit {0}
