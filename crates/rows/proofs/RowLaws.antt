@@ -10,7 +10,7 @@ use lib.ListN.{getD, length}
 use lib.IntN.{ℤ, subℕ}
 use Rattle.refusal.specs.Unique.{unique-by-equation}
 use Rattle.whole.specs.laws.Biased.{below-or-not}
-use Rattle.whole.specs.Quotient.{quotientOf}
+use Rattle.quotients.specs.Quotient.{quotientOf}
 use Rattle.card.specs.declared.WorkedCard.{WorkedCard}
 use Rattle.rows.specs.declared.Over.{Over}
 use Rattle.rows.specs.declared.Over.the-variants.{Within, Ticks, Injection}

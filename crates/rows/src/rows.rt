@@ -84,9 +84,9 @@ fn root_for(ratio: u64) -> u64
     }
     let x = (UNIT + ratio) * UNIT;
     if ratio < NEAR {
-        return whole::root_near(x, near(ratio));
+        return roots::root_near(x, near(ratio));
     }
-    whole::root(x)
+    roots::root(x)
 }
 
 // Q of a row's difference over the two roots.
@@ -98,7 +98,7 @@ fn over_roots(plus: u64, minus: u64, left: u64, right: u64) -> i64
         return 0;
     }
     let divisor = root_for(left) + root_for(right);
-    whole::quotient(plus, minus, SHIFT, divisor, TICKS_OVER)
+    quotients::quotient(plus, minus, SHIFT, divisor, TICKS_OVER)
 }
 
 // The same. Most rows have two floors of 0: there the divisor is 2^21, Q changes nothing and no root is worked.

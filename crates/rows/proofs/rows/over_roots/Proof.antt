@@ -5,7 +5,7 @@ use native.Mathlib.Omega.{arith}
 use lib.IntN.{subℕ}
 use mir.Syntax.{w64}
 use mir.ValLaws.{toZ-ofZ}
-use Rattle.whole.specs.Quotient.{heldSize, quotientOf}
+use Rattle.quotients.specs.Quotient.{heldSize, quotientOf}
 use Rattle.rows.specs.Ticks.{rootFor}
 use Rattle.rows.specs.Outcome.{tickLimit}
 use Rattle.rows.proofs.Roots.{DivisorSize, two-roots, divided-equal, divided-held}
