@@ -1,8 +1,8 @@
 -- A guess is in range, and nothing more is asked of it.
 use Rattle.decimal.proofs.Exact.{number-bits}
 use borrow.Author.Needs.{needs}
-use Rattle.shortest.proofs.guess.Statement.{statement}
-use Rattle.shortest.proofs.guess.Tie as tie
+use Rattle.reaching.proofs.guess.Statement.{statement}
+use Rattle.reaching.proofs.guess.Tie as tie
 
 float-from-bits-x : tie.Need-float-from-bits-x
 float-from-bits-x c = number-bits (c .before .args .w) (search needs)

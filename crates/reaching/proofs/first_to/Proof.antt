@@ -1,9 +1,9 @@
 -- Two tests beside the guess make it right, or bounds are drawn from them.
 use native.Mathlib.Omega.{arith}
-use Rattle.shortest.proofs.Bounds.{after, above}
+use Rattle.reaching.proofs.Bounds.{after, above}
 use borrow.Author.Needs.{needs}
-use Rattle.shortest.proofs.first_to.Statement.{statement}
-use Rattle.shortest.proofs.first_to.Tie as tie
+use Rattle.reaching.proofs.first_to.Statement.{statement}
+use Rattle.reaching.proofs.first_to.Tie as tie
 
 guess-requires : tie.Need-guess-requires
 guess-requires c κs = search needs

@@ -2,10 +2,10 @@
 use Prim.Native.Nat.{_-_}
 use native.Mathlib.Omega.{arith}
 use borrow.Author.Needs.{needs}
-use Rattle.shortest.specs.inner.Search.{Bracket}
-use Rattle.shortest.proofs.Bounds.{raise, lower, met}
-use Rattle.shortest.proofs.halve.Statement.{statement}
-use Rattle.shortest.proofs.halve.Tie as tie
+use Rattle.reaching.specs.FirstTo.{Bracket}
+use Rattle.reaching.proofs.Bounds.{raise, lower, met}
+use Rattle.reaching.proofs.halve.Statement.{statement}
+use Rattle.reaching.proofs.halve.Tie as tie
 
 abbrev Inv-loop : tie.InvT-loop
 Inv-loop tens w q from to low₀ high₀ low high = Bracket w q low high

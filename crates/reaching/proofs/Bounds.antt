@@ -3,7 +3,7 @@ use mathlib.Core.Path.{_≡_, sym, subst}
 use Prim.Native.Nat.{ℕ, _+_, _-_, _≤_, _<_}
 use native.Mathlib.Omega.{arith}
 use Rattle.decimal.specs.Decimal.{digitsEnd, sizeBits}
-use Rattle.shortest.specs.inner.Search.{FirstTo, Bracket}
+use Rattle.reaching.specs.FirstTo.{FirstTo, Bracket}
 
 pub all : (w q : ℕ) → Bracket w q 1 digitsEnd
 all w q = record {

@@ -3,8 +3,8 @@ use mathlib.Core.Path.{sym, subst}
 use lib.Dec.{T}
 use lib.Ieee.{ofBits, neg}
 use borrow.Author.Needs.{needs}
-use Rattle.shortest.proofs.among_digits.Statement.{statement}
-use Rattle.shortest.proofs.among_digits.Tie as tie
+use Rattle.reaching.proofs.among_digits.Statement.{statement}
+use Rattle.reaching.proofs.among_digits.Tie as tie
 
 truncating-f64-to-u64-requires : tie.Need-truncating-f64-to-u64-requires
 unfolding ofBits neg
