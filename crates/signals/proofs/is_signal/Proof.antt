@@ -1,8 +1,8 @@
--- `mending::is_signal` meets its contract: the word is a finite number's, and that is below zero.
+-- `signals::is_signal` meets its contract: the word is a finite number's, and that is below zero.
 use borrow.Author.Needs.{needs}
-use Rattle.mending.proofs.Records.{signal-real, signal-none}
-use Rattle.mending.proofs.is_signal.Statement.{statement}
-use Rattle.mending.proofs.is_signal.Tie as tie
+use Rattle.signals.proofs.Records.{signal-real, signal-none}
+use Rattle.signals.proofs.is_signal.Statement.{statement}
+use Rattle.signals.proofs.is_signal.Tie as tie
 
 returns : tie.Need-returns
 returns c =

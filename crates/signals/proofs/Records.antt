@@ -22,7 +22,7 @@ use Rattle.clip.specs.Record.{numberAt}
 use Rattle.roll.specs.Directory.{cut}
 use Rattle.roll.proofs.Names.{cut-none, cut-more}
 use Rattle.copying.proofs.BytesWritten.{partFrom, partPut, then-part}
-use Rattle.mending.specs.Mended.{signals, icssAt, icssEnd, cleared, mendedRecord, mendedAll, signalling}
+use Rattle.signals.specs.Records.{signals, icssAt, icssEnd, cleared, mendedRecord, mendedAll, signalling}
 
 -- ---- whether I_CSs is a finite number below zero
 

@@ -1,12 +1,12 @@
--- `mending::put_records` meets its contract: the buffer starts with the records passed, each mended.
+-- `signals::put_records` meets its contract: the buffer starts with the records passed, each mended.
 use mathlib.Core.Path.{sym}
 use native.Mathlib.Omega.{arith}
 use lib.ListN.{length}
 use borrow.Author.Needs.{needs}
-use Rattle.mending.proofs.Records.{Going, go-first, go-kept, go-record, go-room, go-more, go-few, go-less}
-use Rattle.mending.proofs.Records.{go-told, go-all}
-use Rattle.mending.proofs.put_records.Statement.{statement}
-use Rattle.mending.proofs.put_records.Tie as tie
+use Rattle.signals.proofs.Records.{Going, go-first, go-kept, go-record, go-room, go-more, go-few, go-less}
+use Rattle.signals.proofs.Records.{go-told, go-all}
+use Rattle.signals.proofs.put_records.Statement.{statement}
+use Rattle.signals.proofs.put_records.Tie as tie
 
 abbrev Inv-loop : tie.InvT-loop
 Inv-loop records size dst₀ t₀ at₀ n₀ dst t at n = Going size records dst₀ dst t at n

@@ -1,11 +1,11 @@
--- `mending::put_record` meets its contract: the record is copied, and where it signals the bytes of +0 are put over it.
+-- `signals::put_record` meets its contract: the record is copied, and where it signals the bytes of +0 are put over it.
 use native.Mathlib.Omega.{arith}
 use lib.ListN.{length-drop}
 use borrow.Author.Needs.{needs}
 use Rattle.bytes_le.proofs.Laws.{rest}
-use Rattle.mending.proofs.Records.{clears, put-changed, put-as-is}
-use Rattle.mending.proofs.put_record.Statement.{statement}
-use Rattle.mending.proofs.put_record.Tie as tie
+use Rattle.signals.proofs.Records.{clears, put-changed, put-as-is}
+use Rattle.signals.proofs.put_record.Statement.{statement}
+use Rattle.signals.proofs.put_record.Tie as tie
 
 abbrev copied : tie.Then1 → tie.After-copy
 copied c = c .before .before .before .before
