@@ -1,8 +1,8 @@
 -- `better_of` compares where the card is of the name.
 use borrow.Author.Needs.{needs}
-use Rattle.places.proofs.Scans.{none-larger}
-use Rattle.places.proofs.finds.better_of.Statement.{statement}
-use Rattle.places.proofs.finds.better_of.Tie as tie
+use Rattle.newest.proofs.Parts.{none-larger}
+use Rattle.newest.proofs.better_of.Statement.{statement}
+use Rattle.newest.proofs.better_of.Tie as tie
 
 returns : tie.Need-returns
 returns c = rw (c .before .if1 .taken) (c .larger-of .ensures)

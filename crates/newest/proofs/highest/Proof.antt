@@ -13,12 +13,13 @@ use Rattle.rows.specs.inner.FromTerms.{listUp}
 use Rattle.given.specs.Lists.{larger}
 use Rattle.deck.specs.Stretch.{stretch}
 use Rattle.deck.specs.laws.Ups.{length-up, getD-up}
 use Rattle.places.specs.Counts.{cardsMost}
 use Rattle.given.specs.Lists.{largest}
 use Rattle.places.specs.inner.Flat.{issueIfAt}
-use Rattle.places.proofs.Scans.{largest-more, largest-none, part-stretch}
-use Rattle.places.proofs.finds.highest.Statement.{statement}
-use Rattle.places.proofs.finds.highest.Tie as tie
+use Rattle.places.proofs.Scans.{largest-more, largest-none}
+use Rattle.newest.proofs.Parts.{part-stretch}
+use Rattle.newest.proofs.highest.Statement.{statement}
+use Rattle.newest.proofs.highest.Tie as tie
 
 -- the issue numbers of the name, place by place
 abbrev named : List ℕ → List ℕ → List ℕ → List ℕ

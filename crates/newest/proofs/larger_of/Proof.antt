@@ -1,7 +1,7 @@
 -- `larger_of` gives the larger of two numbers.
 use borrow.Author.Tests.{lt-ltb, le-ltb}
-use Rattle.places.proofs.finds.larger_of.Statement.{statement}
-use Rattle.places.proofs.finds.larger_of.Tie as tie
+use Rattle.newest.proofs.larger_of.Statement.{statement}
+use Rattle.newest.proofs.larger_of.Tie as tie
 
 returns : tie.Need-returns
 returns c = simp (lt-ltb _ _ (c .if1 .taken))
