@@ -4,10 +4,10 @@ use Prim.Native.Nat.{_-_, _≤_}
 use native.Mathlib.Omega.{arith}
 use borrow.Author.Needs.{needs}
 use Rattle.keys.specs.Keys.{keyCount}
-use Rattle.line_write.specs.inner.Parts.{KeysPut}
-use Rattle.line_write.proofs.Lines.{keys-begun, keys-more, keys-fail}
-use Rattle.line_write.proofs.put_keys.Statement.{statement}
-use Rattle.line_write.proofs.put_keys.Tie as tie
+use Rattle.keyed.specs.inner.Parts.{KeysPut}
+use Rattle.keyed.proofs.Keys.{keys-begun, keys-more, keys-fail}
+use Rattle.keyed.proofs.put_keys.Statement.{statement}
+use Rattle.keyed.proofs.put_keys.Tie as tie
 
 abbrev Inv-loop : tie.InvT-loop
 Inv-loop rec room₀ from tens packed lengths at₀ k₀ room at k = (k ≤ keyCount) × KeysPut rec room₀ from room k at
@@ -27,8 +27,11 @@ lengths-requires c κs = search needs
 loop-holds : tie.Need-loop-holds Inv-loop μ-loop
 loop-holds c = (omega arith, keys-begun _ _ _)
 
-word-requires : tie.Need-word-requires Inv-loop μ-loop
-word-requires c κs = search needs
+mul-u64-at : tie.Need-mul-u64-at Inv-loop μ-loop
+mul-u64-at c = omega arith
+
+u64-at-requires : tie.Need-u64-at-requires Inv-loop μ-loop
+u64-at-requires c κs = search needs
 
 put-keyed-requires : tie.Need-put-keyed-requires Inv-loop μ-loop
 put-keyed-requires c κs =
@@ -52,7 +55,7 @@ loop-again c =
     let w = p .before .before .before .before .before in
     let l = w .before .before in (
       omega arith,
-      keys-more (l .loop .inv .1) (w .word .ensures) (rw (c .before .next .given .1) at
+      keys-more (l .loop .inv .1) (w .u64-at .ensures .value) (rw (c .before .next .given .1) at
           (p .put-keyed .ensures)),
     )
 
@@ -64,7 +67,7 @@ returns c =
     let p = c .before .before in
     let w = p .before .before .before .before .before in
     let l = w .before .before in
-    keys-fail (l .loop .inv .1) (w .word .ensures) (search needs) (rw (c .enum-told .given .1) at
+    keys-fail (l .loop .inv .1) (w .u64-at .ensures .value) (search needs) (rw (c .enum-told .given .1) at
     (p .put-keyed .ensures))
 
 returns-2 : tie.Need-returns-2 Inv-loop μ-loop
@@ -83,7 +86,8 @@ put-keys-spec =
     packed-requires
     lengths-requires
     loop-holds
-    word-requires
+    mul-u64-at
+    u64-at-requires
     put-keyed-requires
     enum-known-next
     add-k

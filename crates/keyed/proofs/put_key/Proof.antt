@@ -7,10 +7,10 @@ use lib.ListN.{length, take, getD}
 use Rattle.bytes_le.specs.Le.{bytesOf}
 use Rattle.keys.specs.Keys.{keyWord}
 use Rattle.decimal_write.proofs.Puts.{then, made}
-use Rattle.line_write.proofs.Lettered.{short-key, letters-few, letters}
+use Rattle.keyed.proofs.Lettered.{short-key, letters-few, letters}
 use borrow.Author.Needs.{needs}
-use Rattle.line_write.proofs.put_key.Statement.{statement}
-use Rattle.line_write.proofs.put_key.Tie as tie
+use Rattle.keyed.proofs.put_key.Statement.{statement}
+use Rattle.keyed.proofs.put_key.Tie as tie
 
 abbrev entry : tie.After-put-bytes → tie.Start
 entry c = c .before .before .before

@@ -19,8 +19,8 @@ use Rattle.shortest.specs.Form.{formOf}
 use Rattle.shortest.proofs.Fewest.{formed}
 use Rattle.decimal_write.specs.Written.{numberText, formText}
 use Rattle.keys.specs.Keys.{keyCount, keyWord, packedKeys, keyLengths}
-use Rattle.line_write.specs.Text.{isForm, keyText}
-use Rattle.line_write.specs.inner.Parts.{keyStart}
+use Rattle.keyed.specs.Keyed.{isForm, keyText}
+use Rattle.keyed.specs.inner.Parts.{keyStart}
 
 -- ---- the letters, by a test of all keys
 

@@ -1,10 +1,10 @@
 -- A word with a form, and one without.
 use native.Mathlib.Omega.{arith}
 use Rattle.decimal_write.proofs.Puts.{then, made}
-use Rattle.line_write.proofs.Lettered.{has-form, form-range, keyed-text, no-form}
+use Rattle.keyed.proofs.Lettered.{has-form, form-range, keyed-text, no-form}
 use borrow.Author.Needs.{needs}
-use Rattle.line_write.proofs.put_keyed.Statement.{statement}
-use Rattle.line_write.proofs.put_keyed.Tie as tie
+use Rattle.keyed.proofs.put_keyed.Statement.{statement}
+use Rattle.keyed.proofs.put_keyed.Tie as tie
 
 form-of-requires : tie.Need-form-of-requires
 form-of-requires c κs = search needs
