@@ -7,9 +7,9 @@ use lib.IntN.{pos}
 use borrow.Author.Tests.{le-leb, lt-leb}
 use borrow.Author.Needs.{needs}
 use Rattle.whole.specs.laws.Machine.{held}
-use Rattle.host_queries.proofs.Filling.{Filling, none-yet, one-more, all-there}
-use Rattle.host_queries.proofs.put_numbers.Statement.{statement}
-use Rattle.host_queries.proofs.put_numbers.Tie as tie
+use Rattle.host_numbers.proofs.Filling.{Filling, none-yet, one-more, all-there}
+use Rattle.host_numbers.proofs.put_numbers.Statement.{statement}
+use Rattle.host_numbers.proofs.put_numbers.Tie as tie
 
 abbrev Inv-loop : tie.InvT-loop
 Inv-loop numbers buffer₀ i₀ buffer i = Filling numbers buffer₀ buffer i
