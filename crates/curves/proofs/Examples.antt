@@ -6,7 +6,7 @@ use Prim.Native.Nat.{_*_, _^_}
 use lib.ListN.{replicate}
 use lib.IntN.{ℤ, pos, negsuc, natAbs, subℕ, _-ℤ_, _*ℤ_}
 use lib.Ieee.{ofBits, lt, eq, mul, div, sub, toUnsigned, toSigned, size}
-use Rattle.whole.specs.Root.{rootOf, rootBits}
+use Rattle.roots.specs.Root.{rootOf, rootBits}
 use Rattle.octave.specs.Table.{entries, entryOf}
 use Rattle.scaling.specs.Scaled.{expOf}
 use Rattle.terms.specs.Rows.{sf, Row, row1, row2, row3, row4, row5, row6, row7, row8}

@@ -6,7 +6,7 @@ use Prim.Native.Nat.{ℕ, _+_}
 use native.Mathlib.Nat.{add-comm}
 use lib.Dec.{ltb}
 use lib.IntN.{ℤ, negℤ, subℕ, _-ℤ_}
-use Rattle.whole.specs.Quotient.{quotientOf}
+use Rattle.quotients.specs.Quotient.{quotientOf}
 use Rattle.card.specs.declared.WorkedCard.{WorkedCard}
 use Rattle.terms.specs.Rows.{Role, E1, B2, C2, rEx, root, row1}
 use Rattle.terms.specs.Values.{biasOf, tickOf, ratioOf}

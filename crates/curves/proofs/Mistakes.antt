@@ -7,7 +7,7 @@ use lib.Dec.{eqb}
 use lib.IntN.{ℤ, pos, negsuc, negℤ, subℕ, _-ℤ_, _*ℤ_}
 use lib.Ieee.{ofBits, lt, eq, mul, div, sub, toUnsigned, toSigned, size}
 use Rattle.whole.specs.Floor.{floorDiv}
-use Rattle.whole.specs.Root.{rootOf, rootBits}
+use Rattle.roots.specs.Root.{rootOf, rootBits}
 use Rattle.octave.specs.Table.{steps, parts, places, entries, entryOf}
 use Rattle.octave.specs.Position.{positionOf, partOf}
 use Rattle.card.specs.declared.WorkedCard.{WorkedCard}

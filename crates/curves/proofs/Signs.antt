@@ -5,7 +5,7 @@ use Prim.Native.Nat.{ℕ, zero, suc, _+_, _-_, _*_, _^_, _/_, _<_, _≤_}
 use native.Mathlib.Nat.{mul-le-mul-right, zero-mul, zero-div}
 use native.Mathlib.Omega.{arith}
 use lib.IntN.{ℤ, pos, negsuc, negℤ, subℕ, _*ℤ_, negℤ-negℤ}
-use Rattle.whole.specs.Quotient.{quotientOf, quotient-negative}
+use Rattle.quotients.specs.Quotient.{quotientOf, quotient-negative}
 use Rattle.whole.specs.laws.Biased.{below-or-not, sub-up, sub-down, sub-eq, sub-from-zero}
 
 -- a difference that is negative, as its size turned over

@@ -8,11 +8,11 @@ use crate::shelf::take_library;
 use crate::showing::begin;
 use crate::showing::end;
 use board::Board;
-use obeying::MOST;
-use obeying::ROOM;
-use obeying::part;
+use saying::ROOM;
+use saying::part;
 use script::MOST_BYTES;
 use script::Verb;
+use shelving::MOST;
 use totals::NODES;
 
 // One byte more than the longest line: one that is longer is cut there, and is too long all the same.

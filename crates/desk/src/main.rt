@@ -9,6 +9,7 @@ mod lines; // lines.rt: a script obeyed, line by line
 
 use options::Argument;
 use options::Options;
+use saying::part;
 
 fn is_dash(word: &[u8]) -> bool {
     if word.len() != 1 {
@@ -31,14 +32,14 @@ fn obey_script(path: &[u8], asked: Options) {
 fn obey_argument(i: usize, asked: Options) {
     let mut path = [0u8; 131072];
     let n = os::arg(i, &mut path);
-    obey_script(&path[..n], asked);
+    obey_script(part(&path, 0, n), asked);
 }
 
 // What an argument is.
 fn argument_at(i: usize) -> Argument {
     let mut word = [0u8; 131072];
     let n = os::arg(i, &mut word);
-    options::named(&word[..n])
+    options::named(part(&word, 0, n))
 }
 
 fn main() {

@@ -1,9 +1,10 @@
 // What waits is written before a line whose answer might have no room, and when a script has been obeyed as far as it
 // was read.
 use libc::STDOUT_FILENO;
-use obeying::ANSWERS;
-use obeying::ROOM;
-use obeying::part;
+use saying::ANSWERS;
+use saying::ROOM;
+use saying::part;
+use saying::puts;
 
 // Room for the answer to the longest path that an argument gives.
 const PATH_ROOM: usize = 131104;
@@ -23,8 +24,7 @@ pub fn make_room(out: &[u8; ROOM], at: &mut usize) {
 
 // Puts the first n bytes of a text to those that wait.
 pub fn put_part(text: &[u8], n: usize, out: &mut [u8; ROOM], at: &mut usize) {
-    let k = page::put(part(text, 0, n), out, *at);
-    *at = k;
+    puts(part(text, 0, n), out, at);
 }
 
 // Writes that a script cannot be read.

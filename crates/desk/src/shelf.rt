@@ -1,7 +1,7 @@
 // The library held: none at first, then what is read from a file.
 use crate::out::put_part;
-use obeying::MOST;
-use obeying::ROOM;
+use saying::ROOM;
+use shelving::MOST;
 
 // Room for the answer to the longest path that a line gives.
 const PATH_ROOM: usize = 4128;
@@ -63,7 +63,7 @@ fn put_unreadable(path: &[u8], out: &mut [u8; ROOM], at: &mut usize) {
 pub fn take_library(path: &[u8], held: &mut [u8; MOST], out: &mut [u8; ROOM], at: &mut usize) {
     let mut read = [0u8; MOST];
     match read_file(path, &mut read) {
-        File::Bytes(n) => obeying::keep_library(n, &read, held, out, at),
+        File::Bytes(n) => shelving::keep_library(n, &read, held, out, at),
         File::Failed => put_unreadable(path, out, at),
     }
 }

@@ -6,8 +6,8 @@ use crate::out::make_room;
 use crate::out::put_part;
 use explaining::EXPLANATION_ROOM;
 use libc::STDOUT_FILENO;
-use obeying::ROOM;
-use obeying::part;
+use saying::ROOM;
+use saying::part;
 
 // Before a line is obeyed.
 pub fn begin(o: Options, out: &[u8; ROOM], at: &mut usize) {

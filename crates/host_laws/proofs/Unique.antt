@@ -15,7 +15,8 @@ use Rattle.host_lent.specs.InPlace.{MovedInPlace}
 use Rattle.host_changes.specs.Changes.{Leaves, Begun, Loaded}
 use Rattle.host_moves.specs.Moves.{Moved, Lifted}
 use Rattle.host_placing.specs.Placing.{Placed}
-use Rattle.host_queries.specs.Queries.{LookedUp, Shown, filledIf, Opened, Listed, SummedUp}
+use Rattle.host_numbers.specs.Filled.{filledIf}
+use Rattle.host_queries.specs.Queries.{LookedUp, Shown, Opened, Listed, SummedUp}
 use Rattle.host_shelf.specs.Shelf.{ReadOut, Found}
 
 -- ---- calls that change a board

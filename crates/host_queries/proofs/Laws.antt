@@ -19,7 +19,8 @@ use Rattle.board.specs.Promise.{modelOf, givenAs, handedAs}
 use Rattle.board.specs.Unique.{Allows, AllowsLent, AllowsList}
 use Rattle.host_words.specs.Words.{resultOf, issueOver}
 use Rattle.host_values.specs.Values.{voltageOver, totalOver, countOver, transistorsOver, cardsOver, largestOver}
-use Rattle.host_queries.specs.Queries.{LookedUp, Shown, openingOf, filledIf, Opened, Listed, SummedUp}
+use Rattle.host_numbers.specs.Filled.{filledIf}
+use Rattle.host_queries.specs.Queries.{LookedUp, Shown, openingOf, Opened, Listed, SummedUp}
 
 module _ {a : Answered} where
   pub looks-up : {e : model.Answered} {i i′ r : ℕ} → Allows e a →

@@ -1,2 +1,2 @@
-mod Filling
+-- Laws over plain values that the proofs of functions cite.
 mod Laws

@@ -1,10 +1,10 @@
 -- What a host's call that only reads leaves: its result, and the lent places and buffers.
 use mathlib.Core.Path.{_≡_}
 use mathlib.Core.Bool.{Bool, true, false, cond}
-use mathlib.Core.List.{List, _++_}
+use mathlib.Core.List.{List}
 use Prim.Native.Nat.{ℕ}
 use lib.Dec.{eqb, leb}
-use lib.ListN.{length, drop}
+use lib.ListN.{length}
 use lib.IntN.{ℤ}
 use Rattle.refusal.specs.declared.Refusal.the-variants.{ShortOutput}
 use Rattle.refusal.specs.Told.{numberOf}
@@ -12,6 +12,7 @@ use Rattle.bytes_le.specs.Buffer.{over}
 use Rattle.model.specs.Board as model
 use Rattle.lending.specs.Lending.{Lent}
 use Rattle.host_words.specs.Words.{resultOf, issueOver}
+use Rattle.host_numbers.specs.Filled.{filledIf}
 use Rattle.host_values.specs.Values.{voltageOver, totalOver, countOver, transistorsOver, cardsOver, largestOver}
 
 -- a card's number in the place i
@@ -33,11 +34,6 @@ roomed false = numberOf ShortOutput
 unfoldable pub openingOf : model.Answered → ℕ → ℕ
 openingOf a room =
     cond (eqb (resultOf (a .answer)) 0) (roomed (leb (length (a .ticks)) room)) (resultOf (a .answer))
-
--- at the start of the buffer, where nothing refuses
-abbrev pub filledIf : Bool → List ℤ → List ℤ → List ℤ
-filledIf true new old = new ++ drop (length new) old
-filledIf false new old = old
 
 pub record Opened (a : model.Answered) (old new : List ℤ) (r : ℕ) : Type 0 where
   pub result : r ≡ openingOf a (length old)

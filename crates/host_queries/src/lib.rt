@@ -1,12 +1,10 @@
 // What a host's calls do that only read a board. Each takes the board by value, and after it what the host lends; it gives the result of the call, 0 or a refusal's number.
-ghost use mathlib.Core.Path.{_≡_};
-ghost use lib.Dec.{leb};
 ghost use lib.ListN.{length};
 ghost use Rattle.model.specs.Model.{lookedOf, openedOf, listedOf, summedOf};
 ghost use Rattle.lending.specs.Rest.{bare};
 ghost use Rattle.lending.specs.Lending.{showedLent};
 ghost use Rattle.board.specs.Promise.{modelOf, stateIn, Reached};
-ghost use Rattle.host_queries.specs.Queries.{LookedUp, Shown, filledIf, Opened, Listed, SummedUp};
+ghost use Rattle.host_queries.specs.Queries.{LookedUp, Shown, Opened, Listed, SummedUp};
 use board::Board;
 use refusal::Refusal;
 
@@ -37,22 +35,6 @@ pub fn read_node(
     host_values::tell_node(answer, microvolts, ticks)
 }
 
-// Numbers put at the start of a buffer, where it has room for all of them; tells whether it has.
-fn put_numbers(numbers: &[i64], buffer: &mut [i64]) -> bool
-    ensures { λ r. ⌜ r ≡ leb (length (now (numbers .entry))) (length (now (buffer .entry))) ⌝ }
-    ensures { λ r. ⌜ now (buffer .exit) ≡ filledIf r (now (numbers .entry)) (now (buffer .entry)) ⌝ }
-{
-    if buffer.len() < numbers.len() {
-        return false;
-    }
-    let mut i = 0;
-    while i < numbers.len() {
-        buffer[i] = numbers[i];
-        i += 1;
-    }
-    true
-}
-
 // The currents of a transistor's branches at the start of the lent buffer: 12, then 5 where it has not room for all.
 pub fn read_currents(board: Board, transistor: i64, currents: &mut [i64]) -> u32
     requires { ⌜ Reached board ⌝ }
@@ -65,7 +47,7 @@ pub fn read_currents(board: Board, transistor: i64, currents: &mut [i64]) -> u32
     if code != 0 {
         return code;
     }
-    if put_numbers(&ticks, currents) {
+    if host_numbers::put_numbers(&ticks, currents) {
         return 0;
     }
     refusal::number(Refusal::ShortOutput)

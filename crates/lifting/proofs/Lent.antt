@@ -14,11 +14,13 @@ use Rattle.totals.specs.inner.Sums.{More, Givable}
 use Rattle.given.specs.Arguments.{some, issueOf}
 use Rattle.deck.specs.Stretch.{written}
 use Rattle.slices.specs.Slices.{offSlices, changed, StandsIn}
+use Rattle.small.specs.inner.Small.{Near}
 use Rattle.places.specs.Naming.{parted}
 use Rattle.places.specs.inner.Flat.{firstAt, numberPlace}
 use Rattle.places.specs.inner.Parts.{placeOr, Entering}
 use Rattle.places.specs.laws.Founds.{not-there}
 use Rattle.settle.specs.inner.Working.{nodesAt, heldAt}
+use Rattle.settle.proofs.Alone.{none-small, one-small}
 use Rattle.model.specs.Board.{Board}
 use Rattle.model.specs.declared.Answer.{Answer}
 use Rattle.model.specs.declared.Answer.the-variants.{Done, Refused}
@@ -114,6 +116,9 @@ module _ {r : Rest} {issues cards seats nodes naming : List ℕ} {currents : Lis
       lift-parts = lift-leaves (boardIn was) (ground .footing) z i e o p
 
       module _ {going : List ℤ} (more : More nodesMost none going (ticksGive on held)) where
+        pub lift-near : Near none going
+        lift-near = record { coming-small = none-small; going-small = one-small on more (lift-puts .0 .within) }
+
         lift-changed : changed totals none going ≡ liftedOf (boardIn was) z .board .totals
         lift-changed = lift-stands (boardIn was) (ground .footing) z i e o p more
 

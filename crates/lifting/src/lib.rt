@@ -38,7 +38,7 @@ pub fn lift(
     let coming = [0i64; NODES];
     let mut going = [0i64; NODES];
     settle::put_in(&mut going, &on, &own);
-    if !standing::stand_in(totals, &coming, &going) {
+    if !standing::stand_in(totals, &coming, &going, true) {
         return Answer::Refused(Refusal::OutOfReach);
     }
     issues[i] = 0;

@@ -21,7 +21,8 @@ use Rattle.shortest.specs.Form.{formOf}
 use Rattle.decimal_laws.proofs.Numbered.{Numbered, numbered-form, numbered-below}
 use Rattle.keys.specs.Keys.{keyCount, plusOne, minusOne}
 use Rattle.line.specs.Line.{Model, lineOf}
-use Rattle.line_write.specs.Text.{settled, isForm, formsUp, lineText, textOf}
+use Rattle.keyed.specs.Keyed.{isForm, formsUp}
+use Rattle.line_write.specs.Text.{settled, lineText, textOf}
 use Rattle.line_laws.proofs.Taking.{wordsUp}
 use Rattle.line_laws.proofs.Back.{line-after-record, below-all}
 use Rattle.line_laws.proofs.Sound.{GoodModel, line-good}

@@ -28,7 +28,8 @@ use Rattle.decimal_write.proofs.Puts.{one-digit, more-digits}
 use Rattle.keys.specs.Keys.{keyCount, keyWord, defaults, plusOne, minusOne}
 use Rattle.line.specs.Line.{Head, wordsFrom, startsInSpace, endsInSpace, typed}
 use Rattle.line.specs.Line.{headOf, lineOf}
-use Rattle.line_write.specs.Text.{settled, isForm, formsUp, keyText, keysUp, typeText, lineText, textOf}
+use Rattle.keyed.specs.Keyed.{isForm, formsUp, keyText, keysUp}
+use Rattle.line_write.specs.Text.{settled, typeText, lineText, textOf}
 use Rattle.line_laws.proofs.Joined.{joined, more, words-joined}
 use Rattle.line_laws.proofs.Taking.{keyedUp, wordsUp, takenUp, keys-joined, all-words, words-long, take-up}
 

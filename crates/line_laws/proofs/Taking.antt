@@ -28,7 +28,7 @@ use Rattle.packing.proofs.Packs.{both}
 use Rattle.keys.specs.Keys.{keyCount, keyNumber, keyWord, defaults}
 use Rattle.line.specs.Line.{Taken, taken, noneTaken, equalsAt, takeKey, takeKeys}
 use Rattle.line.proofs.Keyed.{key-number}
-use Rattle.line_write.specs.Text.{isForm, formsUp, keysUp}
+use Rattle.keyed.specs.Keyed.{isForm, formsUp, keysUp}
 use Rattle.line_laws.proofs.Joined.{joined, joined-two, AllWords, none, more}
 
 -- ---- bytes that are no space

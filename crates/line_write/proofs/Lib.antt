@@ -1,4 +1,3 @@
 -- Laws over plain values that the proofs of functions cite.
 pub mod Settled
-pub mod Lettered
 pub mod Lines

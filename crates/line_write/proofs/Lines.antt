@@ -1,12 +1,9 @@
--- All keys put one after the other, the whole line, and what is left in the buffer.
-use mathlib.Core.Path.{_≡_, refl, sym, ap, ap₂, _∙_, subst}
-use mathlib.Core.Logic.{_⊎_, inl, inr}
+-- The head of a line, the whole line, and what is left in the buffer.
+use mathlib.Core.Path.{_≡_, refl, sym, ap, _∙_, subst}
 use mathlib.Core.Bool.{Bool, true, false, not, _&&_, cond}
-use mathlib.Core.List.{List, _++_, append-nil}
-use Prim.Native.Nat.{ℕ, zero, suc, _+_, _-_, _≤_, _<_}
-use native.Mathlib.Nat.{eq-or-lt-of-le, le-of-suc-le-suc, sub-zero}
-use native.Mathlib.Numerals.{add-one}
-use native.Mathlib.Omega.{arith}
+use mathlib.Core.List.{List, _++_}
+use Prim.Native.Nat.{ℕ, _-_, _≤_, _<_}
+use native.Mathlib.Nat.{sub-zero}
 use lib.Dec.{eqb, leb, ltb}
 use lib.ListN.{length, take}
 use lib.Seq.{length-take-le}
@@ -20,55 +17,16 @@ use Rattle.packing.proofs.Packs.{both}
 use Rattle.clip.specs.Numbers.{polarity}
 use Rattle.clip.specs.Record.{isWide, wordAt}
 use Rattle.spelling.specs.Bytes.{bytes}
-use Rattle.shortest.specs.Form.{formOf}
 use Rattle.decimal_write.specs.Added.{Added}
 use Rattle.decimal_write.proofs.Puts.{then}
 use Rattle.keys.specs.Keys.{keyCount, minusOne}
 use Rattle.line_write.specs.declared.Written as declared
 use Rattle.line_write.specs.declared.Written.the-variants as written
-use Rattle.line_write.specs.Text.{settled, isForm, formsUp, keyText, keysUp, lineText, textOf}
+use Rattle.keyed.specs.Keyed.{formsUp, keysUp}
+use Rattle.line_write.specs.Text.{settled, lineText, textOf}
 use Rattle.line_write.specs.Answers.{roomFor, writingOf, Leaves}
-use Rattle.line_write.specs.inner.Parts.{headOf, KeyPut, KeysPut, goodText}
-
--- ---- the keys
-
-pub keys-begun : (rec room : List ℕ) (from : ℕ) → KeysPut rec room from room 0 from
-unfolding keysUp formsUp
-keys-begun rec room from = record {
-  most = omega arith;
-  added = record { same = sym (append-nil (take from room)); kept = refl };
-  forms = refl;
-}
-
-pub keys-more : {rec old mid new : List ℕ} {from n at w to : ℕ} → KeysPut rec old from mid n at → w ≡ wordAt rec n
-    → KeyPut mid at new n w to → KeysPut rec old from new (n + 1) to
-unfolding keysUp formsUp
-keys-more {rec} {old} {mid} {new} {from} {n} {at} {w} {to} v e k =
-    let a = v .most in
-    let b = k .most in
-    subst (λ (m : ℕ). KeysPut rec old from new m to) (sym (add-one n))
-    (record {
-      most = omega arith;
-      added =
-          subst (λ (x : ℕ). Added old from new to (keysUp rec n ++ keyText n x)) e (then (v .added) (k .added));
-      forms = ap₂ _&&_ (v .forms) (ap (λ (x : ℕ). isForm (formOf x)) (sym e) ∙ k .form);
-    })
-
--- one that has no form leaves all of them without
-stays : (rec : List ℕ) (n m : ℕ) → n ≤ m → formsUp rec n ≡ false → formsUp rec m ≡ false
-unfolding formsUp
-stays rec n zero h e = let z : n ≡ 0 = omega arith in rw z at e
-stays rec n (suc m) h e = by (eq-or-lt-of-le h) (λ l. stays rec n m l e)
-  where
-    by : (n ≡ suc m) ⊎ (n < suc m) → (n ≤ m → formsUp rec m ≡ false) → formsUp rec (suc m) ≡ false
-    by (inl z) f = rw z at e
-    by (inr l) f = ap (λ (t : Bool). t && isForm (formOf (wordAt rec m))) (f (le-of-suc-le-suc l))
-
-pub keys-fail : {rec old mid : List ℕ} {from n at w : ℕ} → KeysPut rec old from mid n at → w ≡ wordAt rec n
-    → n < keyCount → isForm (formOf w) ≡ false → formsUp rec keyCount ≡ false
-unfolding formsUp
-keys-fail {rec} {n = n} v e h f =
-    stays rec (suc n) keyCount h (ap₂ _&&_ (v .forms) (ap (λ (x : ℕ). isForm (formOf x)) (sym e) ∙ f))
+use Rattle.keyed.specs.inner.Parts.{KeysPut}
+use Rattle.line_write.specs.inner.Parts.{headOf, goodText}
 
 -- ---- the head
 

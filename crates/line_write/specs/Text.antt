@@ -1,44 +1,23 @@
 -- The line of a card: `.model`, its name, its type, then every key with its number, in the record's order, one space
 -- before each.
-use mathlib.Core.Bool.{Bool, true, false, not, _&&_, _||_, cond}
-use mathlib.Core.List.{List, [], _∷_, _++_}
-use Prim.Native.Nat.{ℕ, zero, suc, _+_}
+use mathlib.Core.Bool.{Bool, not, _&&_, _||_, cond}
+use mathlib.Core.List.{List, _++_}
+use Prim.Native.Nat.{ℕ, _+_}
 use lib.Dec.{eqb}
 use Rattle.refusal.specs.declared.Refusal.the-variants.{Malformed, BadName, BadExsub, BadNumber}
 use Rattle.refusal.specs.Order.{Verdict, yes, refuseIf}
 use Rattle.name.specs.Name.{asked}
 use Rattle.clip.specs.Numbers.{polarity, spare}
 use Rattle.clip.specs.Record.{isWide, wordAt}
-use Rattle.spelling.specs.Bytes.{bytes, space}
-use Rattle.decimal.specs.declared.Form.{Form}
-use Rattle.decimal.specs.declared.Form.the-variants.{Number, Nothing}
-use Rattle.shortest.specs.Form.{formOf}
-use Rattle.decimal_write.specs.Written.{formText}
-use Rattle.keys.specs.Keys.{keyCount, keyWord, plusOne, minusOne}
+use Rattle.spelling.specs.Bytes.{bytes}
+use Rattle.keys.specs.Keys.{keyCount, plusOne, minusOne}
+use Rattle.keyed.specs.Keyed.{formsUp, keysUp}
 
 -- the words that no key has: a polarity that is one, and spare words that are +0
 unfoldable pub settled : List ℕ → Bool
 settled rec =
     (eqb (wordAt rec polarity) plusOne || eqb (wordAt rec polarity) minusOne)
     && (eqb (wordAt rec spare) 0 && eqb (wordAt rec (spare + 1)) 0)
-
--- whether a word has a form, and whether each of the first n has
-abbrev pub isForm : Form → Bool
-isForm (Number minus d q) = true
-isForm Nothing = false
-
-unfoldable pub formsUp : List ℕ → ℕ → Bool
-formsUp rec zero = true
-formsUp rec (suc n) = formsUp rec n && isForm (formOf (wordAt rec n))
-
--- a key with its number
-abbrev pub keyText : ℕ → ℕ → List ℕ
-keyText k w = space ∷ (keyWord k ++ (61 ∷ formText (formOf w)))
-
--- the first n of them
-unfoldable pub keysUp : List ℕ → ℕ → List ℕ
-keysUp rec zero = []
-keysUp rec (suc n) = keysUp rec n ++ keyText n (wordAt rec n)
 
 abbrev pub typeText : ℕ → List ℕ
 typeText p = cond (eqb p minusOne) (bytes " pnp") (bytes " npn")

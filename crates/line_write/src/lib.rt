@@ -2,19 +2,17 @@
 ghost use mathlib.Core.Path.{_≡_};
 ghost use mathlib.Core.Bool.{_||_};
 ghost use lib.Dec.{eqb};
-ghost use Prim.Native.Nat.{_<_, _≤_, _+_};
+ghost use Prim.Native.Nat.{_<_, _≤_};
 ghost use lib.ListN.{length, take};
 ghost use Rattle.name.specs.Name.{nameLength};
 ghost use Rattle.clip.specs.Record.{wordAt};
-ghost use Rattle.decimal.specs.Decimal.{powersOfTen};
 ghost use Rattle.decimal_write.specs.Added.{lineRoom, Added};
-ghost use Rattle.keys.specs.Keys.{keyCount, packedKeys, keyLengths, plusOne, minusOne};
+ghost use Rattle.keys.specs.Keys.{plusOne, minusOne};
 ghost use Rattle.line_write.specs.Text.{settled};
 ghost use Rattle.line_write.specs.Answers.{roomFor, Leaves, Writes};
-ghost use Rattle.line_write.specs.inner.Parts.{keyStart, headOf, PutKey, PutKeys, goodText};
-use decimal::Form;
+ghost use Rattle.line_write.specs.inner.Parts.{headOf, goodText};
 use decimal_write::LINE_ROOM;
-use keys::KEYS;
+use keyed::Put;
 use refusal::Refusal;
 
 // How writing went: so many bytes, or why not.
@@ -27,12 +25,6 @@ pub enum Written {
 const PLUS_ONE: u64 = 0x3ff0000000000000;
 
 const MINUS_ONE: u64 = 0xbff0000000000000;
-
-// Where a text ends that was put; or nothing, where a number has no form.
-pub enum Put {
-    To(usize),
-    Nothing,
-}
 
 // Word i of a record.
 fn word(rec: &[u8], i: usize) -> u64
@@ -62,81 +54,6 @@ fn is_settled(rec: &[u8]) -> bool
         }
     }
     false
-}
-
-// A space, a key and `=`: eight bytes at most.
-fn put_key(
-    packed: &[u64; KEYS],
-    lengths: &[usize; KEYS],
-    room: &mut [u8; LINE_ROOM],
-    at: usize,
-    k: usize,
-) -> usize
-    requires { ⌜ now packed ≡ packedKeys ⌝ }
-    requires { ⌜ now lengths ≡ keyLengths ⌝ }
-    requires { ⌜ length (now room) ≡ lineRoom ⌝ }
-    requires { ⌜ at + 8 ≤ lineRoom ⌝ }
-    requires { ⌜ k < keyCount ⌝ }
-    ensures { λ r. ⌜ (r ≤ at + 8) × Added (now (room .entry)) at (now (room .exit)) r (keyStart k) ⌝ }
-{
-    let spaced = decimal_write::put_bytes(room, at, b" ");
-    let letters = library::bytes(packed[k]);
-    let n = lengths[k];
-    let keyed = decimal_write::put_bytes(room, spaced, &letters[0..n]);
-    decimal_write::put_bytes(room, keyed, b"=")
-}
-
-// A key with its number: 28 bytes at most.
-fn put_keyed(
-    tens: &[f64; 23],
-    packed: &[u64; KEYS],
-    lengths: &[usize; KEYS],
-    room: &mut [u8; LINE_ROOM],
-    at: usize,
-    k: usize,
-    w: u64,
-) -> Put
-    requires { ⌜ now tens ≡ powersOfTen ⌝ }
-    requires { ⌜ now packed ≡ packedKeys ⌝ }
-    requires { ⌜ now lengths ≡ keyLengths ⌝ }
-    requires { ⌜ length (now room) ≡ lineRoom ⌝ }
-    requires { ⌜ at + 28 ≤ lineRoom ⌝ }
-    requires { ⌜ k < keyCount ⌝ }
-    ensures { λ r. ⌜ PutKey (now (room .entry)) at (now (room .exit)) k w r ⌝ }
-{
-    match shortest::form_of(tens, w) {
-        Form::Number(minus, d, q) => {
-            let next = put_key(packed, lengths, room, at, k);
-            Put::To(decimal_write::put_number(room, next, minus, d, q))
-        }
-        Form::Nothing => Put::Nothing,
-    }
-}
-
-// All keys of a record, after so many bytes.
-fn put_keys(rec: &[u8], room: &mut [u8; LINE_ROOM], from: usize) -> Put
-    requires { ⌜ length (now room) ≡ lineRoom ⌝ }
-    requires { ⌜ from ≤ 27 ⌝ }
-    ensures { λ r. ⌜ PutKeys (now (rec .entry)) (now (room .entry)) from (now (room .exit)) r ⌝ }
-{
-    let tens = decimal::tens();
-    let packed = keys::packed();
-    let lengths = keys::lengths();
-    let mut at = from;
-    let mut k = 0;
-    while k < KEYS {
-        let w = word(rec, k);
-        match put_keyed(&tens, &packed, &lengths, room, at, k, w) {
-            Put::To(next) => {
-                at = next;
-                k += 1;
-            }
-            Put::Nothing => {
-                return Put::Nothing;
-            }
-        }
-    }
-    Put::To(at)
 }
 
 // `.model`, the name and the type: 27 bytes at most.
@@ -177,7 +94,7 @@ fn write_good(name: &[u8], rec: &[u8], line: &mut [u8]) -> Written
     let sign = word(rec, clip::numbers::POLARITY);
     let mut room = [0u8; LINE_ROOM];
     let at = put_head(&mut room, name, sign);
-    match put_keys(rec, &mut room, at) {
+    match keyed::put_keys(rec, &mut room, at) {
         Put::To(n) => leave(&room, n, line),
         Put::Nothing => Written::Refused(Refusal::BadNumber),
     }

@@ -16,7 +16,7 @@ pub fn look_up(held: &[u32; CARDS], names: &[u8; ALL_NAMES], name: &[u8]) -> Ans
         return Answer::Refused(Refusal::BadName);
     }
     let asked = name::pad(name);
-    let n = places::highest(held, names, &asked);
+    let n = newest::highest(held, names, &asked);
     if n == 0 {
         return Answer::Refused(Refusal::NameNotHeld);
     }

@@ -26,7 +26,8 @@ use Rattle.copying.proofs.BytesWritten.{partFrom, partPut, then-part}
 use Rattle.library.proofs.Outcomes.{recordsPart, records-part}
 use Rattle.mending.specs.declared.Mending.{Mending}
 use Rattle.mending.specs.declared.Mending.the-variants.{Set, Refused}
-use Rattle.mending.specs.Mended.{icssEnd, mendedAll, signalling, recordsIn, mendedOf, countOf}
+use Rattle.signals.specs.Records.{icssEnd, mendedAll, signalling}
+use Rattle.mending.specs.Mended.{recordsIn, mendedOf, countOf}
 use Rattle.mending.specs.Answers.{verdictMended, mending, Mends}
 
 -- a record of either version has I_CSs

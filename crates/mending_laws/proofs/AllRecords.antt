@@ -11,8 +11,8 @@ use Rattle.clip.specs.Numbers as number
 use Rattle.clip.specs.Record.{wordAt}
 use Rattle.roll.specs.Directory.{cut}
 use Rattle.roll.proofs.Names.{cut-none, cut-more}
-use Rattle.mending.specs.Mended.{signals, icssEnd, cleared, mendedRecord, mendedAll, signalling}
-use Rattle.mending.proofs.Records.{length-mended}
+use Rattle.signals.specs.Records.{signals, icssEnd, cleared, mendedRecord, mendedAll, signalling}
+use Rattle.signals.proofs.Records.{length-mended}
 use Rattle.mending_laws.proofs.OneRecord.{other-words-stay, icss-becomes, mended-quiet, none-quiet}
 
 -- all have w bytes

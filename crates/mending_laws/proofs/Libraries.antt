@@ -17,7 +17,8 @@ use Rattle.directory.specs.Judged.{Sound, numbersOf}
 use Rattle.directory.proofs.Headers.{sized, known-width}
 use Rattle.directory.proofs.Verdicts.{SoundLibrary, SoundNames, library-yes, library-pass}
 use Rattle.finding.specs.Answers.{recordOf, handed}
-use Rattle.mending.specs.Mended.{signals, icssEnd, mendedRecord, mendedAll, signalling, recordsIn, mendedOf, countOf}
+use Rattle.signals.specs.Records.{signals, icssEnd, mendedRecord, mendedAll, signalling}
+use Rattle.mending.specs.Mended.{recordsIn, mendedOf, countOf}
 use Rattle.mending.proofs.Outcomes.{has-icss}
 use Rattle.mending_laws.proofs.OneRecord.{same-part}
 use Rattle.mending_laws.proofs.AllRecords.{AllLong, cut-long, cut-at, quiet-same, length-cut, cut-again}

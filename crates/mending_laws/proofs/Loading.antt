@@ -24,7 +24,8 @@ use Rattle.card.specs.Judge.{cardOf, judgeNumbers, judgeOf}
 use Rattle.card_laws.specs.laws.Tells.{judge-order}
 use Rattle.loading.proofs.Clipped.{each-finite, each-judged, in-both}
 use Rattle.directory.specs.Judged.{Sound}
-use Rattle.mending.specs.Mended.{signals, recordsIn, mendedOf}
+use Rattle.signals.specs.Records.{signals}
+use Rattle.mending.specs.Mended.{recordsIn, mendedOf}
 use Rattle.mending_laws.proofs.OneRecord.{zero-not-below}
 use Rattle.mending_laws.proofs.Libraries.{quiet-in}
 

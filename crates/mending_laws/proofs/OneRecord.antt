@@ -13,8 +13,8 @@ use Rattle.bytes_le.specs.Le.{le, wordBytes}
 use Rattle.clip.specs.Numbers as number
 use Rattle.clip.specs.Limits as limits
 use Rattle.clip.specs.Record.{wordAt}
-use Rattle.mending.specs.Mended.{signals, icssAt, icssEnd, cleared, mendedRecord}
-use Rattle.mending.proofs.Records.{front, front-end}
+use Rattle.signals.specs.Records.{signals, icssAt, icssEnd, cleared, mendedRecord}
+use Rattle.signals.proofs.Records.{front, front-end}
 
 -- a part of a list's first n elements is that part of the list
 pub part-of : (at w n : ℕ) (l : List ℕ) → at + w ≤ n → take w (drop at (take n l)) ≡ take w (drop at l)

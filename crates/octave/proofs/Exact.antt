@@ -6,7 +6,7 @@ use native.Mathlib.Nat.{mul-add-div-right, div-div-eq-div-mul, div-eq-of-lt-le, 
 use native.Mathlib.Nat.{mod-lt, mod-eq-of-lt}
 use native.Mathlib.Omega.{arith}
 use Rattle.whole.specs.Scale.{heldAt, stays-below}
-use Rattle.whole.specs.Quotient.{shiftedQuotient}
+use Rattle.quotients.specs.Quotient.{shiftedQuotient}
 use Rattle.volts.specs.Volts.{span}
 use Rattle.octave.specs.declared.Reciprocal.{Reciprocal}
 use Rattle.octave.specs.Table.{parts}

@@ -336,9 +336,9 @@ pub fn reciprocal_of(w: u64) -> Reciprocal
     requires { ⌜ InRange w ⌝ }
     ensures { λ r. ⌜ r ≡ reciprocalOf w ⌝ }
 {
-    let scale = whole::shifted_quotient(FINE << SCALE_FIRST, SCALE_THEN, w, u64::MAX);
+    let scale = quotients::shifted_quotient(FINE << SCALE_FIRST, SCALE_THEN, w, u64::MAX);
     let offset = w * (BIAS * PARTS) - SPAN * FINE;
-    let rest = whole::shifted_quotient(offset % w << REST_FIRST, REST_THEN, w, u64::MAX);
+    let rest = quotients::shifted_quotient(offset % w << REST_FIRST, REST_THEN, w, u64::MAX);
     Reciprocal {
         w: w as u32,
         high: (scale / HALF_SPAN) as u32,

@@ -9,7 +9,7 @@ use lib.IntN.{ℤ, pos, negsuc}
 use lib.Ieee.{ofBits, toBits, lt, eq, ne, le, whole, mul, div, sub, toUnsigned, toSigned, neg, size}
 use Rattle.refusal.specs.Order.{Verdict, yes}
 use Rattle.name.specs.Name.{asked, padded}
-use Rattle.whole.specs.Root.{rootBits, rootOf}
+use Rattle.roots.specs.Root.{rootBits, rootOf}
 use Rattle.volts.specs.Volts.{voltsMost}
 use Rattle.octave.specs.Table.{entries, entryOf}
 use Rattle.float.specs.declared.Split.{Split}

@@ -118,6 +118,18 @@ fn lift(b: Board, volts: &[i64; Board::NODES], totals: &mut [i64; Board::NODES],
     b.lift(volts, totals, n)
 }
 
+// The transistor lifted, and another placed at the same voltages.
+fn stand_again(b: Board, volts: &[i64; Board::NODES], totals: &mut [i64; Board::NODES])
+    requires { ⌜ Reached b ⌝ }
+{
+    let gone = lift(b, volts, totals, 2);
+    show_totals(gone.board, volts, totals, b"lifted", 0, 0, 0, 0);
+    let again = stand(gone.board, volts, totals);
+    let anew = again.answer;
+    shown::line(b"place again", b"", answer_number(anew), 3);
+    show_totals(again.board, volts, totals, b"again", -2048, 1024, 1024, 0);
+}
+
 fn run_board() {
     let mut volts = [0i64; Board::NODES];
     let mut totals = [0i64; Board::NODES];
@@ -129,12 +141,7 @@ fn run_board() {
     shown::line(b"place", b"", answer_number(placed), 2);
     let one = move_node(first.board, &mut volts, &mut totals, 1, 16000);
     let two = move_node(one.board, &mut volts, &mut totals, 2, 16000);
-    let gone = lift(two.board, &volts, &mut totals, 2);
-    show_totals(gone.board, &volts, &totals, b"lifted", 0, 0, 0, 0);
-    let again = stand(gone.board, &volts, &mut totals);
-    let anew = again.answer;
-    shown::line(b"place again", b"", answer_number(anew), 3);
-    show_totals(again.board, &volts, &totals, b"again", -2048, 1024, 1024, 0);
+    stand_again(two.board, &volts, &mut totals);
 }
 
 // A board with two of the paper's transistors, the base of each on the other's emitter, and 2 V at their collectors.
@@ -253,11 +260,8 @@ fn position() -> i64 {
     whole::difference(octave::place(u, o), octave::BIAS * octave::PARTS)
 }
 
-fn main() {
-    run_table();
-    shown::line(b"position at -1 uV", b"", position(), -5);
-    shown::line(b"branch 5 at 0 uV", b"", fifth(records::five(), 0), 0);
-    shown::line(b"sN = 8 A at 0 uV", b"", refusal_at(records::eight(), 0), 0);
+// Two clipped records, and the ends of what a voltage and an octave may be.
+fn run_ends() {
     shown::line(b"XI_B1 = 1 mask", b"", mask_of(records::xi_one()), 0);
     shown::line(b"I_s = -0 mask", b"", mask_of(records::is_minus_zero()), 0);
     shown::line(b"2500000 uV", b"", refusal_at(records::none(), 2500000), 0);
@@ -268,6 +272,14 @@ fn main() {
         refusal_at(records::low_octave(), 0),
         9,
     );
+}
+
+fn main() {
+    run_table();
+    shown::line(b"position at -1 uV", b"", position(), -5);
+    shown::line(b"branch 5 at 0 uV", b"", fifth(records::five(), 0), 0);
+    shown::line(b"sN = 8 A at 0 uV", b"", refusal_at(records::eight(), 0), 0);
+    run_ends();
     run_board();
     run_stage();
     run_lists();

@@ -8,9 +8,9 @@ use native.Mathlib.Nat.{zero-add}
 use native.Mathlib.Numerals.{add-one}
 use native.Mathlib.Omega.{arith}
 use lib.Dec.{ltb}
-use lib.ListN.{length, take, getD, drop, length-drop, drop-of-length-le}
-use lib.Seq.{drop-cons, ext-getD, getD-take, getD-drop, length-take-le}
-use borrow.Author.Tests.{ltb-false, lt-ltb}
+use lib.ListN.{length, getD, drop, drop-of-length-le}
+use lib.Seq.{drop-cons, ext-getD}
+use borrow.Author.Tests.{ltb-false}
 use Rattle.refusal.specs.Clash.{clash}
 use Rattle.rows.specs.laws.Filled.{Filled}
 use Rattle.deck.specs.Stretch.{stretch}
@@ -100,10 +100,6 @@ place-is most i h = go (ltb i most) refl
 pub below-at : (n i : ℕ) → i < n → getD (below n) i 0 ≡ i
 below-at n i h = getD-up (λ (j : ℕ). j) n 0 i 0 h ∙ zero-add i
 
-pub none-larger : (n : ℕ) → n ≡ larger 0 n
-none-larger zero = refl
-none-larger (suc n) = rw (lt-ltb 0 (suc n) (omega arith))
-
 -- the largest from place i - 1 on, by that from i on
 pub largest-more : (l : List ℕ) (i : ℕ) → 0 < i → i ≤ length l →
     largest (drop (i - 1) l) ≡ larger (getD l (i - 1) 0) (largest (drop i l))
@@ -114,16 +110,6 @@ largest-more l (suc i) z h = let e : suc i - 1 ≡ i = omega arith in rw (e, dro
 pub largest-none : (l : List ℕ) (i : ℕ) → length l ≤ i → 0 ≡ largest (drop i l)
 unfolding largest
 largest-none l i h = rw (drop-of-length-le l h)
-
--- a part of a list is a stretch of it
-pub part-stretch : {A : Type 0} (d : A) (l : List A) (at n : ℕ) → at + n ≤ length l →
-    take n (drop at l) ≡ stretch d l at n
-part-stretch d l at n h =
-    let room : n ≤ length (drop at l) = rw length-drop (omega arith) in
-    let long = length-take-le n (drop at l) room in
-    ext-getD d (take n (drop at l)) (stretch d l at n) (long ∙ sym (length-stretch d l at n))
-    (λ j q. getD-take n (drop at l) j d (omega arith) ∙ getD-drop at l j d
-    ∙ sym (getD-stretch d l at n j (omega arith)))
 
 -- a list filled from its start with a stretch of another
 pub filled-stretch : {A : Type 0} {d : A} (l : List A) (at : ℕ) {n k : ℕ} {r : List A} → n ≤ k →

@@ -6,8 +6,6 @@ pub use finds::any_on;
 pub use finds::card_at;
 pub use finds::find_card;
 pub use finds::find_transistor;
-pub use finds::highest;
-pub use finds::larger_of;
 pub use finds::transistor_at;
 use terms::BRANCHES;
 use terms::ROLES;

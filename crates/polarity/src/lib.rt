@@ -54,7 +54,7 @@ pub fn work_out(t: &Table, r: Ready, v: &[u32; ROLES]) -> Outcome
     let c = r.card;
     let own = *v;
     let seen = turn_volts(c.pnp, own);
-    let o = rows::work_out(t, r, &seen);
+    let o = outcome::work_out(t, r, &seen);
     let over = o.over;
     let given = o.ticks;
     let ticks = turn_ticks(c.pnp, given);

@@ -8,7 +8,7 @@ use lib.Dec.{eqb, ltb, lit<}
 use lib.IntN.{pos, negsuc, negℤ, natAbs, subℕ}
 use borrow.Author.Tests.{eqb-true, eqb-false, ne-eqb, le-ltb, ltb-true, ltb-false}
 use Rattle.refusal.specs.Clash.{clash}
-use Rattle.whole.specs.Quotient.{shiftedQuotient, quotient-up, quotient-down}
+use Rattle.quotients.specs.Quotient.{shiftedQuotient, quotient-up, quotient-down}
 use Rattle.whole.specs.laws.Biased.{sub-up, sub-down}
 use Rattle.scaling.specs.Scaled.{partPlaces, tickLimit}
 use Rattle.scaling.specs.inner.Shifts.{UpTo}

@@ -4,7 +4,7 @@ use mathlib.Core.Bool.{Bool, _||_}
 use Prim.Native.Nat.{ℕ, _+_, _*_, _-_, _/_, _^_}
 use lib.Dec.{eqb, ltb}
 use lib.IntN.{ℤ, pos, natAbs, _+ℤ_}
-use Rattle.whole.specs.Quotient.{quotientOf}
+use Rattle.quotients.specs.Quotient.{quotientOf}
 use Rattle.octave.specs.Table.{places}
 use Rattle.octave.specs.Exponential.{bias}
 use Rattle.scaling.specs.Scaled.{Scaled, partPlaces, tickLimit}

@@ -79,10 +79,10 @@ pub fn over_sum(plus: u64, minus: u64, sum: u64) -> Pair
         return over;
     }
     if plus < minus {
-        let q = whole::shifted_quotient(minus - plus, PART_PLACES, sum, TICKS_OVER);
+        let q = quotients::shifted_quotient(minus - plus, PART_PLACES, sum, TICKS_OVER);
         Pair { plus: 0, minus: q }
     } else {
-        let q = whole::shifted_quotient(plus - minus, PART_PLACES, sum, TICKS_OVER);
+        let q = quotients::shifted_quotient(plus - minus, PART_PLACES, sum, TICKS_OVER);
         Pair { plus: q, minus: 0 }
     }
 }

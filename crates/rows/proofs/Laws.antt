@@ -10,7 +10,7 @@ use lib.Dec.{eqb, ltb}
 use lib.IntN.{ℤ, pos, natAbs, subℕ}
 use borrow.Author.Tests.{ltb-false}
 use Rattle.reverse.specs.Sum.{sumLimit, overSum, sumOver}
-use Rattle.whole.specs.Quotient.{quotient-small}
+use Rattle.quotients.specs.Quotient.{quotient-small}
 use Rattle.card.specs.declared.WorkedCard.{WorkedCard}
 use Rattle.card.specs.inner.Worked.{Each}
 use Rattle.terms.specs.Rows.{Role, Summand, unit, root, Divisor, undivided, sumOf, exps, Row, rowsFor}

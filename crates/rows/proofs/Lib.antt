@@ -1,5 +1,4 @@
+-- Laws over plain values that the proofs of functions and other crates cite.
 pub mod Tests
 pub mod Roots
-pub mod RowLaws
-pub mod Loops
 pub mod Laws

@@ -6,8 +6,8 @@ use native.Mathlib.Nat.{mul-le-mul, zero-div, le-trans}
 use native.Mathlib.Omega.{arith}
 use lib.IntN.{pos, negsuc, natAbs, subℕ}
 use Rattle.whole.specs.laws.Biased.{below-or-not, sub-up, sub-down, turned}
-use Rattle.whole.specs.Root.{IsRoot, rootOf, rootBits, root-is}
-use Rattle.whole.specs.Quotient.{quotientOf, quotient-up, quotient-down, quotient-small, heldSize, held-size-small}
+use Rattle.roots.specs.Root.{IsRoot, rootOf, rootBits, root-is}
+use Rattle.quotients.specs.Quotient.{quotientOf, quotient-up, quotient-down, quotient-small, heldSize, held-size-small}
 use Rattle.rows.specs.Ticks.{rootFor}
 use Rattle.rows.specs.Outcome.{tickLimit, ratioLimit}
 use Rattle.rows.specs.inner.FromTerms.{dividedOf}

@@ -1,8 +1,8 @@
 -- The ticks of a row: the difference of its two T's, over its divisor where it has one.
 use Prim.Native.Nat.{ℕ, suc, _+_, _*_, _^_}
 use lib.IntN.{ℤ, subℕ}
-use Rattle.whole.specs.Root.{rootOf}
-use Rattle.whole.specs.Quotient.{quotientOf}
+use Rattle.roots.specs.Root.{rootOf}
+use Rattle.quotients.specs.Quotient.{quotientOf}
 use Rattle.card.specs.declared.WorkedCard.{WorkedCard}
 use Rattle.terms.specs.Rows.{Role, Summand, unit, root, Divisor, undivided, sumOf, exps, Row}
 use Rattle.scaling.specs.Scaled.{partPlaces}

@@ -38,7 +38,7 @@ const ALONE: u64 = float::BIAS as u64 + TICK_PLACES;
 pub fn alone(x: Split) -> u64
     ensures { λ r. ⌜ r ≡ aloneOf x ⌝ }
 {
-    whole::floor_scale(x.a as u64, ALONE, x.down as u64, TICKS_OVER)
+    quotients::floor_scale(x.a as u64, ALONE, x.down as u64, TICKS_OVER)
 }
 
 // T of a conductance times so many microvolts, held likewise.
@@ -46,7 +46,7 @@ pub fn through(x: Split, microvolts: u64) -> u64
     requires { ⌜ Drop x microvolts ⌝ }
     ensures { λ r. ⌜ r ≡ throughOf x microvolts ⌝ }
 {
-    whole::floor_scale((x.a as u64) * microvolts, ALONE, x.down as u64, TICKS_OVER)
+    quotients::floor_scale((x.a as u64) * microvolts, ALONE, x.down as u64, TICKS_OVER)
 }
 
 // A value times an exponential: in ticks, or with `more` binary places fewer.

@@ -20,6 +20,7 @@ use Rattle.given.specs.Arguments.{issueOf, issuesMost, usedUp, wideBy}
 use Rattle.given.specs.inner.Nodes.{nodeOf}
 use Rattle.deck.specs.Stretch.{written}
 use Rattle.slices.specs.Slices.{offSlices, changed, StandsIn}
+use Rattle.small.specs.inner.Small.{Near}
 use Rattle.placing.specs.declared.Way.{Way}
 use Rattle.placing.specs.declared.Way.the-variants.{Go, Stop}
 use Rattle.placing.specs.inner.Placing.{placing, wayOf}
@@ -27,6 +28,7 @@ use Rattle.places.specs.Naming.{joined}
 use Rattle.places.specs.inner.Flat.{freePlace, numberPlace, tiesAt, wideAt}
 use Rattle.places.specs.inner.Parts.{Entering}
 use Rattle.flows.specs.inner.Workable.{deckOf, Workable, Works, cardOf}
+use Rattle.settle.proofs.Alone.{none-small, one-small}
 use Rattle.model.specs.Board.{Board}
 use Rattle.model.specs.declared.Answer.{Answer}
 use Rattle.model.specs.declared.Answer.the-variants.{Issue, Refused}
@@ -157,6 +159,9 @@ module _ {r : Rest} {numbers powers ticks : List ℕ} {switches : List Bool}
 
           module _ (h : isOver (o .over) ≡ false) {coming : List ℤ}
               (more : More nodesMost none coming (ticksGive on (o .ticks))) where
+            pub lent-near : Near coming none
+            lent-near = record { coming-small = one-small on more (lent-gives .0 .within); going-small = none-small }
+
             stands : changed totals coming none ≡ placedOf (boardIn found) card given .board .totals
             stands = place-stands (boardIn found) g card given seen-is long on-are way-is e own-works h more
 

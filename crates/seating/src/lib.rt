@@ -55,7 +55,7 @@ pub fn place(
             let mut coming = [0i64; NODES];
             settle::put_in(&mut coming, &on, &own);
             let going = [0i64; NODES];
-            if !standing::stand_in(totals, &coming, &going) {
+            if !standing::stand_in(totals, &coming, &going, true) {
                 return Answer::Refused(Refusal::OutOfReach);
             }
             issues[free] = issue;

@@ -5,7 +5,7 @@ use mathlib.Core.Bool.{Bool, true, false, cond, not}
 use mathlib.Core.Logic.{_⊎_, inl, inr}
 use mathlib.Core.List.{List, map}
 use Prim.Native.Nat.{ℕ, zero, suc, _+_, _-_, _*_, _%_, _^_, _≤_, _<_, zero-le}
-use native.Mathlib.Nat.{suc-mul, mul-le-mul-right, zero-div}
+use native.Mathlib.Nat.{suc-mul, mul-le-mul-right, lt-of-lt-of-le, zero-lt-suc, pow-le-pow-right, div-eq-of-lt, zero-div}
 use native.Mathlib.Numerals.{add-one}
 use native.Mathlib.Omega.{arith}
 use lib.Dec.{eqb}
@@ -30,6 +30,7 @@ use Rattle.deck.specs.laws.Stretches.{length-stretch, getD-none}
 use Rattle.deck.specs.laws.Ups.{up-same}
 use Rattle.slices.specs.Slices.{someOutside, changed, StandsIn}
 use Rattle.slices.proofs.Passing.{more-long}
+use Rattle.small.specs.inner.Small.{smallMost, EachSmall, Near}
 use Rattle.flows.specs.Back.{ticksBack}
 use Rattle.flows.specs.inner.Workable.{Workable, Works, cardOf}
 use Rattle.flows.proofs.Currents.{ticks-within, ticks-count, ticks-small-give}
@@ -42,7 +43,8 @@ use Rattle.settle.specs.Change.{changeBy, changes}
 use Rattle.settle.specs.First.{earlier, firstBelow, nobody}
 use Rattle.settle.specs.Renewed.{renewed}
 use Rattle.settle.specs.inner.Working.{cardAt, nodesAt, heldAt, Round, gained, newAt, firstSo, heldFrom}
-use Rattle.settle.specs.inner.Working.{given, Sums, standing, isTaken, Settling, Gone, Going, Settled}
+use Rattle.settle.specs.inner.Working.{given, Sums, fewPlaces, standing, isTaken, Settling, Gone}
+use Rattle.settle.specs.inner.Working.{Going, Settled}
 use Rattle.settle.specs.laws.Renewals.{renewed-past}
 
 -- ---- sums and firsts over places that are passed over
@@ -134,6 +136,23 @@ module _ (r : Round) (each : ℕ → List ℤ) where
             let a = given-small k n h in
             let m = mul-le-mul-right flowMost h in rw (s .at n b) (omega arith)
         go n (inr b) = rw (List·getD-eq-default l (pos 0) {n = n} (rw (s .long) b)) zero-le
+
+    -- and what the first few can give is small
+    sums-few : r .marked < 2 ^ fewPlaces → {l : List ℤ} → Sums r each transistorsMost l → EachSmall l
+    unfolding given
+    sums-few h {l} s = record { each = λ n b. record { size = go n b } }
+      where
+        none : (j : ℕ) → fewPlaces ≤ j → member (r .marked) j ≡ false
+        none j p =
+            ap (λ (x : ℕ). eqb (x % 2) 1) (div-eq-of-lt (lt-of-lt-of-le h (pow-le-pow-right (zero-lt-suc 1) p)))
+
+        same : (n : ℕ) → given r each transistorsMost n ≡ given r each fewPlaces n
+        same n =
+            sum-past _ fewPlaces (transistorsMost - fewPlaces)
+            (λ j p q. ap (λ (t : Bool). cond t (ticksGive (nodesAt (r .nodes) j) (each j) n) (pos 0)) (none j p))
+
+        go : (n : ℕ) → n < nodesMost → natAbs (getD l n (pos 0)) ≤ smallMost
+        go n b = let a = given-small fewPlaces n (omega arith) in rw (s .at n b ∙ same n) (omega arith)
 
 module _ (r : Round) (currents : List ℤ) where
   -- what comes in less what goes out is what is gained, at one place and over all of them
@@ -288,6 +307,14 @@ module _ (r : Round) (currents : List ℤ) where
       (h : transistorsMost ≤ i) where
     last : i ≡ transistorsMost
     last = let m = g .most in omega arith
+
+    -- of the first few places what comes and what goes is small
+    pub gone-near : {totals : List ℤ} → Settling r currents totals → r .marked < 2 ^ fewPlaces → Near coming going
+    gone-near s f =
+        record {
+          coming-small = sums-few r (newAt r) (λ j q m. ticks-within _ _ _) f (rw last at (g .comes));
+          going-small = sums-few r (heldAt currents) (s .small) f (rw last at (g .goes));
+        }
 
     -- somebody overloads: nothing more is judged
     pub gone-over : isOver (first .over) ≡ true → {totals : List ℤ} →

@@ -22,6 +22,9 @@ use settle::Judgement;
 use terms::ROLES;
 use totals::NODES;
 
+// A set below this one has none but the first sixteen places, which give so little that all of it is small.
+const FEW: u64 = 65536;
+
 // What is held at the place i goes out at its nodes. Apart, so that a copy of it is not kept while later places are worked.
 fn put_out(going: &mut [i64; NODES], on: &[u8; ROLES], currents: &[i64; ALL_CURRENTS], i: usize)
     requires { ⌜ (i < transistorsMost)
@@ -67,7 +70,7 @@ fn settle_from(
         if settle::is_over(over) {
             return Judgement { first, fits: false };
         }
-        let fits = standing::stand_in(totals, coming, going);
+        let fits = standing::stand_in(totals, coming, going, set < FEW);
         return Judgement { first, fits };
     }
     let s = seats[i] as usize;

@@ -1,5 +1,4 @@
 -- Laws over plain values that the proofs of functions cite.
-pub mod Bounds
 pub mod Powers
 pub mod Forms
 pub mod OnlyOne

@@ -8,7 +8,8 @@ use native.Mathlib.Nat.{eq-or-lt-of-le}
 use native.Mathlib.Omega.{arith}
 use lib.Dec.{T, ltb, ltb→lt, nltb→le}
 use Rattle.decimal.specs.Decimal.{digitsEnd, powersEnd, sizeBits}
-use Rattle.shortest.specs.inner.Search.{Reads, FirstTo, Smallest, NoneAbove}
+use Rattle.reaching.specs.FirstTo.{FirstTo}
+use Rattle.shortest.specs.inner.Search.{Reads, Smallest, NoneAbove}
 use Rattle.decimal.proofs.Order.{size-mono, size-rise, size-zero}
 
 pub less-or-not : (a b : ℕ) → (a < b) ⊎ (b ≤ a)

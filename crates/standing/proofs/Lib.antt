@@ -1,1 +1,1 @@
-pub mod Small
+mod Small

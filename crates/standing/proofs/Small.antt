@@ -1,80 +1,30 @@
--- What tells small numbers, and what three of them are together.
+-- What three small numbers are together.
 use mathlib.Core.Path.{_≡_, sym, ap, ap₂, subst, _∙_}
 use mathlib.Core.Bool.{Bool, false, _||_}
 use mathlib.Core.List.{List}
-use mathlib.Core.Logic.{_⊎_, inl, inr}
-use Prim.Native.Nat.{ℕ, _+_, _*_, _-_, _%_, _^_, _≤_, _<_}
+use Prim.Native.Nat.{ℕ, _*_, _-_, _≤_, _<_}
 use native.Mathlib.Omega.{arith}
-use lib.Bits.{bitOr, or-add-and, and-le-l, and-le-r}
 use lib.ListN.{getD}
 use lib.IntN.{ℤ, pos, negsuc, natAbs, negℤ, _+ℤ_, _-ℤ_}
 use mir.Syntax.{w64}
 use mir.Val.{SFits}
 use borrow.Author.Tests.{lt-leb, le-ltb}
 use Rattle.whole.specs.Signed.{signedSpan}
-use Rattle.whole.specs.laws.Biased.{below-or-not}
 use Rattle.whole.specs.laws.Machine.{abs-neg, held, fits, held-is}
 use Rattle.totals.specs.Gives.{nodesMost}
 use Rattle.totals.proofs.Integers.{abs-add}
 use Rattle.slices.specs.Slices.{outside64}
-use Rattle.standing.specs.inner.Small.{smallMost, Small, SmallNode, AllSmall}
+use Rattle.small.specs.inner.Small.{smallMost, Small, SmallNode, AllSmall}
 
--- ---- a number raised around the end of 64 bits
-
-pub small-below : {v : ℤ} {n r : ℕ} → negsuc n ≡ v → n < signedSpan → (r + n) % 2 ^ 64 ≡ smallMost - 1 →
-    r < 2 * smallMost → Small v
-small-below e h m l = subst Small e (record { size = omega arith })
-
-pub small-above : {v : ℤ} {n : ℕ} → pos n ≡ v → smallMost + n < 2 * smallMost → Small v
-small-above e l = subst Small e (record { size = omega arith })
-
--- ---- the digits of the numbers of the first k nodes
-
-pub record SmallTo (totals coming going : List ℤ) (digits k : ℕ) : Type 0 where
-  pub each : digits < 2 * smallMost → (i : ℕ) → i < k →
-      SmallNode (getD totals i (pos 0)) (getD coming i (pos 0)) (getD going i (pos 0))
-
-below-or : (a b : ℕ) {m : ℕ} → bitOr a b < m → (a < m) × (b < m)
-below-or a b h =
-    let e = or-add-and a b in
-    let l = and-le-l a b in
-    let r = and-le-r a b in
-    (omega arith, omega arith)
-
-module _ {totals coming going : List ℤ} where
-  pub small-none : {digits : ℕ} → SmallTo totals coming going digits 0
-  small-none = record { each = λ l i q. absurd (omega arith) }
-
-  pub small-more : {digits k a b c : ℕ} {x y z : ℤ} →
-      x ≡ getD totals k (pos 0) → (a < 2 * smallMost → Small x) →
-      y ≡ getD coming k (pos 0) → (b < 2 * smallMost → Small y) →
-      z ≡ getD going k (pos 0) → (c < 2 * smallMost → Small z) →
-      SmallTo totals coming going digits k →
-      SmallTo totals coming going (bitOr (bitOr (bitOr digits a) b) c) (k + 1)
-  small-more {digits} {k} {a} {b} {c} p f q g r h s = record { each = λ l i m. go l i m (below-or-not i k) }
-    where
-      go : bitOr (bitOr (bitOr digits a) b) c < 2 * smallMost → (i : ℕ) → i < k + 1 → (i < k) ⊎ (k ≤ i) →
-          SmallNode (getD totals i (pos 0)) (getD coming i (pos 0)) (getD going i (pos 0))
-      go l i m o =
-          let u = below-or (bitOr (bitOr digits a) b) c l in
-          let v = below-or (bitOr digits a) b (u .0) in
-          let w = below-or digits a (v .0) in
-          elim o [
-            | inl n ↦ s .each (w .0) i n
-            | inr n ↦
-                let same : i ≡ k = omega arith in
-                rw same (record {
-                  total-small = subst Small p (f (w .1));
-                  coming-small = subst Small q (g (v .1));
-                  going-small = subst Small r (h (u .1));
-                })
-          ]
-
-  pub small-all : {digits k : ℕ} → nodesMost ≤ k → digits < 2 * smallMost → SmallTo totals coming going digits k →
-      AllSmall totals coming going
-  small-all h l s = record { each = λ i q. s .each l i (omega arith) }
-
--- ---- a total with what comes in and less what goes out
+-- those of a node, of all that are small
+pub node-small : {totals coming going : List ℤ} → AllSmall totals coming going → (k : ℕ) → k < nodesMost →
+    SmallNode (getD totals k (pos 0)) (getD coming k (pos 0)) (getD going k (pos 0))
+node-small s k h =
+    record {
+      total-small = s .totals-small .each k h;
+      coming-small = s .near .coming-small .each k h;
+      going-small = s .near .going-small .each k h;
+    }
 
 inside : (z : ℤ) → natAbs z < signedSpan → outside64 z ≡ false
 inside (pos n) h = ap (λ (t : Bool). t || false) (lt-leb signedSpan n h)

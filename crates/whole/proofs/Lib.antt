@@ -1,6 +1,3 @@
 -- Laws over plain numbers, on which the functions' proofs rest.
 pub mod Halves
 pub mod Shifts
-pub mod Bits
-pub mod Judged
-pub mod Parts

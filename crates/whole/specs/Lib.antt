@@ -1,7 +1,5 @@
--- Signed numbers, floors, powers of two, roots and quotients; `laws` has what follows from them.
+-- Signed numbers, floors and powers of two; `laws` has what follows from them.
 pub mod Signed
 pub mod Floor
 pub mod Scale
-pub mod Root
-pub mod Quotient
 pub mod laws

@@ -16,7 +16,8 @@ use Rattle.places.specs.inner.Parts.{placeOr}
 use Rattle.places.specs.inner.Flat.{numberPlace}
 use Rattle.places.specs.laws.Founds.{is-there}
 use Rattle.model.specs.Counts.{nodesMost, transistorsMost}
-use Rattle.lifting.proofs.Lent.{lift-off, lift-none, lift-puts, lift-parts, lift-leaves-64, lift-done}
+use Rattle.lifting.proofs.Lent.{lift-off, lift-none, lift-puts, lift-parts, lift-near, lift-leaves-64}
+use Rattle.lifting.proofs.Lent.{lift-done}
 use Rattle.lifting.proofs.lift.Statement.{statement}
 use Rattle.lifting.proofs.lift.Tie as tie
 
@@ -104,7 +105,16 @@ totals-are c =
     let s = start (t .before) in totals-long (s .args .volts .now) (s .args .totals .now) (good t)
 
 stand-in-requires : tie.Need-stand-in-requires
-stand-in-requires c κs = totals-are (c .before .before .before .before)
+stand-in-requires c κs =
+    let u = c .before .before .before in
+    let o = u .before in
+    let t = tested (found o .before) in
+    let s = start (t .before) in
+    let p = s .pre in (
+      totals-are o,
+      λ e. lift-near (p .2) (p .1) (s .args .volts .now) (s .args .totals .now) (s .args .transistor) (good t) _
+          (there (found o)) (noted o .nodes-at .ensures) (read o .currents-at .ensures) (u .put-in .ensures),
+    )
 
 -- as many totals as before
 same : (c : tie.After-stand-in) →

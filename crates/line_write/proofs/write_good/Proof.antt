@@ -1,7 +1,7 @@
 -- Numbers that all have a form, and one that has none.
 use native.Mathlib.Omega.{arith}
 use borrow.Author.Needs.{needs}
-use Rattle.line_write.specs.inner.Parts.{KeysPut}
+use Rattle.keyed.specs.inner.Parts.{KeysPut}
 use Rattle.keys.specs.Keys.{keyCount}
 use Rattle.line_write.proofs.Lines.{refused-leaves, same-verdict, good-text, good-refused, whole-line}
 use Rattle.line_write.proofs.write_good.Statement.{statement}

@@ -1,44 +1,17 @@
--- A line as it is put together: a key, a key with its number, all of them, and the line of a good card.
-use mathlib.Core.Path.{_≡_}
-use mathlib.Core.Bool.{true, false, not}
-use mathlib.Core.List.{List, [], _∷_, _++_}
-use Prim.Native.Nat.{ℕ, _+_, _*_, _≤_}
+-- A line as it is put together: its head, and the line of a good card.
+use mathlib.Core.Bool.{not}
+use mathlib.Core.List.{List, _++_}
+use Prim.Native.Nat.{ℕ}
 use Rattle.refusal.specs.declared.Refusal.the-variants.{BadNumber}
 use Rattle.refusal.specs.Order.{Verdict, yes, refuseIf, andThen}
-use Rattle.spelling.specs.Bytes.{bytes, space}
-use Rattle.shortest.specs.Form.{formOf}
-use Rattle.decimal_write.specs.Added.{Added}
-use Rattle.keys.specs.Keys.{keyCount, keyWord}
-use Rattle.line_write.specs.declared.Put.{Put}
-use Rattle.line_write.specs.declared.Put.the-variants.{To, Nothing}
-use Rattle.line_write.specs.Text.{isForm, formsUp, keyText, keysUp, typeText, lineText}
+use Rattle.spelling.specs.Bytes.{bytes}
+use Rattle.keys.specs.Keys.{keyCount}
+use Rattle.keyed.specs.Keyed.{formsUp}
+use Rattle.line_write.specs.Text.{typeText, lineText}
 use Rattle.line_write.specs.Answers.{roomFor}
-
-abbrev pub keyStart : ℕ → List ℕ
-keyStart k = space ∷ (keyWord k ++ (61 ∷ []))
 
 abbrev pub headOf : List ℕ → ℕ → List ℕ
 headOf name sign = bytes ".model " ++ (name ++ typeText sign)
-
--- the key k with the word w was put, up to a place
-pub record KeyPut (old : List ℕ) (at : ℕ) (new : List ℕ) (k w to : ℕ) : Type 0 where
-  pub most : to ≤ at + 28
-  pub added : Added old at new to (keyText k w)
-  pub form : isForm (formOf w) ≡ true
-
-abbrev pub PutKey : List ℕ → ℕ → List ℕ → ℕ → ℕ → Put → Type 0
-PutKey old at new k w (To to) = KeyPut old at new k w to
-PutKey old at new k w Nothing = isForm (formOf w) ≡ false
-
--- the first n keys were
-pub record KeysPut (rec old : List ℕ) (from : ℕ) (new : List ℕ) (n to : ℕ) : Type 0 where
-  pub most : to ≤ from + n * 28
-  pub added : Added old from new to (keysUp rec n)
-  pub forms : formsUp rec n ≡ true
-
-abbrev pub PutKeys : List ℕ → List ℕ → ℕ → List ℕ → Put → Type 0
-PutKeys rec old from new (To to) = KeysPut rec old from new keyCount to
-PutKeys rec old from new Nothing = formsUp rec keyCount ≡ false
 
 -- a card of which nothing but a number without a form can be wrong
 abbrev pub goodText : List ℕ → List ℕ → List ℕ → Verdict (List ℕ)

@@ -5,7 +5,7 @@ use Prim.Native.Nat.{ℕ, suc, _-_, _^_, _<_}
 use lib.Dec.{eqb, ltb}
 use lib.IntN.{subℕ}
 use Rattle.whole.specs.Scale.{heldAt}
-use Rattle.whole.specs.Quotient.{shiftedQuotient}
+use Rattle.quotients.specs.Quotient.{shiftedQuotient}
 use Rattle.scaling.specs.Scaled.{partPlaces, tickLimit}
 use Rattle.reverse.specs.declared.Pair.{Pair}
 use Rattle.reverse.specs.Sum.{sumLimit, overSum, sumOver}

@@ -3,7 +3,7 @@ use mathlib.Core.List.{List, [], _∷_}
 use Prim.Native.Nat.{ℕ, zero, suc, _+_, _≤_, _<_}
 use lib.ListN.{getD}
 use lib.IntN.{ℤ, subℕ}
-use Rattle.whole.specs.Quotient.{quotientOf}
+use Rattle.quotients.specs.Quotient.{quotientOf}
 use Rattle.terms.specs.declared.Terms.{Terms}
 use Rattle.terms.specs.Rows.{branches}
 use Rattle.scaling.specs.Scaled.{tickLimit, ratioLimit}

@@ -23,7 +23,7 @@ use Rattle.places.specs.inner.Flat.{freePlace, numberPlace, tiesAt, wideAt}
 use Rattle.placing.specs.inner.Placing.{placing, wayOf}
 use Rattle.model.specs.Counts.{nodesMost, cardsMost, transistorsMost}
 use Rattle.seating.proofs.Lent.{lent-off, lent-stops, lent-free, lent-number, lent-card, lent-enters, lent-works}
-use Rattle.seating.proofs.Lent.{lent-gives, lent-over, lent-leaves-64, lent-places}
+use Rattle.seating.proofs.Lent.{lent-gives, lent-over, lent-near, lent-leaves-64, lent-places}
 use Rattle.seating.proofs.place.Statement.{statement}
 use Rattle.seating.proofs.place.Tie as tie
 
@@ -181,7 +181,19 @@ totals-are c =
     let s = start (e .before) in totals-long (s .args .volts .now) (s .args .totals .now) (good e)
 
 stand-in-requires : tie.Need-stand-in-requires
-stand-in-requires c κs = totals-are (c .before .before .before)
+stand-in-requires c κs =
+    let u = c .before .before .before in
+    let e = within u in
+    let w = worked (e .before) in
+    let k = known w in
+    let m = went k in
+    let s = begun m in
+    let p = s .pre in (
+      totals-are u,
+      λ f. lent-near (p .2) (p .1) (s .args .volts .now) (s .args .totals .now) (s .args .card) (s .args .roles)
+          (good (tested m)) (seen-is m) (long m) (asked m .nodes-of .ensures) (way-is m) (k .before .way2 .given .1)
+          (kept-are m) (w .work .ensures) (sym (e .before .is-over .ensures) ∙ e .if2 .left) (u .put-in .ensures),
+    )
 
 -- as many totals as before
 same : (c : tie.After-stand-in) → let m = went (known (worked (within (put c) .before))) in

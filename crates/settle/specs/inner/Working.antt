@@ -80,6 +80,10 @@ pub record Sums (r : Round) (each : ℕ → List ℤ) (k : ℕ) (l : List ℤ) :
   pub long : length l ≡ nodesMost
   pub at : (n : ℕ) → n < nodesMost → getD l n (pos 0) ≡ given r each k n
 
+-- so few places, the first of all, that what they give is small beside 64 bits
+abbrev pub fewPlaces : ℕ
+fewPlaces = 16
+
 -- the totals as they would stand
 abbrev pub standing : Round → List ℤ → List ℤ → List ℤ
 standing r currents totals = withMore totals (gained r currents transistorsMost)

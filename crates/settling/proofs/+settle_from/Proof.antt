@@ -5,6 +5,7 @@ use Prim.Native.Nat.{ℕ, _-_, _<_}
 use native.Mathlib.Omega.{arith}
 use lib.ListN.{length}
 use borrow.Author.Needs.{needs}
+use borrow.Author.Tests.{ltb-true}
 use borrow.Fn.Kinds.{In}
 use borrow.Fn.PlainCycle.{Measures, is, falls, and}
 use Rattle.slices.proofs.Passing.{in-long}
@@ -23,7 +24,7 @@ use Rattle.settle.proofs.is_taken.Reads as is-taken-reads
 use Rattle.flows.proofs.is_over.Reads as is-over-reads
 use Rattle.standing.proofs.stand_in.Reads as stand-in-reads
 use Rattle.settle.proofs.Going.{gone-works, gone-goes, gone-comes, goes-on, gone-over, gone-all, back-left, back-held}
-use Rattle.settle.proofs.Going.{reach, settled-long}
+use Rattle.settle.proofs.Going.{reach, gone-near, settled-long}
 use Rattle.settling.proofs.+settle_from.{statement}
 use Rattle.settling.proofs.+settle_from.Tie.{close}
 
@@ -102,7 +103,10 @@ module _ (t : ℕ) where
       gone-over _ _ (o .before .before .pre .1 .gone) (o .before .if1 .taken) (sym (o .is-over .ensures) ∙ c .if2 .taken)
 
   stand-in-requires : lts.Need-stand-in-requires (callees t) (settle-from-at t) settle-from.Post
-  stand-in-requires c κs = c .before .before .before .before .before .before .pre .1 .settling .long
+  stand-in-requires c κs =
+      let e = c .before .before .before .before .before in
+      let p = e .before .pre .1 in
+      (p .settling .long, λ f. gone-near _ _ (p .gone) (e .if1 .taken) (p .settling) (ltb-true _ _ f))
 
   same-length : lts.Need-same-length (callees t) (settle-from-at t) settle-from.Post
   same-length c =

@@ -27,15 +27,15 @@ next-long c = stood-long _ _ _ (c .stand-each .ensures)
 
 stand-small-requires : tie.Need-stand-small-requires
 stand-small-requires c κs =
-    let t = c .before .before in (start (t .before) .pre, t .before .all-small .ensures (t .if1 .taken))
+    let t = c .before .before in (start (t .before) .pre .0, t .before .all-small .ensures (t .if1 .taken))
 
 put-totals-requires : tie.Need-put-totals-requires
-put-totals-requires c κs = let j = c .before .before in (start (small j .before) .pre, near-long j)
+put-totals-requires c κs = let j = c .before .before in (start (small j .before) .pre .0, near-long j)
 
 same-length : tie.Need-same-length
 same-length c =
     let j = c .before .before .before .before in
-    ap length (c .before .put-totals .ensures) ∙ near-long j ∙ sym (start (small j .before) .pre)
+    ap length (c .before .put-totals .ensures) ∙ near-long j ∙ sym (start (small j .before) .pre .0)
 
 returns : tie.Need-returns
 returns c =
@@ -46,12 +46,12 @@ returns-2 : tie.Need-returns-2
 returns-2 c = stays-in _ _ _ (c .before .stand-each .ensures) (not-true _ (c .if2 .taken))
 
 put-totals-requires-2 : tie.Need-put-totals-requires-2
-put-totals-requires-2 c κs = let j = c .before .before .before in (start (large j .before) .pre, next-long j)
+put-totals-requires-2 c κs = let j = c .before .before .before in (start (large j .before) .pre .0, next-long j)
 
 same-length-3 : tie.Need-same-length-3
 same-length-3 c =
     let j = c .before .before .before .before .before in
-    ap length (c .before .put-totals2 .ensures) ∙ next-long j ∙ sym (start (large j .before) .pre)
+    ap length (c .before .put-totals2 .ensures) ∙ next-long j ∙ sym (start (large j .before) .pre .0)
 
 returns-3 : tie.Need-returns-3
 returns-3 c =

@@ -6,8 +6,8 @@ use lib.IntN.{pos}
 use borrow.Author.Needs.{needs}
 use Rattle.totals.specs.Gives.{nodesMost}
 use Rattle.slices.proofs.Passing.{Passing, passing-none, passing-more, wouldAt, outAt, stood-all}
-use Rattle.standing.specs.inner.Small.{SmallNode}
-use Rattle.standing.proofs.Small.{sum-inside, node-held, sum-held}
+use Rattle.small.specs.inner.Small.{SmallNode}
+use Rattle.standing.proofs.Small.{node-small, sum-inside, node-held, sum-held}
 use Rattle.standing.proofs.stand_small.Statement.{statement}
 use Rattle.standing.proofs.stand_small.Tie as tie
 
@@ -26,7 +26,7 @@ node : (c : tie.After-stand-near-arg3 Inv-loop μ-loop) →
     (getD (s .going .now) (l .loop .k) (pos 0))
 node c =
     let l = c .before .before .before .before in
-    l .before .pre .1 .each (l .loop .k) (c .before .before .before .loop-test .taken)
+    node-small (l .before .pre .1) (l .loop .k) (c .before .before .before .loop-test .taken)
 
 loop-again : tie.Need-loop-again Inv-loop μ-loop
 loop-again c =

@@ -1,0 +1,2 @@
+-- A buffer filled from its start.
+pub mod Filled

@@ -1,0 +1,2 @@
+-- Quotients after a shift.
+pub mod Quotient

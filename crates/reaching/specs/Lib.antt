@@ -1,0 +1,2 @@
+-- The first digits that come to a size.
+pub mod FirstTo

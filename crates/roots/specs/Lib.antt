@@ -1,0 +1,2 @@
+-- The whole square root.
+pub mod Root

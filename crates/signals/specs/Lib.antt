@@ -1,0 +1,2 @@
+-- Records mended.
+pub mod Records
