@@ -208,8 +208,9 @@ pub fn judge(record: &[u8]) -> Result<Card, u32> {
     if x[14].fract() != 0.0 || x[14] < 10_000_000.0 || x[14] > 50_000_000.0 {
         return Err(9);
     }
-    let [mult, is, ik, bf, xi, ibf, mlf, bri, iss, icss, iks, rcblx, rcbli, exsub, octave, _, ibr, vlr, re, rbc, rcc, ..] =
-        x;
+    let [
+        mult, is, ik, bf, xi, ibf, mlf, bri, iss, icss, iks, rcblx, rcbli, exsub, octave, _, ibr, vlr, re, rbc, rcc, ..
+    ] = x;
     let sn = is * mult;
     let bulk = ((1.0 - xi) * sn) / bf;
     let side = (xi * sn) / bf;

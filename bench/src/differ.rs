@@ -389,8 +389,8 @@ pub fn differ(rounds: u64, run: impl Fn(&str) -> Vec<String>) {
     println!("{rounds} rounds, {bad} differences");
 }
 
-/// Every byte of a good line dropped, doubled and changed to every other, through the desk: as many lines to a script as
-/// load no more cards than a board holds.
+/// Every byte of a good line dropped, doubled and changed to every other, through the desk: as many lines to a script
+/// as load no more cards than a board holds.
 pub fn spoiled(desk: &[String]) {
     const CARDS: usize = 16;
     let good: &[u8] = b".model n4 npn is=2.2e-17 bf=.5 vlr=-3e-1 re=5. octave=17808257 mult=12";

@@ -1,5 +1,5 @@
-// Terms that are worked apart: X of row 6, row 8 whole, and those of the series resistors. Above its limit a number need
-// not be right, but only above it.
+// Terms that are worked apart: X of row 6, row 8 whole, and those of the series resistors. Above its limit a number
+// need not be right, but only above it.
 ghost use mathlib.Core.List.{map};
 ghost use Rattle.volts.specs.Volts.{givenBack};
 ghost use Rattle.scaling.specs.Scaled.{tickLimit};

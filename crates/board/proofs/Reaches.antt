@@ -20,7 +20,8 @@ use Rattle.model.specs.declared.Answer.the-variants.{Done, Refused}
 use Rattle.model.specs.Desk.{Call, load, place, move, lift, withdraw, lookUp, node, currents, who, sumUp}
 use Rattle.model.specs.Model.{noTicks, loadedOf, withdrawnOf, lookedOf, openedOf, listedOf, summedOf}
 use Rattle.lending.specs.Rest.{Rest, State, bare}
-use Rattle.lending.specs.Lending.{Lent, freshRest, freshBy, freshLent, placedLent, movedLent, liftedLent, showedLent, lentOf}
+use Rattle.lending.specs.Lending.{Lent, freshRest, freshBy, freshLent, placedLent, movedLent, liftedLent}
+use Rattle.lending.specs.Lending.{showedLent, lentOf}
 use Rattle.lending.specs.Reached as lending
 use Rattle.lending.specs.inner.Lent.{stateWith, LeavesLevels, LeavesPlaces}
 use Rattle.lending.proofs.Footing.{footing-reached}
@@ -96,8 +97,8 @@ module _ {b : Board} {r : Answered} (k : Reached b) where
   gives : (c : Call) → r ≡ handedAs (lentOf (stateWith (modelOf b) [] []) c) → Reached (r .board)
   gives c e = handed-on (lentOf (stateWith (modelOf b) [] []) c) e (one-more [] [] c k)
 
-  pub after-load : (name bytes : List ℕ) {a : model.Answered} → r ≡ givenAs a → a ≡ loadedOf (bare (modelOf b)) name bytes →
-      Allows (loadedOf (bare (modelOf b)) name bytes) r
+  pub after-load : (name bytes : List ℕ) {a : model.Answered} → r ≡ givenAs a →
+      a ≡ loadedOf (bare (modelOf b)) name bytes → Allows (loadedOf (bare (modelOf b)) name bytes) r
   unfolding lentOf
   after-load name bytes e d = let w = e ∙ ap givenAs d in (w, gives (load name bytes) w)
 
@@ -122,7 +123,8 @@ module _ {b : Board} {r : Answered} (k : Reached b) where
   after-sum n e d = let w = e ∙ ap givenAs d in (w, gives (sumUp n) w)
 
   pub after-list : (n : ℤ) (old : List ℕ) {new : List ℕ} {a : model.Answered} → r ≡ givenAs a →
-      a ≡ listedOf (bare (modelOf b)) n (length old) → new ≡ over (listedOf (bare (modelOf b)) n (length old) .list) old →
+      a ≡ listedOf (bare (modelOf b)) n (length old) →
+      new ≡ over (listedOf (bare (modelOf b)) n (length old) .list) old →
       AllowsList (listedOf (bare (modelOf b)) n (length old)) old r new
   unfolding lentOf
   after-list n old e d l = let w = e ∙ ap givenAs d in (w, (gives (who n (length old)) w, l))
@@ -135,8 +137,8 @@ module _ (b : Board) (k : Reached b) (volts totals : List ℤ) where
   found = stateIn b volts totals
 
   module _ {answer : Answer} {issues cards seats nodes naming : List ℕ} {left currents : List ℤ} where
-    pub after-place : (card : ℤ) (on : List ℤ) → length on ≡ roles → {given : ℤ} → given ≡ card →
-        {next : ℕ} → LeavesPlaces (placedLent found given on) answer issues cards seats nodes naming left currents next →
+    pub after-place : (card : ℤ) (on : List ℤ) → length on ≡ roles → {given : ℤ} → given ≡ card → {next : ℕ} →
+        LeavesPlaces (placedLent found given on) answer issues cards seats nodes naming left currents next →
         AllowsTotals (placedLent found card on)
         (handed (withPlaces (modelOf b) issues cards seats nodes naming currents next) answer) left
     unfolding lentOf

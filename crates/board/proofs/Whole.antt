@@ -10,7 +10,8 @@ use Rattle.model.specs.Model.{noTicks, placedOf, movedOf, liftedOf, showedOf}
 use Rattle.model.proofs.Whole.{Plain, OnlyPlaces, OnlyLevels, place-only, place-plain, lift-only, lift-plain, move-only}
 use Rattle.model.proofs.Whole.{move-plain, showed-whole}
 use Rattle.lending.specs.Rest.{Rest, State, boardIn, restOf}
-use Rattle.lending.specs.Lending.{Lent, lentBy, changeVerdict, readVerdict, placedLent, movedLent, liftedLent, showedLent}
+use Rattle.lending.specs.Lending.{Lent, lentBy, changeVerdict, readVerdict}
+use Rattle.lending.specs.Lending.{placedLent, movedLent, liftedLent, showedLent}
 use Rattle.lending.specs.inner.Lent.{Lends, LendsPlaces, LendsStanding, LeavesLevels, LeavesPlaces}
 use Rattle.board.specs.declared.Answered.{Answered}
 use Rattle.board.specs.Promise.{boardOf, givenAs, handedAs}
@@ -127,7 +128,8 @@ module _ (s : State) where
   pub placed-whole : (card : ℤ) (on : List ℤ) {answer : Answer} {issues cards seats nodes naming : List ℕ}
       {totals currents : List ℤ} {next : ℕ} →
       LeavesPlaces (placedLent s card on) answer issues cards seats nodes naming totals currents next →
-      handed (withPlaces (s .rest) issues cards seats nodes naming currents next) answer ≡ handedAs (placedLent s card on)
+      handed (withPlaces (s .rest) issues cards seats nodes naming currents next) answer
+      ≡ handedAs (placedLent s card on)
   unfolding placedLent
   placed-whole card on left =
       places-whole s (places-by (λ (b : model.Board). placedOf b card on) s (place-only (boardIn s) card on)

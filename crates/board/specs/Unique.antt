@@ -55,8 +55,8 @@ module _ (b : State) {r s : Answered} where
       AllowsTotals (placedLent b card nodes) s u → (r ≡ s) × (t ≡ u)
   unique-place card nodes p q = totals-same (placedLent b card nodes) p q
 
-  pub unique-move : (pairs : List ℤ) {v w t u : List ℤ} → AllowsBoth (movedLent b pairs) r v t → AllowsBoth (movedLent b pairs) s w u →
-      (r ≡ s) × ((v ≡ w) × (t ≡ u))
+  pub unique-move : (pairs : List ℤ) {v w t u : List ℤ} → AllowsBoth (movedLent b pairs) r v t →
+      AllowsBoth (movedLent b pairs) s w u → (r ≡ s) × ((v ≡ w) × (t ≡ u))
   unique-move pairs p q = both-same (movedLent b pairs) p q
 
   pub unique-lift : (transistor : ℤ) {t u : List ℤ} → AllowsTotals (liftedLent b transistor) r t →
@@ -87,6 +87,7 @@ module _ (b : Rest) {r s : Answered} where
   unique-sum node p q = unique-by-equation (p .0) (q .0)
 
   -- and what stands in the buffer after it, whatever stood there before
-  pub unique-list : (node : ℤ) (old : List ℕ) {l m : List ℕ} → AllowsList (listedOf (bare b) node (length old)) old r l →
+  pub unique-list : (node : ℤ) (old : List ℕ) {l m : List ℕ} →
+      AllowsList (listedOf (bare b) node (length old)) old r l →
       AllowsList (listedOf (bare b) node (length old)) old s m → (r ≡ s) × (l ≡ m)
   unique-list node old p q = (unique-by-equation (p .0) (q .0), unique-by-equation (p .1 .1) (q .1 .1))

@@ -1,5 +1,7 @@
-// The board: cards and transistors in places, handed from call to call by value. Voltages and node totals stand in two slices that the caller lends, 32 numbers each.
-// Each method asks that calls from a fresh board left the board as it is, whatever the slices held at each of them, and gives the answer with the next board, which is such a board again. Of the slices nothing is asked.
+// The board: cards and transistors in places, handed from call to call by value. Voltages and node totals stand in two
+// slices that the caller lends, 32 numbers each.
+// Each method asks that calls from a fresh board left the board as it is, whatever the slices held at each of them, and
+// gives the answer with the next board, which is such a board again. Of the slices nothing is asked.
 ghost use mathlib.Core.Path.{_≡_};
 ghost use mathlib.Core.List.{[], _∷_};
 ghost use lib.ListN.{length};
@@ -13,8 +15,11 @@ use refusal::Refusal;
 use terms::BRANCHES;
 use terms::ROLES;
 
-// Flat arrays of numbers, so that each can be lent. The first six hold the cards by their places; then come the transistors, with a set of their places for each node; what a move changes stands last.
-// A method that changes arrays on one side of `next` alone reads it and puts it back: there the compiler parts the struct, and what does not change is not copied. `next` has 64 bits, though 32 hold every number, so that what follows it begins at a multiple of eight: a part that begins between two is copied more often.
+// Flat arrays of numbers, so that each can be lent. The first six hold the cards by their places; then come the
+// transistors, with a set of their places for each node; what a move changes stands last.
+// A method that changes arrays on one side of `next` alone reads it and puts it back: there the compiler parts the
+// struct, and what does not change is not copied. `next` has 64 bits, though 32 hold every number, so that what follows
+// it begins at a multiple of eight: a part that begins between two is copied more often.
 #[repr(C)]
 pub struct Board {
     pub numbers: [u32; deck::ALL_NUMBERS],
@@ -69,7 +74,8 @@ impl Board {
         }
     }
 
-    // An empty board, and every voltage and total 0: 13 where a slice has not 32 numbers. An empty board stands beside that too.
+    // An empty board, and every voltage and total 0: 13 where a slice has not 32 numbers. An empty board stands beside
+    // that too.
     pub fn fresh(volts: &mut [i64], totals: &mut [i64]) -> Answered
         ensures { λ r. ⌜ r ≡ handedAs (freshLent (now (volts .entry)) (now (totals .entry))) ⌝ }
         ensures { λ r. ⌜ Reached (r .board) ⌝ }
@@ -127,7 +133,8 @@ impl Board {
         }
     }
 
-    // A transistor on a card, by its issue number, and on the nodes of its roles: 13 for the slices, 12, 13, 14, 11, 17, 15 or 18, 10.
+    // A transistor on a card, by its issue number, and on the nodes of its roles: 13 for the slices, 12, 13, 14, 11,
+    // 17, 15 or 18, 10.
     pub fn place(
         mut self,
         volts: &[i64],
@@ -136,9 +143,11 @@ impl Board {
         nodes: [i64; ROLES],
     ) -> Answered
         requires { ⌜ Reached self ⌝ }
-        ensures { λ r. ⌜ r ≡ handedAs (placedLent (stateIn self (now (volts .entry)) (now (totals .entry))) card nodes) ⌝ }
+        ensures { λ r. ⌜ r ≡ handedAs (placedLent (stateIn self (now (volts .entry)) (now (totals .entry)))
+            card nodes) ⌝ }
         ensures { λ r. ⌜ Reached (r .board) ⌝ }
-        ensures { λ _. ⌜ now (totals .exit) ≡ placedLent (stateIn self (now (volts .entry)) (now (totals .entry))) card nodes .state .totals ⌝ }
+        ensures { λ _. ⌜ now (totals .exit) ≡ placedLent (stateIn self (now (volts .entry)) (now (totals .entry)))
+            card nodes .state .totals ⌝ }
     {
         let numbers = self.numbers;
         let powers = self.powers;
@@ -184,13 +193,18 @@ impl Board {
         }
     }
 
-    // Nodes moved together, by a list of a node, its microvolts, a node, its microvolts and so on, the last pair of a node holding: 13 for the slices, 1 where it is not 1 to 32 pairs, 13 for any pair, 15 or 18 where some transistor would overload at the end, 10.
+    // Nodes moved together, by a list of a node, its microvolts, a node, its microvolts and so on, the last pair of a
+    // node holding: 13 for the slices, 1 where it is not 1 to 32 pairs, 13 for any pair, 15 or 18 where some transistor
+    // would overload at the end, 10.
     pub fn move_all(mut self, volts: &mut [i64], totals: &mut [i64], pairs: &[i64]) -> Answered
         requires { ⌜ Reached self ⌝ }
-        ensures { λ r. ⌜ r ≡ handedAs (movedLent (stateIn self (now (volts .entry)) (now (totals .entry))) (now (pairs .entry))) ⌝ }
+        ensures { λ r. ⌜ r ≡ handedAs (movedLent (stateIn self (now (volts .entry)) (now (totals .entry)))
+            (now (pairs .entry))) ⌝ }
         ensures { λ r. ⌜ Reached (r .board) ⌝ }
-        ensures { λ _. ⌜ now (volts .exit) ≡ movedLent (stateIn self (now (volts .entry)) (now (totals .entry))) (now (pairs .entry)) .state .volts ⌝ }
-        ensures { λ _. ⌜ now (totals .exit) ≡ movedLent (stateIn self (now (volts .entry)) (now (totals .entry))) (now (pairs .entry)) .state .totals ⌝ }
+        ensures { λ _. ⌜ now (volts .exit) ≡ movedLent (stateIn self (now (volts .entry)) (now (totals .entry)))
+            (now (pairs .entry)) .state .volts ⌝ }
+        ensures { λ _. ⌜ now (totals .exit) ≡ movedLent (stateIn self (now (volts .entry)) (now (totals .entry)))
+            (now (pairs .entry)) .state .totals ⌝ }
     {
         let numbers = self.numbers;
         let powers = self.powers;
@@ -234,10 +248,13 @@ impl Board {
         microvolts: i64,
     ) -> Answered
         requires { ⌜ Reached self ⌝ }
-        ensures { λ r. ⌜ r ≡ handedAs (movedLent (stateIn self (now (volts .entry)) (now (totals .entry))) (node ∷ microvolts ∷ [])) ⌝ }
+        ensures { λ r. ⌜ r ≡ handedAs (movedLent (stateIn self (now (volts .entry)) (now (totals .entry)))
+            (node ∷ microvolts ∷ [])) ⌝ }
         ensures { λ r. ⌜ Reached (r .board) ⌝ }
-        ensures { λ _. ⌜ now (volts .exit) ≡ movedLent (stateIn self (now (volts .entry)) (now (totals .entry))) (node ∷ microvolts ∷ []) .state .volts ⌝ }
-        ensures { λ _. ⌜ now (totals .exit) ≡ movedLent (stateIn self (now (volts .entry)) (now (totals .entry))) (node ∷ microvolts ∷ []) .state .totals ⌝ }
+        ensures { λ _. ⌜ now (volts .exit) ≡ movedLent (stateIn self (now (volts .entry)) (now (totals .entry)))
+            (node ∷ microvolts ∷ []) .state .volts ⌝ }
+        ensures { λ _. ⌜ now (totals .exit) ≡ movedLent (stateIn self (now (volts .entry)) (now (totals .entry)))
+            (node ∷ microvolts ∷ []) .state .totals ⌝ }
     {
         self.move_all(volts, totals, &[node, microvolts])
     }
@@ -245,9 +262,11 @@ impl Board {
     // A transistor taken off, by its issue number: 13 for the slices, 12, 10. What it holds is taken out of the totals.
     pub fn lift(mut self, volts: &[i64], totals: &mut [i64], transistor: i64) -> Answered
         requires { ⌜ Reached self ⌝ }
-        ensures { λ r. ⌜ r ≡ handedAs (liftedLent (stateIn self (now (volts .entry)) (now (totals .entry))) transistor) ⌝ }
+        ensures { λ r. ⌜ r ≡ handedAs (liftedLent (stateIn self (now (volts .entry)) (now (totals .entry)))
+            transistor) ⌝ }
         ensures { λ r. ⌜ Reached (r .board) ⌝ }
-        ensures { λ _. ⌜ now (totals .exit) ≡ liftedLent (stateIn self (now (volts .entry)) (now (totals .entry))) transistor .state .totals ⌝ }
+        ensures { λ _. ⌜ now (totals .exit) ≡ liftedLent (stateIn self (now (volts .entry)) (now (totals .entry)))
+            transistor .state .totals ⌝ }
     {
         let number = self.next;
         let mut issues = self.issues;
@@ -335,7 +354,8 @@ impl Board {
         }
     }
 
-    // A node's voltage in microvolts and its total in ticks, as the slices have them: 13 for the slices, then for the node.
+    // A node's voltage in microvolts and its total in ticks, as the slices have them: 13 for the slices, then for the
+    // node.
     pub fn read_node(self, volts: &[i64], totals: &[i64], node: i64) -> Answered
         requires { ⌜ Reached self ⌝ }
         ensures { λ r. ⌜ r ≡ handedAs (showedLent (stateIn self (now (volts .entry)) (now (totals .entry))) node) ⌝ }
@@ -367,12 +387,14 @@ impl Board {
         }
     }
 
-    // Who names a node: the issue numbers of its transistors in rising order, at the start of the list, and how many they are: 13, then 5 where the list has not room for all.
+    // Who names a node: the issue numbers of its transistors in rising order, at the start of the list, and how many
+    // they are: 13, then 5 where the list has not room for all.
     pub fn list_node(self, node: i64, list: &mut [u32]) -> Answered
         requires { ⌜ Reached self ⌝ }
         ensures { λ r. ⌜ r ≡ givenAs (listedOf (bare (modelOf self)) node (length (now (list .entry)))) ⌝ }
         ensures { λ r. ⌜ Reached (r .board) ⌝ }
-        ensures { λ _. ⌜ now (list .exit) ≡ over (listedOf (bare (modelOf self)) node (length (now (list .entry))) .list) (now (list .entry)) ⌝ }
+        ensures { λ _. ⌜ now (list .exit)
+            ≡ over (listedOf (bare (modelOf self)) node (length (now (list .entry))) .list) (now (list .entry)) ⌝ }
     {
         let given = self.issues;
         let naming = self.naming;
@@ -384,7 +406,8 @@ impl Board {
         }
     }
 
-    // A node summed up: how many transistors name it, on how many cards, and the largest size of a branch that starts or ends there: 13.
+    // A node summed up: how many transistors name it, on how many cards, and the largest size of a branch that starts
+    // or ends there: 13.
     pub fn sum_up(self, node: i64) -> Answered
         requires { ⌜ Reached self ⌝ }
         ensures { λ r. ⌜ r ≡ givenAs (summedOf (bare (modelOf self)) node) ⌝ }

@@ -168,8 +168,13 @@ module _ (s : List ℕ) (b : Bool) (f : finiteUp s (cond b wide narrow) ≡ true
       let gbc = lead-unsigned number.rbc (plus-unsigned (at x number.rbc) (more .rbc)) in
       let gcc = lead-unsigned number.rcc (plus-unsigned (at x number.rcc) (more .rcc)) in
       let gblx = lead-unsigned number.rcblx (from-zero number.rcblx (omega arith) refl) in
-      let gbli = lead-unsigned number.rcbli (from-zero number.rcbli (omega arith) refl) in
-      (sn, (bulk-share, (side-share, (nonideal, (ex, (ss, (sf, (rex, (rsub, (reverse, (ge, (gbc, (gcc, (gblx, (gbli, tt)))))))))))))))
+      let gbli = lead-unsigned number.rcbli (from-zero number.rcbli (omega arith) refl) in (
+        sn,
+        (
+          bulk-share,
+          (side-share, (nonideal, (ex, (ss, (sf, (rex, (rsub, (reverse, (ge, (gbc, (gcc, (gblx, (gbli, tt))))))))))))),
+        ),
+      )
 
 -- I_Br and three resistances, which a record of version 1 has not
 further : (s : List ℕ) (b : Bool) (f : finiteUp s (cond b wide narrow) ≡ true) → Further s b f

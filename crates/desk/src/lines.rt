@@ -8,7 +8,7 @@ use crate::shelf::take_library;
 use crate::showing::begin;
 use crate::showing::end;
 use board::Board;
-use saying::ROOM;
+use page::ROOM;
 use saying::part;
 use script::MOST_BYTES;
 use script::Verb;

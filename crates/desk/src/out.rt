@@ -1,8 +1,8 @@
 // What waits is written before a line whose answer might have no room, and when a script has been obeyed as far as it
 // was read.
 use libc::STDOUT_FILENO;
+use page::ROOM;
 use saying::ANSWERS;
-use saying::ROOM;
 use saying::part;
 use saying::puts;
 
@@ -30,6 +30,6 @@ pub fn put_part(text: &[u8], n: usize, out: &mut [u8; ROOM], at: &mut usize) {
 // Writes that a script cannot be read.
 pub fn write_unreadable(path: &[u8]) {
     let mut text = [0u8; PATH_ROOM];
-    let n = quoting::unreadable_line(path, &mut text);
+    let n = quoting::unreadable_line(path, &mut text, 0);
     io::write_all(STDOUT_FILENO, part(&text, 0, n));
 }

@@ -1,10 +1,6 @@
 // The library held: none at first, then what is read from a file.
-use crate::out::put_part;
-use saying::ROOM;
+use page::ROOM;
 use shelving::MOST;
-
-// Room for the answer to the longest path that a line gives.
-const PATH_ROOM: usize = 4128;
 
 enum File {
     Bytes(usize),
@@ -53,17 +49,11 @@ fn read_file(path: &[u8], bytes: &mut [u8; MOST]) -> File {
     file
 }
 
-fn put_unreadable(path: &[u8], out: &mut [u8; ROOM], at: &mut usize) {
-    let mut text = [0u8; PATH_ROOM];
-    let n = quoting::unreadable_line(path, &mut text);
-    put_part(&text, n, out, at);
-}
-
 // The library that a file holds becomes the library held.
 pub fn take_library(path: &[u8], held: &mut [u8; MOST], out: &mut [u8; ROOM], at: &mut usize) {
     let mut read = [0u8; MOST];
     match read_file(path, &mut read) {
         File::Bytes(n) => shelving::keep_library(n, &read, held, out, at),
-        File::Failed => put_unreadable(path, out, at),
+        File::Failed => saying::put_unreadable(path, out, at),
     }
 }

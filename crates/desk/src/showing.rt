@@ -6,7 +6,7 @@ use crate::out::make_room;
 use crate::out::put_part;
 use explaining::EXPLANATION_ROOM;
 use libc::STDOUT_FILENO;
-use saying::ROOM;
+use page::ROOM;
 use saying::part;
 
 // Before a line is obeyed.

@@ -47,7 +47,8 @@ module _ {b : Board} {numbers powers ticks : List ℕ} {switches : List Bool} {n
       LeavesCards a (Refused f) numbers powers ticks switches names held next
   cards-stay a p e = rw (← e) (record { answer-is = refl; cards-are = l; next-is = p })
 
-  pub cards-hold : {i : ℕ} {c : Card} {numbers′ powers′ ticks′ : List ℕ} {switches′ : List Bool} {names′ held′ : List ℕ} →
+  pub cards-hold : {i : ℕ} {c : Card} {numbers′ powers′ ticks′ : List ℕ} {switches′ : List Bool}
+      {names′ held′ : List ℕ} →
       Holds i c numbers powers ticks switches names held numbers′ powers′ ticks′ switches′ names′ held′ →
       (next : ℕ) (answer : Answer) (a : Answered) →
       plain (holding b i c next) answer ≡ a →

@@ -141,11 +141,13 @@ module _ {M : Type 1} (𝓤 : URA M) (H : Heap 𝓤) where
     stores ls bs [] fit P Q s = s
     stores [] bs (v ∷ vs) fit P Q s = absurd fit
     stores (l ∷ ls) bs (v ∷ vs) fit P Q s =
-        via 𝓤 (r ∗ R ∗ Q) (via 𝓤 ((r ∗ R) ∗ Q) (monoL 𝓤 Q (pop 𝓤 H A (free l (bs .0)) (held ls (bs .1) []))) (assoc∗ 𝓤 r R Q))
+        via 𝓤 (r ∗ R ∗ Q)
+        (via 𝓤 ((r ∗ R) ∗ Q) (monoL 𝓤 Q (pop 𝓤 H A (free l (bs .0)) (held ls (bs .1) []))) (assoc∗ 𝓤 r R Q))
         (via 𝓤 (r ∗ wand 𝓤 c then) (monoR 𝓤 r (wandI 𝓤 (R ∗ Q) c then
         (via 𝓤 (R ∗ c ∗ Q) (via 𝓤 (R ∗ Q ∗ c) (assoc∗ 𝓤 R Q c) (monoR 𝓤 R (comm∗ 𝓤 Q c)))
         (stores ls (bs .1) vs (fit .1) P (c ∗ Q) (via 𝓤 ((c ∗ R′) ∗ Q) (outward c R′ Q)
-        (via 𝓤 (star (held (l ∷ ls) bs (v ∷ vs)) ∗ Q) (monoL 𝓤 Q (push 𝓤 H A (full l (bs .0) v) (held ls (bs .1) vs))) s))))))
+        (via 𝓤 (star (held (l ∷ ls) bs (v ∷ vs)) ∗ Q)
+        (monoL 𝓤 Q (push 𝓤 H A (full l (bs .0) v) (held ls (bs .1) vs))) s))))))
         (guardI 𝓤 (T (hasTy (tyOf 𝓤 H l) v) × WT v) (r ∗ wand 𝓤 c then) (fit .0)))
       where
         r : Pr
@@ -196,7 +198,8 @@ module _ {M : Type 1} (𝓤 : URA M) (H : Heap 𝓤) where
     entered Γ (l ∷ ls) vs Kt fit k =
         gets (l ∷ ls) (λ E. params 𝓤 H E vs (Kt E)) (star Γ) (λ bs.
         via 𝓤 (star (held ls (bs .1) []) ∗ r bs ∗ Q bs)
-        (via 𝓤 ((r bs ∗ star (held ls (bs .1) [])) ∗ Q bs) (monoL 𝓤 (Q bs) (pop 𝓤 H A (free l (bs .0)) (held ls (bs .1) [])))
+        (via 𝓤 ((r bs ∗ star (held ls (bs .1) [])) ∗ Q bs)
+        (monoL 𝓤 (Q bs) (pop 𝓤 H A (free l (bs .0)) (held ls (bs .1) [])))
         (inward (r bs) (star (held ls (bs .1) [])) (Q bs)))
         (stores ls (bs .1) vs fit (Kt (env (l ∷ ls) bs)) (r bs ∗ Q bs)
         (via 𝓤 ((r bs ∗ star (held ls (bs .1) vs)) ∗ Q bs) (outward (r bs) (star (held ls (bs .1) vs)) (Q bs))
@@ -215,7 +218,8 @@ module _ {M : Type 1} (𝓤 : URA M) (H : Heap 𝓤) where
 
 module _ {M : Type 1} {𝓤 : URA M} {H : Heap 𝓤} {A : Atoms 𝓤} {K : Type 0} {W : Given 𝓤 H A} {Γ : List (Item 𝓤)} where
   -- a function begins: there is room for its locals, and it was handed the values
-  pub begins : K → (C : Calls 𝓤 H) (Λ : Loops 𝓤 H) (f : Fn) (vs : List Val) (Kf : Val → SProp 𝓤) → Fits 𝓤 H (f .locals) vs
+  pub begins : K → (C : Calls 𝓤 H) (Λ : Loops 𝓤 H) (f : Fn) (vs : List Val) (Kf : Val → SProp 𝓤)
+      → Fits 𝓤 H (f .locals) vs
       → ((bs : Blocks 𝓤 H (f .locals))
       → Seq K W (begun 𝓤 H (f .locals) bs vs ++ raw (deaths 𝓤 H (env 𝓤 H (f .locals) bs)) ∷ Γ)
       (runs C Λ (env 𝓤 H (f .locals) bs) (f .body) (atRet (env 𝓤 H (f .locals) bs) Kf)))

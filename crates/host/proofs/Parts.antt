@@ -25,8 +25,8 @@ use Rattle.host_changes.specs.declared.Outcome as outcome
 use Rattle.host_changes.proofs.Outcome as O
 use Rattle.host_changes.proofs.Outcome.Laws as O′
 
--- These are closed in a walk, where nothing is asked of a board's own fields: written out, they would be carried through
--- each of its steps.
+-- These are closed in a walk, where nothing is asked of a board's own fields: written out, they would be carried
+-- through each of its steps.
 unfoldable pub mach : Board → Val
 mach was = LL.val B.the-type B′.the-laws was
 
@@ -59,7 +59,8 @@ pub parts : (r : outcome.Outcome) (w : Val) → IsOutcome r w → IsBoard (r .bo
 unfolding mach IsBoard IsOutcome
 parts r w is = let fields = LL.owed O.the-type O′.the-laws r _ is in (fields .0, fields .1 .0 .1)
 
-module _ {M : Type 1} {𝓤 : URA M} {H : Heap 𝓤} {A : Atoms 𝓤} {K : Type 0} {W : Given 𝓤 H A} {Γ : List (Item 𝓤)} {G : Goal 𝓤 H} where
+module _ {M : Type 1} {𝓤 : URA M} {H : Heap 𝓤} {A : Atoms 𝓤} {K : Type 0} {W : Given 𝓤 H A} {Γ : List (Item 𝓤)}
+    {G : Goal 𝓤 H} where
   -- a board holds nothing but numbers: it is had for nothing
   pub made : K → (was : Board) → IsBoard was → Step K W (‵ (B.the-row .own was (mach was ∷ [])) ∷ Γ) G Γ G
   unfolding IsBoard
@@ -81,28 +82,35 @@ module _ {M : Type 1} {𝓤 : URA M} {H : Heap 𝓤} {A : Atoms 𝓤} {K : Type 
       move t (1 ∷ []) $
       peeks t B.the-row (Is B.the-row) (shows 𝓤 H A B.the-row) was (mach was ∷ []) (λ g. drop t $ k g)
 
-module _ {M : Type 1} {𝓤 : URA M} {H : Heap 𝓤} {A : Atoms 𝓤} {K : Type 0} {W : Given 𝓤 H A} {Γ : List (Item 𝓤)} {G : Goal 𝓤 H} {κ : Lft} {q : Share} where
+module _ {M : Type 1} {𝓤 : URA M} {H : Heap 𝓤} {A : Atoms 𝓤} {K : Type 0} {W : Given 𝓤 H A} {Γ : List (Item 𝓤)}
+    {G : Goal 𝓤 H} {κ : Lft} {q : Share} where
   -- a reference that may change a board is opened, and closed at another board
   pub opened : K → Soaks G → {γ : GName} (was : Board) (b o : ℕ)
-      → (IsBoard was → Seq K W (‵ (cellAt fullShare (B.the-row .mir) (mach was ∷ []) b o) ∷ ‵ (fobor κ q (Body (mem B.the-row) b o γ))
+      → (IsBoard was
+      → Seq K W (‵ (cellAt fullShare (B.the-row .mir) (mach was ∷ []) b o) ∷ ‵ (fobor κ q (Body (mem B.the-row) b o γ))
       ∷ ‵ (fobs γ (B.the-row .coded .code was)) ∷ ‵ (fauth γ (B.the-row .coded .code was)) ∷ Γ) G)
       → Seq K W (‵ (fobs γ (B.the-row .coded .code was)) ∷ ‵ (fbor κ (Body (mem B.the-row) b o γ)) ∷ ‵ (flft κ q) ∷ Γ) G
   opened t z was b o k = opens t z B.the-row {h = was} b o (λ vs. seen t fullShare was vs b o k)
 
   pub closed : K → Soaks G → {γ : GName} {u v : Gv} (is : Board) → IsBoard is → (b o : ℕ)
       → Step K W (‵ (fobs γ (B.the-row .coded .code is)) ∷ ‵ (fbor κ (Body (mem B.the-row) b o γ)) ∷ ‵ (flft κ q) ∷ Γ) G
-      (‵ (cellAt fullShare (B.the-row .mir) (mach is ∷ []) b o) ∷ ‵ (fobor κ q (Body (mem B.the-row) b o γ)) ∷ ‵ (fobs γ u) ∷ ‵ (fauth γ v) ∷ Γ) G
+      (‵ (cellAt fullShare (B.the-row .mir) (mach is ∷ []) b o) ∷ ‵ (fobor κ q (Body (mem B.the-row) b o γ))
+      ∷ ‵ (fobs γ u) ∷ ‵ (fauth γ v) ∷ Γ) G
   closed t z is g b o = step (λ s. made t is g $ move t (1 ∷ 0 ∷ []) $ closes t z B.the-row is (mach is ∷ []) b o $ s)
 
   -- one that only reads it is looked into, and shut
   pub looked : K → Soaks G → (was : Board) (b o : ℕ)
-      → ((q′ : Share) → IsBoard was → Seq K W (‵ (cellAt q′ (B.the-row .mir) (mach was ∷ []) b o) ∷ ‵ (fobor κ q (partAt B.the-row q′ was b o))
+      → ((q′ : Share) → IsBoard was
+      → Seq K W (‵ (cellAt q′ (B.the-row .mir) (mach was ∷ []) b o) ∷ ‵ (fobor κ q (partAt B.the-row q′ was b o))
       ∷ ‵ (fshr-bor κ (λ s. partAt B.the-row s was b o)) ∷ Γ) G)
       → Seq K W (‵ (fshr-bor κ (λ s. partAt B.the-row s was b o)) ∷ ‵ (flft κ q) ∷ Γ) G
   looked t z was b o k =
-      looks t z B.the-row (Is B.the-row) (shows 𝓤 H A B.the-row) (λ x. mach x ∷ []) tells (LL.copy B.the-type B′.the-copy 𝓤 H A W) was b o
+      looks t z B.the-row (Is B.the-row) (shows 𝓤 H A B.the-row) (λ x. mach x ∷ []) tells
+      (LL.copy B.the-type B′.the-copy 𝓤 H A W) was b o
       (λ q′ vs. seen t q′ was vs b o (k q′))
 
   pub shut : K → Soaks G → (q′ : Share) (was : Board) → IsBoard was → (b o : ℕ)
-      → Step K W (‵ (flft κ q) ∷ Γ) G (‵ (cellAt q′ (B.the-row .mir) (mach was ∷ []) b o) ∷ ‵ (fobor κ q (partAt B.the-row q′ was b o)) ∷ Γ) G
-  shut t z q′ was g b o = step (λ s. made t was g $ move t (1 ∷ 0 ∷ []) $ shuts t z B.the-row q′ was (mach was ∷ []) b o $ s)
+      → Step K W (‵ (flft κ q) ∷ Γ) G
+      (‵ (cellAt q′ (B.the-row .mir) (mach was ∷ []) b o) ∷ ‵ (fobor κ q (partAt B.the-row q′ was b o)) ∷ Γ) G
+  shut t z q′ was g b o =
+      step (λ s. made t was g $ move t (1 ∷ 0 ∷ []) $ shuts t z B.the-row q′ was (mach was ∷ []) b o $ s)

@@ -22,7 +22,8 @@ module _ (b : Board) (reached : Reached b) (v t pairs : List ℤ) {v′ t′ c�
       after-move b reached v t pairs {answer = l .answer} {moved = v′} {left = t′} {currents = c′}
       (record { answer-is = refl; volts-are = p .volts; totals-are = p .totals; currents-are = p .currents }) in
       record {
-        leaves = leaves (handedAs l) (handed (withHeld (modelOf b) c′) (l .answer)) (after .0) (after .1 .0) (p .result);
+        leaves =
+            leaves (handedAs l) (handed (withHeld (modelOf b) c′) (l .answer)) (after .0) (after .1 .0) (p .result);
         volts = p .volts;
         totals = p .totals;
         who = p .who;

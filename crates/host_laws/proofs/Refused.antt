@@ -31,12 +31,13 @@ use Rattle.host_words.specs.Words.{resultOf, issueOver, whoIn, branchIn, whoOve
 use Rattle.line.specs.Line.{Model}
 use Rattle.line.specs.Answers.{readingOf, nameLeft, recordLeft}
 use Rattle.listed.specs.Listed.{unpadded}
+use Rattle.roles.specs.Roles as roles
 use Rattle.host_lent.specs.InPlace.{MovedInPlace}
 use Rattle.host_changes.specs.Changes.{Leaves, Begun, Loaded}
 use Rattle.host_moves.specs.Moves.{Moved, Lifted}
 use Rattle.host_placing.specs.Placing as placing
 use Rattle.host_placing.specs.Placing.{isList, placingIf, placingOf, Placed}
-use Rattle.host_lines.specs.Lines as lines
+use Rattle.fetching.specs.Fetched as fetching
 
 -- what passes every test was not refused by the board that was
 passed : (off outside : Bool) (a told : Answer) →
@@ -92,15 +93,15 @@ module _ {b b′ : Board} {r : ℕ} where
       go (no f) k = (refl, refl)
       go (yes c) k = absurd (k refl)
 
-  pub refused-line : (line : List ℕ) {i i′ : ℕ} → Loaded (lines.lineLoadedOf (bare (modelOf b)) line) b′ i i′ r →
+  pub refused-line : (line : List ℕ) {i i′ : ℕ} → Loaded (fetching.lineLoadedOf (bare (modelOf b)) line) b′ i i′ r →
       (r ≡ 0 → ⊥) → (b′ ≡ b) × (i′ ≡ i)
-  unfolding lines.lineLoadedOf
-  refused-line line {i} {i′} p k = go (readingOf line lines.noName lines.noRecord) p
+  unfolding fetching.lineLoadedOf
+  refused-line line {i} {i′} p k = go (readingOf line fetching.noName fetching.noRecord) p
     where
-      go : (v : Verdict Model) → Loaded (lines.loadedBy (bare (modelOf b)) v) b′ i i′ r → (b′ ≡ b) × (i′ ≡ i)
+      go : (v : Verdict Model) → Loaded (fetching.loadedBy (bare (modelOf b)) v) b′ i i′ r → (b′ ≡ b) × (i′ ≡ i)
       go (no f) q = (q .leaves .board, q .issue)
       go (yes m) q =
-          refused-load (unpadded (nameLeft (yes m) lines.noName)) (recordLeft (yes m) lines.noRecord) q k
+          refused-load (unpadded (nameLeft (yes m) fetching.noName)) (recordLeft (yes m) fetching.noRecord) q k
 
   pub refused-withdraw : (n : ℤ) → Leaves (givenAs (calls.withdrawnOf (bare (modelOf b)) n)) b′ r → (r ≡ 0 → ⊥) → b′ ≡ b
   unfolding calls.withdrawnOf
@@ -117,7 +118,8 @@ module _ {b b′ : Board} {r : ℕ} where
         (b′ ≡ b) × ((v′ ≡ v) × (t′ ≡ t))
     unfolding lending.movedLent
     refused-move pairs p n =
-        let left = changing-stays (λ (x : model.Board). calls.movedOf x pairs) (stateIn b v t) 0 (λ z. n (p .leaves .result ∙ z)) in (
+        let left = changing-stays (λ (x : model.Board). calls.movedOf x pairs) (stateIn b v t) 0
+        (λ z. n (p .leaves .result ∙ z)) in (
           p .leaves .board ∙ ap (λ (s : State). boardOf (s .rest)) (left .0),
           (p .volts ∙ ap (λ (s : State). s .volts) (left .0), p .totals ∙ ap (λ (s : State). s .totals) (left .0)),
         )
@@ -126,7 +128,8 @@ module _ {b b′ : Board} {r : ℕ} where
         (b′ ≡ b) × (t′ ≡ t)
     unfolding lending.liftedLent
     refused-lift n p k =
-        let left = changing-stays (λ (x : model.Board). calls.liftedOf x n) (stateIn b v t) 0 (λ z. k (p .leaves .result ∙ z)) in (
+        let left = changing-stays (λ (x : model.Board). calls.liftedOf x n) (stateIn b v t) 0
+        (λ z. k (p .leaves .result ∙ z)) in (
           p .leaves .board ∙ ap (λ (s : State). boardOf (s .rest)) (left .0),
           p .totals ∙ ap (λ (s : State). s .totals) (left .0),
         )
@@ -145,7 +148,7 @@ module _ {b b′ : Board} {r : ℕ} where
             (placingIf on (stateIn b v t) card nodes .state ≡ stateIn b v t)
             × (issueOver (placingIf on (stateIn b v t) card nodes .answer) i ≡ i)
         go true k =
-            changing-stays (λ (x : model.Board). calls.placedOf x card (placing.rolesOf nodes)) (stateIn b v t) i k
+            changing-stays (λ (x : model.Board). calls.placedOf x card (roles.rolesOf nodes)) (stateIn b v t) i k
         go false k = (refl, refl)
 
 -- of a board that lends its arrays it is the currents held that a move could change
@@ -154,7 +157,8 @@ pub refused-in-place : (b : Rest) (v t pairs : List ℤ) {v′ t′ c′ : List 
     (v′ ≡ v) × ((t′ ≡ t) × (c′ ≡ b .currents))
 unfolding lending.movedLent
 refused-in-place b v t pairs p n =
-    let left = changing-stays (λ (x : model.Board). calls.movedOf x pairs) (stateWith b v t) 0 (λ z. n (p .result ∙ z)) .0 in (
+    let left = changing-stays (λ (x : model.Board). calls.movedOf x pairs) (stateWith b v t) 0
+    (λ z. n (p .result ∙ z)) .0 in (
       p .volts ∙ ap (λ (s : State). s .volts) left,
       (p .totals ∙ ap (λ (s : State). s .totals) left, p .currents ∙ ap (λ (s : State). s .rest .currents) left),
     )

@@ -98,7 +98,8 @@ module _ (b : Board) (node : ℤ) {old new : List ℕ} {n n′ r : ℕ} where
       (new ≡ old) × (n′ ≡ n)
   unfolding calls.listedOf
   refused-list p k =
-      let some : resultOf (calls.listedOf (bare (modelOf b)) node (length old) .answer) ≡ 0 → ⊥ = λ z. k (p .result ∙ z) in (
+      let some : resultOf (calls.listedOf (bare (modelOf b)) node (length old) .answer) ≡ 0 → ⊥ =
+      λ z. k (p .result ∙ z) in (
         p .list ∙ go (calls.mayList (bare (modelOf b)) node (length old)) some,
         p .count ∙ no-count (calls.listedOf (bare (modelOf b)) node (length old) .answer) some n,
       )

@@ -1,4 +1,5 @@
-// What a host's call does that moves nodes on the host's own board: the board's arrays are lent one by one, and nothing is copied. Its result is 0 or a refusal's number.
+// What a host's call does that moves nodes on the host's own board: the board's arrays are lent one by one, and nothing
+// is copied. Its result is 0 or a refusal's number.
 ghost use Rattle.lending.specs.Rest.{Rest};
 ghost use Rattle.lending.specs.Lending.{movedLent};
 ghost use Rattle.lending.specs.Reached.{Reached};
@@ -24,8 +25,13 @@ pub fn move_lent(
     who: &mut u32,
     branch: &mut u32,
 ) -> u32
-    requires { ⌜ ((b : Rest) × Reached b × Lends b (now numbers) (now powers) (now ticks) (now switches) (now issues) (now seats) (now nodes) (now naming) (now currents)) ⌝ }
-    ensures { λ r. ⌜ ((b : Rest) → Reached b → Lends b (now (numbers .entry)) (now (powers .entry)) (now (ticks .entry)) (now (switches .entry)) (now (issues .entry)) (now (seats .entry)) (now (nodes .entry)) (now (naming .entry)) (now (currents .entry)) → MovedInPlace (movedLent (stateWith b (now (volts .entry)) (now (totals .entry))) (now (pairs .entry))) (now (volts .exit)) (now (totals .exit)) (now (currents .exit)) (now (who .entry)) (now (who .exit)) (now (branch .entry)) (now (branch .exit)) r) ⌝ }
+    requires { ⌜ ((b : Rest) × Reached b × Lends b (now numbers) (now powers) (now ticks) (now switches) (now issues)
+        (now seats) (now nodes) (now naming) (now currents)) ⌝ }
+    ensures { λ r. ⌜ ((b : Rest) → Reached b → Lends b (now (numbers .entry)) (now (powers .entry)) (now (ticks .entry))
+        (now (switches .entry)) (now (issues .entry)) (now (seats .entry)) (now (nodes .entry)) (now (naming .entry))
+        (now (currents .entry)) → MovedInPlace (movedLent (stateWith b (now (volts .entry)) (now (totals .entry)))
+        (now (pairs .entry))) (now (volts .exit)) (now (totals .exit)) (now (currents .exit)) (now (who .entry))
+        (now (who .exit)) (now (branch .entry)) (now (branch .exit)) r) ⌝ }
 {
     let moved = moving::move_all(
         volts,

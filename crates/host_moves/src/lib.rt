@@ -1,4 +1,5 @@
-// What a host's calls do that move nodes and lift a transistor. Each takes the board by value, and after it what the host lends; it gives the next board beside the result of the call, 0 or a refusal's number.
+// What a host's calls do that move nodes and lift a transistor. Each takes the board by value, and after it what the
+// host lends; it gives the next board beside the result of the call, 0 or a refusal's number.
 ghost use mathlib.Core.List.{[], _∷_};
 ghost use Rattle.lending.specs.Lending.{movedLent, liftedLent};
 ghost use Rattle.board.specs.Promise.{stateIn, Reached};
@@ -16,7 +17,9 @@ pub fn move_all(
     branch: &mut u32,
 ) -> Outcome
     requires { ⌜ Reached board ⌝ }
-    ensures { λ r. ⌜ Moved (movedLent (stateIn board (now (volts .entry)) (now (totals .entry))) (now (pairs .entry))) (r .board) (now (volts .exit)) (now (totals .exit)) (now (who .entry)) (now (who .exit)) (now (branch .entry)) (now (branch .exit)) (r .code) ⌝ }
+    ensures { λ r. ⌜ Moved (movedLent (stateIn board (now (volts .entry)) (now (totals .entry))) (now (pairs .entry)))
+        (r .board) (now (volts .exit)) (now (totals .exit)) (now (who .entry)) (now (who .exit)) (now (branch .entry))
+        (now (branch .exit)) (r .code) ⌝ }
 {
     let moved = board.move_all(volts, totals, pairs);
     let answer = moved.answer;
@@ -36,7 +39,9 @@ pub fn move_to(
     branch: &mut u32,
 ) -> Outcome
     requires { ⌜ Reached board ⌝ }
-    ensures { λ r. ⌜ Moved (movedLent (stateIn board (now (volts .entry)) (now (totals .entry))) (node ∷ microvolts ∷ [])) (r .board) (now (volts .exit)) (now (totals .exit)) (now (who .entry)) (now (who .exit)) (now (branch .entry)) (now (branch .exit)) (r .code) ⌝ }
+    ensures { λ r. ⌜ Moved (movedLent (stateIn board (now (volts .entry)) (now (totals .entry)))
+        (node ∷ microvolts ∷ [])) (r .board) (now (volts .exit)) (now (totals .exit)) (now (who .entry))
+        (now (who .exit)) (now (branch .entry)) (now (branch .exit)) (r .code) ⌝ }
 {
     let went = board.move_to(volts, totals, node, microvolts);
     let answer = went.answer;
@@ -48,7 +53,8 @@ pub fn move_to(
 // A transistor taken off.
 pub fn lift(board: Board, volts: &[i64], totals: &mut [i64], transistor: i64) -> Outcome
     requires { ⌜ Reached board ⌝ }
-    ensures { λ r. ⌜ Lifted (liftedLent (stateIn board (now (volts .entry)) (now (totals .entry))) transistor) (r .board) (now (totals .exit)) (r .code) ⌝ }
+    ensures { λ r. ⌜ Lifted (liftedLent (stateIn board (now (volts .entry)) (now (totals .entry))) transistor)
+        (r .board) (now (totals .exit)) (r .code) ⌝ }
 {
     let lifted = board.lift(volts, totals, transistor);
     let told = lifted.answer;

@@ -2,12 +2,12 @@
 -- nodes.
 use mathlib.Core.Path.{_≡_, refl, ap, ap₂, _∙_, subst}
 use mathlib.Core.Bool.{true, false}
-use mathlib.Core.List.{List, [], _∷_}
-use Prim.Native.Nat.{ℕ, _<_, _≤_}
+use mathlib.Core.List.{List}
+use Prim.Native.Nat.{ℕ}
 use lib.Dec.{eqb}
-use lib.ListN.{length, getD}
-use lib.IntN.{ℤ, pos}
-use borrow.Author.Tests.{eq-eqb, ne-eqb, lt-ltb, le-ltb}
+use lib.ListN.{length}
+use lib.IntN.{ℤ}
+use borrow.Author.Tests.{eq-eqb, ne-eqb}
 use Rattle.lending.specs.Rest.{State}
 use Rattle.lending.specs.Lending.{Lent, placedLent}
 use Rattle.board.specs.declared.Board.{Board}
@@ -16,11 +16,14 @@ use Rattle.board.specs.Promise.{stateIn, handedAs, Reached}
 use Rattle.board.specs.Unique.{AllowsTotals}
 use Rattle.host_words.specs.Words.{resultOf, issueOver, whoOver, branchOver}
 use Rattle.host_changes.proofs.Laws.{leaves}
-use Rattle.host_placing.specs.Placing.{offBoard, nodeAt, rolesOf, isList, placingOf, Placed}
+use Rattle.roles.specs.Roles.{rolesOf}
+use Rattle.host_placing.specs.Placing.{isList, placingOf, Placed}
 
-pub places : {a : Answered} (s : State) (card : ℤ) (nodes : List ℤ) {card° : ℤ} {roles t′ : List ℤ} {i i′ w w′ k k′ r : ℕ} →
+pub places : {a : Answered} (s : State) (card : ℤ) (nodes : List ℤ) {card° : ℤ} {roles t′ : List ℤ}
+    {i i′ w w′ k k′ r : ℕ} →
     isList nodes ≡ true → card° ≡ card → roles ≡ rolesOf nodes → AllowsTotals (placedLent s card° roles) a t′ →
-    (r ≡ resultOf (a .answer)) × ((i′ ≡ issueOver (a .answer) i) × ((w′ ≡ whoOver (a .answer) w) × (k′ ≡ branchOver (a .answer) k))) →
+    (r ≡ resultOf (a .answer))
+    × ((i′ ≡ issueOver (a .answer) i) × ((w′ ≡ whoOver (a .answer) w) × (k′ ≡ branchOver (a .answer) k))) →
     Placed (placingOf s card nodes) (a .board) t′ i i′ w w′ k k′ r
 unfolding placingOf
 places {a} s card nodes {card°} {roles} {t′} {i} {i′} {w} {w′} {k} on e f p q =
@@ -51,20 +54,8 @@ places-none b v t card nodes i w k h off =
 -- ---- a list of nodes
 
 module _ (nodes : List ℤ) where
-  pub node-there : (k : ℕ) {x : ℤ} → k < length nodes → x ≡ getD nodes k (pos 0) → x ≡ nodeAt nodes k
-  node-there k h e = rw (lt-ltb k (length nodes) h) e
-
-  pub node-off : (k : ℕ) → length nodes ≤ k → offBoard ≡ nodeAt nodes k
-  node-off k h = rw (le-ltb k (length nodes) h)
-
   pub list-short : length nodes ≡ 7 → true ≡ isList nodes
   list-short h = rw (eq-eqb (length nodes) 7 h)
 
   pub list-long : (length nodes ≡ 7 → ⊥) → eqb (length nodes) 11 ≡ isList nodes
   list-long h = rw (ne-eqb (length nodes) 7 h)
-
-  pub all-roles : {x0 x1 x2 x3 x4 x5 x6 x7 x8 x9 x10 : ℤ} → x0 ≡ nodeAt nodes 0 → x1 ≡ nodeAt nodes 1 →
-      x2 ≡ nodeAt nodes 2 → x3 ≡ nodeAt nodes 3 → x4 ≡ nodeAt nodes 4 → x5 ≡ nodeAt nodes 5 → x6 ≡ nodeAt nodes 6 →
-      x7 ≡ nodeAt nodes 7 → x8 ≡ nodeAt nodes 8 → x9 ≡ nodeAt nodes 9 → x10 ≡ nodeAt nodes 10 →
-      x0 ∷ x1 ∷ x2 ∷ x3 ∷ x4 ∷ x5 ∷ x6 ∷ x7 ∷ x8 ∷ x9 ∷ x10 ∷ [] ≡ rolesOf nodes
-  all-roles e0 e1 e2 e3 e4 e5 e6 e7 e8 e9 e10 = rw (e0, e1, e2, e3, e4, e5, e6, e7, e8, e9, e10)

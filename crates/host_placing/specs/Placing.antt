@@ -1,44 +1,19 @@
 -- What a host's call that stands a transistor on a board leaves: its result, the board, the totals and the lent places.
 use mathlib.Core.Path.{_≡_}
 use mathlib.Core.Bool.{Bool, true, false, _||_}
-use mathlib.Core.List.{List, [], _∷_}
+use mathlib.Core.List.{List}
 use Prim.Native.Nat.{ℕ}
-use lib.Dec.{eqb, ltb}
-use lib.ListN.{length, getD}
-use lib.IntN.{ℤ, pos, negsuc}
+use lib.Dec.{eqb}
+use lib.ListN.{length}
+use lib.IntN.{ℤ}
 use Rattle.refusal.specs.declared.Refusal.the-variants.{Malformed}
+use Rattle.roles.specs.Roles.{rolesOf}
 use Rattle.lending.specs.Rest.{State}
 use Rattle.lending.specs.Lending.{Lent, refuse, placedLent}
 use Rattle.board.specs.declared.Board.{Board}
 use Rattle.board.specs.Promise.{handedAs}
 use Rattle.host_words.specs.Words.{issueOver, whoOver, branchOver}
 use Rattle.host_changes.specs.Changes.{Leaves}
-
--- the nodes of the eleven roles, from a list of them: a role that it has not is off the board
-abbrev pub offBoard : ℤ
-offBoard = negsuc 0
-
-abbrev pub nodeIf : Bool → ℤ → ℤ
-nodeIf true n = n
-nodeIf false n = offBoard
-
-abbrev pub nodeAt : List ℤ → ℕ → ℤ
-nodeAt nodes k = nodeIf (ltb k (length nodes)) (getD nodes k (pos 0))
-
-abbrev pub rolesOf : List ℤ → List ℤ
-rolesOf n =
-    nodeAt n 0
-    ∷ nodeAt n 1
-    ∷ nodeAt n 2
-    ∷ nodeAt n 3
-    ∷ nodeAt n 4
-    ∷ nodeAt n 5
-    ∷ nodeAt n 6
-    ∷ nodeAt n 7
-    ∷ nodeAt n 8
-    ∷ nodeAt n 9
-    ∷ nodeAt n 10
-    ∷ []
 
 -- a list of nodes has seven of them, or eleven
 abbrev pub isList : List ℤ → Bool

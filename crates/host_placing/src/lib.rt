@@ -1,39 +1,14 @@
-// What a host's call does that stands a transistor on a board. It takes the board by value, and after it what the host lends; it gives the next board beside the result of the call, 0 or a refusal's number.
+// What a host's call does that stands a transistor on a board. It takes the board by value, and after it what the host
+// lends; it gives the next board beside the result of the call, 0 or a refusal's number.
 ghost use mathlib.Core.Path.{_≡_};
 ghost use Rattle.board.specs.Promise.{stateIn, Reached};
-ghost use Rattle.host_placing.specs.Placing.{nodeAt, rolesOf, isList, placingOf, Placed};
+ghost use Rattle.host_placing.specs.Placing.{isList, placingOf, Placed};
 use board::Board;
 use host_changes::Outcome;
 use terms::ROLES;
 
 // A list of nodes without those of the leads.
 const INNER: usize = 7;
-
-// The node of role k in a list of nodes, or one that is off the board.
-fn node_at(nodes: &[i64], k: usize) -> i64
-    ensures { λ r. ⌜ r ≡ nodeAt (now (nodes .entry)) k ⌝ }
-{
-    if k < nodes.len() { nodes[k] } else { -1 }
-}
-
-// The nodes of all roles.
-fn roles_of(nodes: &[i64]) -> [i64; ROLES]
-    ensures { λ r. ⌜ r ≡ rolesOf (now (nodes .entry)) ⌝ }
-{
-    [
-        node_at(nodes, 0),
-        node_at(nodes, 1),
-        node_at(nodes, 2),
-        node_at(nodes, 3),
-        node_at(nodes, 4),
-        node_at(nodes, 5),
-        node_at(nodes, 6),
-        node_at(nodes, 7),
-        node_at(nodes, 8),
-        node_at(nodes, 9),
-        node_at(nodes, 10),
-    ]
-}
 
 fn is_list(nodes: &[i64]) -> bool
     ensures { λ r. ⌜ r ≡ isList (now (nodes .entry)) ⌝ }
@@ -44,7 +19,8 @@ fn is_list(nodes: &[i64]) -> bool
     nodes.len() == ROLES
 }
 
-// A transistor on a card and on the nodes of a list, of seven or of eleven: 1 for the list. Its number goes to one lent place, who overloads in which branch to two others.
+// A transistor on a card and on the nodes of a list, of seven or of eleven: 1 for the list. Its number goes to one lent
+// place, who overloads in which branch to two others.
 pub fn place(
     board: Board,
     volts: &[i64],
@@ -56,10 +32,12 @@ pub fn place(
     branch: &mut u32,
 ) -> Outcome
     requires { ⌜ Reached board ⌝ }
-    ensures { λ r. ⌜ Placed (placingOf (stateIn board (now (volts .entry)) (now (totals .entry))) card (now (nodes .entry))) (r .board) (now (totals .exit)) (now (issue .entry)) (now (issue .exit)) (now (who .entry)) (now (who .exit)) (now (branch .entry)) (now (branch .exit)) (r .code) ⌝ }
+    ensures { λ r. ⌜ Placed (placingOf (stateIn board (now (volts .entry)) (now (totals .entry))) card
+        (now (nodes .entry))) (r .board) (now (totals .exit)) (now (issue .entry)) (now (issue .exit))
+        (now (who .entry)) (now (who .exit)) (now (branch .entry)) (now (branch .exit)) (r .code) ⌝ }
 {
     if is_list(nodes) {
-        let placed = board.place(volts, totals, card, roles_of(nodes));
+        let placed = board.place(volts, totals, card, roles::roles_of(nodes));
         let answer = placed.answer;
         let with_one = placed.board;
         let code = host_words::tell_placed(answer, issue, who, branch);

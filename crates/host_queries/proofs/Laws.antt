@@ -98,10 +98,12 @@ module _ {a : Answered} where
 
   pub sums-up : (b : Board) (n : ℤ) {n° : ℤ} {t t′ c c′ l l′ r : ℕ} → n° ≡ n →
       Allows (summedOf (bare (modelOf b)) n°) a →
-      (r ≡ resultOf (a .answer)) × ((t′ ≡ transistorsOver (a .answer) t) × ((c′ ≡ cardsOver (a .answer) c) × (l′ ≡ largestOver (a .answer) l))) →
+      (r ≡ resultOf (a .answer))
+      × ((t′ ≡ transistorsOver (a .answer) t) × ((c′ ≡ cardsOver (a .answer) c) × (l′ ≡ largestOver (a .answer) l))) →
       SummedUp (summedOf (bare (modelOf b)) n) t t′ c c′ l l′ r
   sums-up b n {n°} {t} {t′} {c} {c′} {l} e p q =
-      let f : a ≡ givenAs (summedOf (bare (modelOf b)) n) = p .0 ∙ ap (λ (z : ℤ). givenAs (summedOf (bare (modelOf b)) z)) e in
+      let f : a ≡ givenAs (summedOf (bare (modelOf b)) n) =
+      p .0 ∙ ap (λ (z : ℤ). givenAs (summedOf (bare (modelOf b)) z)) e in
       record {
         result = q .0 ∙ ap (λ (x : Answered). resultOf (x .answer)) f;
         transistors = q .1 .0 ∙ ap (λ (x : Answered). transistorsOver (x .answer) t) f;

@@ -1,4 +1,5 @@
-// What a host's calls do that ask a library: it is read out into lent buffers, and a card is found in it. The result is 0 or a refusal's number, and a refusal leaves every lent place as it was.
+// What a host's calls do that ask a library: it is read out into lent buffers, and a card is found in it. The result is
+// 0 or a refusal's number, and a refusal leaves every lent place as it was.
 ghost use mathlib.Core.Path.{_≡_};
 ghost use Rattle.refusal.specs.Order.{numberTold};
 ghost use Rattle.finding.specs.Answers.{verdictLocated};
@@ -35,7 +36,8 @@ fn version_over(a: Reading, had: u32) -> u32
     }
 }
 
-// The names and the words of a library go to the start of two buffers, the count of its cards and its version to two places: 1, 2, 3, 5.
+// The names and the words of a library go to the start of two buffers, the count of its cards and its version to two
+// places: 1, 2, 3, 5.
 pub fn read(
     library: &[u8],
     names: &mut [u8],
@@ -43,7 +45,8 @@ pub fn read(
     cards: &mut u32,
     version: &mut u32,
 ) -> u32
-    ensures { λ r. ⌜ ReadOut (now (library .entry)) (now (names .entry)) (now (names .exit)) (now (words .entry)) (now (words .exit)) (now (cards .entry)) (now (cards .exit)) (now (version .entry)) (now (version .exit)) r ⌝ }
+    ensures { λ r. ⌜ ReadOut (now (library .entry)) (now (names .entry)) (now (names .exit)) (now (words .entry))
+        (now (words .exit)) (now (cards .entry)) (now (cards .exit)) (now (version .entry)) (now (version .exit)) r ⌝ }
 {
     let a = library::read(library, names, words);
     let cards_was = *cards;
@@ -83,7 +86,8 @@ fn size_over(a: Located, had: usize) -> usize
 
 // The place of a card's record in a library and its count of bytes, by the card's name: 1, 2, 3, 2, 4.
 pub fn find(library: &[u8], name: &[u8], at: &mut usize, size: &mut usize) -> u32
-    ensures { λ r. ⌜ Found (now (library .entry)) (now (name .entry)) (now (at .entry)) (now (at .exit)) (now (size .entry)) (now (size .exit)) r ⌝ }
+    ensures { λ r. ⌜ Found (now (library .entry)) (now (name .entry)) (now (at .entry)) (now (at .exit))
+        (now (size .entry)) (now (size .exit)) r ⌝ }
 {
     let a = library::locate(library, name);
     let at_was = *at;

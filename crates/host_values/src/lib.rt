@@ -1,7 +1,9 @@
-// The values that the board answers a question with, in lent places, as a host in another language takes them: a node's numbers, how many were listed, a node summed up. Each place is left as it was where the answer has no such value.
+// The values that the board answers a question with, in lent places, as a host in another language takes them: a node's
+// numbers, how many were listed, a node summed up. Each place is left as it was where the answer has no such value.
 ghost use mathlib.Core.Path.{_≡_};
 ghost use Rattle.host_words.specs.Words.{resultOf};
-ghost use Rattle.host_values.specs.Values.{voltageOver, totalOver, countOver, transistorsOver, cardsOver, largestOver};
+ghost use Rattle.host_values.specs.Values.{voltageOver, totalOver, countOver};
+ghost use Rattle.host_values.specs.Values.{transistorsOver, cardsOver, largestOver};
 use model::Answer;
 
 fn voltage_over(a: Answer, was: i64) -> i64

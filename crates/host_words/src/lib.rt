@@ -1,4 +1,6 @@
-// The board's answers in plain numbers, as a host in another language takes them: the result of a call, 0 or a refusal's number; and in lent places an issue number and who overloads in which branch, each left as it was where the answer has no such value.
+// The board's answers in plain numbers, as a host in another language takes them: the result of a call, 0 or a
+// refusal's number; and in lent places an issue number and who overloads in which branch, each left as it was where the
+// answer has no such value.
 ghost use mathlib.Core.Path.{_≡_};
 ghost use Rattle.host_words.specs.Words.{resultOf, whoIn, branchIn, whoOver, branchOver, issueOver};
 use model::Answer;

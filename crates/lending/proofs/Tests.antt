@@ -1,5 +1,5 @@
--- What judging the totals tells: whether one would leave 64 bits, so that all stay, and where none would, all of them as
--- they stand then.
+-- What judging the totals tells: whether one would leave 64 bits, so that all stay, and where none would, all of them
+-- as they stand then.
 use mathlib.Core.Path.{_≡_, refl, sym, _∙_}
 use mathlib.Core.Bool.{Bool, true, false, not}
 use mathlib.Core.List.{List}

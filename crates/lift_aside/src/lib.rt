@@ -1,5 +1,5 @@
-// Lifting kept out of its callers: a function that calls itself is never written into them, so that none of a call's stores
-// stand between a board and its copy there.
+// Lifting kept out of its callers: a function that calls itself is never written into them, so that none of a call's
+// stores stand between a board and its copy there.
 ghost use mathlib.Core.Path.{_≡_};
 ghost use Rattle.lending.specs.Rest.{Rest};
 ghost use Rattle.lending.specs.Lending.{liftedLent};
@@ -22,8 +22,13 @@ fn lift_apart(
     totals: &mut [i64],
     transistor: i64,
 ) -> Answer
-    requires { ⌜ ((r : Rest) × Reached r × LendsStanding r (now issues) (now cards) (now seats) (now nodes) (now naming) (now currents)) ⌝ }
-    ensures { λ a. ⌜ ((r : Rest) → Reached r → LendsStanding r (now (issues .entry)) (now (cards .entry)) (now (seats .entry)) (now (nodes .entry)) (now (naming .entry)) (now (currents .entry)) → LeavesPlaces (liftedLent (stateWith r (now (volts .entry)) (now (totals .entry))) transistor) a (now (issues .exit)) (now (cards .exit)) (now (seats .exit)) (now (nodes .exit)) (now (naming .exit)) (now (totals .exit)) (now (currents .exit)) (r .next)) ⌝ }
+    requires { ⌜ ((r : Rest) × Reached r × LendsStanding r (now issues) (now cards) (now seats) (now nodes) (now naming)
+        (now currents)) ⌝ }
+    ensures { λ a. ⌜ ((r : Rest) → Reached r → LendsStanding r (now (issues .entry))
+        (now (cards .entry)) (now (seats .entry)) (now (nodes .entry)) (now (naming .entry)) (now (currents .entry)) →
+        LeavesPlaces (liftedLent (stateWith r (now (volts .entry)) (now (totals .entry))) transistor)
+        a (now (issues .exit)) (now (cards .exit)) (now (seats .exit)) (now (nodes .exit)) (now (naming .exit))
+        (now (totals .exit)) (now (currents .exit)) (r .next)) ⌝ }
     ensures { λ _. ⌜ now (turn .exit) ≡ turns ⌝ }
 {
     *turn = turns;
@@ -70,8 +75,13 @@ pub fn lift(
     totals: &mut [i64],
     transistor: i64,
 ) -> Answer
-    requires { ⌜ ((r : Rest) × Reached r × LendsStanding r (now issues) (now cards) (now seats) (now nodes) (now naming) (now currents)) ⌝ }
-    ensures { λ a. ⌜ ((r : Rest) → Reached r → LendsStanding r (now (issues .entry)) (now (cards .entry)) (now (seats .entry)) (now (nodes .entry)) (now (naming .entry)) (now (currents .entry)) → LeavesPlaces (liftedLent (stateWith r (now (volts .entry)) (now (totals .entry))) transistor) a (now (issues .exit)) (now (cards .exit)) (now (seats .exit)) (now (nodes .exit)) (now (naming .exit)) (now (totals .exit)) (now (currents .exit)) (r .next)) ⌝ }
+    requires { ⌜ ((r : Rest) × Reached r × LendsStanding r (now issues) (now cards) (now seats) (now nodes) (now naming)
+        (now currents)) ⌝ }
+    ensures { λ a. ⌜ ((r : Rest) → Reached r → LendsStanding r (now (issues .entry))
+        (now (cards .entry)) (now (seats .entry)) (now (nodes .entry)) (now (naming .entry)) (now (currents .entry)) →
+        LeavesPlaces (liftedLent (stateWith r (now (volts .entry)) (now (totals .entry))) transistor)
+        a (now (issues .exit)) (now (cards .exit)) (now (seats .exit)) (now (nodes .exit)) (now (naming .exit))
+        (now (totals .exit)) (now (currents .exit)) (r .next)) ⌝ }
 {
     let turns = issues[0] >> 30;
     let mut turn = 0u32;

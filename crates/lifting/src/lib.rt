@@ -10,7 +10,8 @@ use terms::BRANCHES;
 use terms::ROLES;
 use totals::NODES;
 
-// 13 for the slices, 12, then 10 for a total that would leave the 64-bit range. What the transistor holds goes out, so that nothing is worked.
+// 13 for the slices, 12, then 10 for a total that would leave the 64-bit range. What the transistor holds goes out, so
+// that nothing is worked.
 pub fn lift(
     issues: &mut [u32; places::TRANSISTORS],
     cards: &mut [u32; places::TRANSISTORS],
@@ -22,8 +23,13 @@ pub fn lift(
     totals: &mut [i64],
     transistor: i64,
 ) -> Answer
-    requires { ⌜ ((r : Rest) × Reached r × LendsStanding r (now issues) (now cards) (now seats) (now nodes) (now naming) (now currents)) ⌝ }
-    ensures { λ a. ⌜ ((r : Rest) → Reached r → LendsStanding r (now (issues .entry)) (now (cards .entry)) (now (seats .entry)) (now (nodes .entry)) (now (naming .entry)) (now (currents .entry)) → LeavesPlaces (liftedLent (stateWith r (now (volts .entry)) (now (totals .entry))) transistor) a (now (issues .exit)) (now (cards .exit)) (now (seats .exit)) (now (nodes .exit)) (now (naming .exit)) (now (totals .exit)) (now (currents .exit)) (r .next)) ⌝ }
+    requires { ⌜ ((r : Rest) × Reached r × LendsStanding r (now issues) (now cards) (now seats) (now nodes) (now naming)
+        (now currents)) ⌝ }
+    ensures { λ a. ⌜ ((r : Rest) → Reached r → LendsStanding r (now (issues .entry))
+        (now (cards .entry)) (now (seats .entry)) (now (nodes .entry)) (now (naming .entry)) (now (currents .entry)) →
+        LeavesPlaces (liftedLent (stateWith r (now (volts .entry)) (now (totals .entry))) transistor)
+        a (now (issues .exit)) (now (cards .exit)) (now (seats .exit)) (now (nodes .exit)) (now (naming .exit))
+        (now (totals .exit)) (now (currents .exit)) (r .next)) ⌝ }
 {
     if !keeping::good_slices(volts, totals) {
         return Answer::Refused(Refusal::OutOfRange);

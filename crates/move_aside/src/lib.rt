@@ -1,5 +1,5 @@
-// Moving kept out of its callers: a function that calls itself is never written into them, so that none of a call's stores
-// stand between a board and its copy there.
+// Moving kept out of its callers: a function that calls itself is never written into them, so that none of a call's
+// stores stand between a board and its copy there.
 ghost use mathlib.Core.Path.{_≡_};
 ghost use Rattle.lending.specs.Rest.{Rest};
 ghost use Rattle.lending.specs.Lending.{movedLent};
@@ -26,8 +26,12 @@ fn move_apart(
     naming: &[u64; NODES],
     pairs: &[i64],
 ) -> Answer
-    requires { ⌜ ((r : Rest) × Reached r × Lends r (now numbers) (now powers) (now ticks) (now switches) (now issues) (now seats) (now nodes) (now naming) (now currents)) ⌝ }
-    ensures { λ a. ⌜ ((r : Rest) → Reached r → Lends r (now (numbers .entry)) (now (powers .entry)) (now (ticks .entry)) (now (switches .entry)) (now (issues .entry)) (now (seats .entry)) (now (nodes .entry)) (now (naming .entry)) (now (currents .entry)) → LeavesLevels (movedLent (stateWith r (now (volts .entry)) (now (totals .entry))) (now (pairs .entry))) a (now (volts .exit)) (now (totals .exit)) (now (currents .exit))) ⌝ }
+    requires { ⌜ ((r : Rest) × Reached r × Lends r (now numbers) (now powers) (now ticks) (now switches) (now issues)
+        (now seats) (now nodes) (now naming) (now currents)) ⌝ }
+    ensures { λ a. ⌜ ((r : Rest) → Reached r → Lends r (now (numbers .entry)) (now (powers .entry)) (now (ticks .entry))
+        (now (switches .entry)) (now (issues .entry)) (now (seats .entry)) (now (nodes .entry)) (now (naming .entry))
+        (now (currents .entry)) → LeavesLevels (movedLent (stateWith r (now (volts .entry)) (now (totals .entry)))
+        (now (pairs .entry))) a (now (volts .exit)) (now (totals .exit)) (now (currents .exit))) ⌝ }
     ensures { λ _. ⌜ now (turn .exit) ≡ turns ⌝ }
 {
     *turn = turns;
@@ -83,8 +87,12 @@ pub fn move_all(
     naming: &[u64; NODES],
     pairs: &[i64],
 ) -> Answer
-    requires { ⌜ ((r : Rest) × Reached r × Lends r (now numbers) (now powers) (now ticks) (now switches) (now issues) (now seats) (now nodes) (now naming) (now currents)) ⌝ }
-    ensures { λ a. ⌜ ((r : Rest) → Reached r → Lends r (now (numbers .entry)) (now (powers .entry)) (now (ticks .entry)) (now (switches .entry)) (now (issues .entry)) (now (seats .entry)) (now (nodes .entry)) (now (naming .entry)) (now (currents .entry)) → LeavesLevels (movedLent (stateWith r (now (volts .entry)) (now (totals .entry))) (now (pairs .entry))) a (now (volts .exit)) (now (totals .exit)) (now (currents .exit))) ⌝ }
+    requires { ⌜ ((r : Rest) × Reached r × Lends r (now numbers) (now powers) (now ticks) (now switches) (now issues)
+        (now seats) (now nodes) (now naming) (now currents)) ⌝ }
+    ensures { λ a. ⌜ ((r : Rest) → Reached r → Lends r (now (numbers .entry)) (now (powers .entry)) (now (ticks .entry))
+        (now (switches .entry)) (now (issues .entry)) (now (seats .entry)) (now (nodes .entry)) (now (naming .entry))
+        (now (currents .entry)) → LeavesLevels (movedLent (stateWith r (now (volts .entry)) (now (totals .entry)))
+        (now (pairs .entry))) a (now (volts .exit)) (now (totals .exit)) (now (currents .exit))) ⌝ }
 {
     let turns = issues[0] >> 30;
     let mut turn = 0u32;

@@ -21,7 +21,8 @@ use Rattle.places.specs.Sets.{member}
 use Rattle.places.specs.laws.Members.{member-set}
 use Rattle.flows.specs.inner.Workable.{deckOf}
 use Rattle.settle.specs.declared.Judgement.{Judgement}
-use Rattle.settle.specs.inner.Working.{cardAt, nodesAt, heldAt, Round, roundOf, gained, overOf, newAt, firstSo, heldFrom}
+use Rattle.settle.specs.inner.Working.{cardAt, nodesAt, heldAt, Round, roundOf}
+use Rattle.settle.specs.inner.Working.{gained, overOf, newAt, firstSo, heldFrom}
 use Rattle.settle.specs.inner.Working.{standing, isTaken, Settling, Settled}
 use Rattle.settle.specs.laws.Firsts.{first-same}
 use Rattle.settle.specs.laws.Changes.{changes-same}
@@ -121,8 +122,8 @@ module _ (b : Board) (g : Ground b) (pairs : List ℤ) (good : arePairs pairs �
             };
         able =
             λ i h m. let t = sym (worked-is i h) ∙ m in
-            rw (nodes-there b i h, ← (ap (λ (u : Transistor). u .seat) (stands-there b i h))) (able-at b (g .footing) i h
-            (stands i t));
+            rw (nodes-there b i h, ← (ap (λ (u : Transistor). u .seat) (stands-there b i h)))
+            (able-at b (g .footing) i h (stands i t));
         small = λ i h m. rw (held-there b i h) (held-small b (g .footing) i h (stands i (sym (worked-is i h) ∙ m)));
         long = g .totals-long;
       }

@@ -1,6 +1,6 @@
-// Moving nodes together on a board's arrays, lent one by one beside the two slices: it tests, works each transistor that
-// names one of the nodes once, judges the totals as they would stand, and writes when nothing can be refused any more, so
-// that a refusal leaves all as it was.
+// Moving nodes together on a board's arrays, lent one by one beside the two slices: it tests, works each transistor
+// that names one of the nodes once, judges the totals as they would stand, and writes when nothing can be refused any
+// more, so that a refusal leaves all as it was.
 ghost use mathlib.Core.Path.{_≡_};
 ghost use Rattle.lending.specs.Rest.{Rest};
 ghost use Rattle.lending.specs.Lending.{movedLent};
@@ -28,7 +28,8 @@ fn answer_to(told: Judgement) -> Answer
     Answer::Refused(Refusal::OutOfReach)
 }
 
-// 13 for the slices, 1, 13 for any pair, then 15 or 18 for the first of the transistors that would overload at the end, and 10 for a total that would leave the 64-bit range.
+// 13 for the slices, 1, 13 for any pair, then 15 or 18 for the first of the transistors that would overload at the end,
+// and 10 for a total that would leave the 64-bit range.
 pub fn move_all(
     volts: &mut [i64],
     totals: &mut [i64],
@@ -43,8 +44,12 @@ pub fn move_all(
     naming: &[u64; NODES],
     pairs: &[i64],
 ) -> Answer
-    requires { ⌜ ((r : Rest) × Reached r × Lends r (now numbers) (now powers) (now ticks) (now switches) (now issues) (now seats) (now nodes) (now naming) (now currents)) ⌝ }
-    ensures { λ a. ⌜ ((r : Rest) → Reached r → Lends r (now (numbers .entry)) (now (powers .entry)) (now (ticks .entry)) (now (switches .entry)) (now (issues .entry)) (now (seats .entry)) (now (nodes .entry)) (now (naming .entry)) (now (currents .entry)) → LeavesLevels (movedLent (stateWith r (now (volts .entry)) (now (totals .entry))) (now (pairs .entry))) a (now (volts .exit)) (now (totals .exit)) (now (currents .exit))) ⌝ }
+    requires { ⌜ ((r : Rest) × Reached r × Lends r (now numbers) (now powers) (now ticks) (now switches) (now issues)
+        (now seats) (now nodes) (now naming) (now currents)) ⌝ }
+    ensures { λ a. ⌜ ((r : Rest) → Reached r → Lends r (now (numbers .entry)) (now (powers .entry)) (now (ticks .entry))
+        (now (switches .entry)) (now (issues .entry)) (now (seats .entry)) (now (nodes .entry)) (now (naming .entry))
+        (now (currents .entry)) → LeavesLevels (movedLent (stateWith r (now (volts .entry)) (now (totals .entry)))
+        (now (pairs .entry))) a (now (volts .exit)) (now (totals .exit)) (now (currents .exit))) ⌝ }
 {
     let mut will = [volts::ZERO; NODES];
     if !keeping::keep_slices(&mut will, volts, totals) {

@@ -24,6 +24,10 @@ pub then : {a b old mid new : List ℕ} {at on end : ℕ} → Writes a old at mi
 then {a} {b} {old} {at = at} p q =
     record { written = q .written ∙ ap (λ (x : Page). withBytes x b) (p .written) ∙ sym (write-two (page old at) a b) }
 
+pub write-nothing : {old : List ℕ} {at : ℕ} → Writes [] old at old at
+unfolding withBytes
+write-nothing = record { written = refl }
+
 -- ---- the page keeps its length
 
 byte-long : (t : Bool) (p : Page) (b : ℕ) → length (byteIf t p b .bytes) ≡ length (p .bytes)

@@ -1,5 +1,5 @@
-// Placing kept out of its callers: a function that calls itself is never written into them, so that none of a call's stores
-// stand between a board and its copy there.
+// Placing kept out of its callers: a function that calls itself is never written into them, so that none of a call's
+// stores stand between a board and its copy there.
 ghost use mathlib.Core.Path.{_≡_};
 ghost use Rattle.lending.specs.Rest.{Rest};
 ghost use Rattle.lending.specs.Lending.{placedLent};
@@ -30,8 +30,14 @@ fn place_apart(
     card: i64,
     roles: [i64; ROLES],
 ) -> Answer
-    requires { ⌜ ((r : Rest) × Reached r × LendsPlaces r (now numbers) (now powers) (now ticks) (now switches) (now held) (now issues) (now cards) (now seats) (now nodes) (now naming) (now currents) (now next)) ⌝ }
-    ensures { λ a. ⌜ ((r : Rest) → Reached r → LendsPlaces r (now (numbers .entry)) (now (powers .entry)) (now (ticks .entry)) (now (switches .entry)) (now (held .entry)) (now (issues .entry)) (now (cards .entry)) (now (seats .entry)) (now (nodes .entry)) (now (naming .entry)) (now (currents .entry)) (now (next .entry)) → LeavesPlaces (placedLent (stateWith r (now (volts .entry)) (now (totals .entry))) card roles) a (now (issues .exit)) (now (cards .exit)) (now (seats .exit)) (now (nodes .exit)) (now (naming .exit)) (now (totals .exit)) (now (currents .exit)) (now (next .exit))) ⌝ }
+    requires { ⌜ ((r : Rest) × Reached r × LendsPlaces r (now numbers) (now powers) (now ticks) (now switches)
+        (now held) (now issues) (now cards) (now seats) (now nodes) (now naming) (now currents) (now next)) ⌝ }
+    ensures { λ a. ⌜ ((r : Rest) → Reached r → LendsPlaces r (now (numbers .entry)) (now (powers .entry))
+        (now (ticks .entry)) (now (switches .entry)) (now (held .entry)) (now (issues .entry)) (now (cards .entry))
+        (now (seats .entry)) (now (nodes .entry)) (now (naming .entry)) (now (currents .entry)) (now (next .entry)) →
+        LeavesPlaces (placedLent (stateWith r (now (volts .entry)) (now (totals .entry))) card roles)
+        a (now (issues .exit)) (now (cards .exit)) (now (seats .exit)) (now (nodes .exit)) (now (naming .exit))
+        (now (totals .exit)) (now (currents .exit)) (now (next .exit))) ⌝ }
     ensures { λ _. ⌜ now (turn .exit) ≡ turns ⌝ }
 {
     *turn = turns;
@@ -99,8 +105,14 @@ pub fn place(
     card: i64,
     roles: [i64; ROLES],
 ) -> Answer
-    requires { ⌜ ((r : Rest) × Reached r × LendsPlaces r (now numbers) (now powers) (now ticks) (now switches) (now held) (now issues) (now cards) (now seats) (now nodes) (now naming) (now currents) (now next)) ⌝ }
-    ensures { λ a. ⌜ ((r : Rest) → Reached r → LendsPlaces r (now (numbers .entry)) (now (powers .entry)) (now (ticks .entry)) (now (switches .entry)) (now (held .entry)) (now (issues .entry)) (now (cards .entry)) (now (seats .entry)) (now (nodes .entry)) (now (naming .entry)) (now (currents .entry)) (now (next .entry)) → LeavesPlaces (placedLent (stateWith r (now (volts .entry)) (now (totals .entry))) card roles) a (now (issues .exit)) (now (cards .exit)) (now (seats .exit)) (now (nodes .exit)) (now (naming .exit)) (now (totals .exit)) (now (currents .exit)) (now (next .exit))) ⌝ }
+    requires { ⌜ ((r : Rest) × Reached r × LendsPlaces r (now numbers) (now powers) (now ticks) (now switches)
+        (now held) (now issues) (now cards) (now seats) (now nodes) (now naming) (now currents) (now next)) ⌝ }
+    ensures { λ a. ⌜ ((r : Rest) → Reached r → LendsPlaces r (now (numbers .entry)) (now (powers .entry))
+        (now (ticks .entry)) (now (switches .entry)) (now (held .entry)) (now (issues .entry)) (now (cards .entry))
+        (now (seats .entry)) (now (nodes .entry)) (now (naming .entry)) (now (currents .entry)) (now (next .entry)) →
+        LeavesPlaces (placedLent (stateWith r (now (volts .entry)) (now (totals .entry))) card roles)
+        a (now (issues .exit)) (now (cards .exit)) (now (seats .exit)) (now (nodes .exit)) (now (naming .exit))
+        (now (totals .exit)) (now (currents .exit)) (now (next .exit))) ⌝ }
 {
     let turns = issues[0] >> 30;
     let mut turn = 0u32;

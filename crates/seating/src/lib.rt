@@ -10,7 +10,8 @@ use refusal::Refusal;
 use terms::ROLES;
 use totals::NODES;
 
-// 13 for the slices, 12, 13, 14, 11, 17, then 15 or 18 with the number that the transistor would have had, and 10 for a total that would leave the 64-bit range.
+// 13 for the slices, 12, 13, 14, 11, 17, then 15 or 18 with the number that the transistor would have had, and 10 for a
+// total that would leave the 64-bit range.
 pub fn place(
     issues: &mut [u32; places::TRANSISTORS],
     cards: &mut [u32; places::TRANSISTORS],
@@ -29,8 +30,14 @@ pub fn place(
     card: i64,
     roles: [i64; ROLES],
 ) -> Answer
-    requires { ⌜ ((r : Rest) × Reached r × LendsPlaces r (now numbers) (now powers) (now ticks) (now switches) (now held) (now issues) (now cards) (now seats) (now nodes) (now naming) (now currents) (now next)) ⌝ }
-    ensures { λ a. ⌜ ((r : Rest) → Reached r → LendsPlaces r (now (numbers .entry)) (now (powers .entry)) (now (ticks .entry)) (now (switches .entry)) (now (held .entry)) (now (issues .entry)) (now (cards .entry)) (now (seats .entry)) (now (nodes .entry)) (now (naming .entry)) (now (currents .entry)) (now (next .entry)) → LeavesPlaces (placedLent (stateWith r (now (volts .entry)) (now (totals .entry))) card roles) a (now (issues .exit)) (now (cards .exit)) (now (seats .exit)) (now (nodes .exit)) (now (naming .exit)) (now (totals .exit)) (now (currents .exit)) (now (next .exit))) ⌝ }
+    requires { ⌜ ((r : Rest) × Reached r × LendsPlaces r (now numbers) (now powers) (now ticks) (now switches)
+        (now held) (now issues) (now cards) (now seats) (now nodes) (now naming) (now currents) (now next)) ⌝ }
+    ensures { λ a. ⌜ ((r : Rest) → Reached r → LendsPlaces r (now (numbers .entry)) (now (powers .entry))
+        (now (ticks .entry)) (now (switches .entry)) (now (held .entry)) (now (issues .entry)) (now (cards .entry))
+        (now (seats .entry)) (now (nodes .entry)) (now (naming .entry)) (now (currents .entry)) (now (next .entry)) →
+        LeavesPlaces (placedLent (stateWith r (now (volts .entry)) (now (totals .entry))) card roles)
+        a (now (issues .exit)) (now (cards .exit)) (now (seats .exit)) (now (nodes .exit)) (now (naming .exit))
+        (now (totals .exit)) (now (currents .exit)) (now (next .exit))) ⌝ }
 {
     let mut kept = [volts::ZERO; NODES];
     if !keeping::keep_slices(&mut kept, volts, totals) {

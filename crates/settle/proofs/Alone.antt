@@ -22,7 +22,8 @@ one-small {l} on {ticks} m w = record { each = λ k h. record { size = go k h } 
   where
     is : (k : ℕ) → k < nodesMost → getD l k (pos 0) ≡ ticksGive on ticks k
     is k h =
-        m .at k h ∙ ap (λ (z : ℤ). z +ℤ ticksGive on ticks k) (getD-none (pos 0) nodesMost k) ∙ +ℤ-idl (ticksGive on ticks k)
+        m .at k h ∙ ap (λ (z : ℤ). z +ℤ ticksGive on ticks k) (getD-none (pos 0) nodesMost k)
+        ∙ +ℤ-idl (ticksGive on ticks k)
 
     go : (k : ℕ) → k < nodesMost → natAbs (getD l k (pos 0)) ≤ smallMost
     go k h = let a = ticks-small-give on ticks w k in rw (is k h) (omega arith)

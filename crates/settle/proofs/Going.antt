@@ -5,7 +5,8 @@ use mathlib.Core.Bool.{Bool, true, false, cond, not}
 use mathlib.Core.Logic.{_⊎_, inl, inr}
 use mathlib.Core.List.{List, map}
 use Prim.Native.Nat.{ℕ, zero, suc, _+_, _-_, _*_, _%_, _^_, _≤_, _<_, zero-le}
-use native.Mathlib.Nat.{suc-mul, mul-le-mul-right, lt-of-lt-of-le, zero-lt-suc, pow-le-pow-right, div-eq-of-lt, zero-div}
+use native.Mathlib.Nat.{suc-mul, mul-le-mul-right, lt-of-lt-of-le, zero-lt-suc, pow-le-pow-right}
+use native.Mathlib.Nat.{div-eq-of-lt, zero-div}
 use native.Mathlib.Numerals.{add-one}
 use native.Mathlib.Omega.{arith}
 use lib.Dec.{eqb}
@@ -184,7 +185,8 @@ module _ (r : Round) (currents : List ℤ) where
       (λ (n : ℕ). getD totals n (pos 0) +ℤ (getD coming n (pos 0) -ℤ getD going n (pos 0)))
       (λ (n : ℕ). getD totals n (pos 0) +ℤ gained r currents transistorsMost n) nodesMost 0
       (λ i h. let z : 0 + i ≡ i = omega arith in
-      rw z (ap (λ (x : ℤ). getD totals i (pos 0) +ℤ x) ((λ j. c .at i h j -ℤ g .at i h j) ∙ difference transistorsMost i)))
+      rw z (ap (λ (x : ℤ). getD totals i (pos 0) +ℤ x)
+      ((λ j. c .at i h j -ℤ g .at i h j) ∙ difference transistorsMost i)))
 
   -- from a place before on to the next of the set
   on-to : (from i : ℕ) → from ≤ transistorsMost → NextIn (r .marked) from i → {coming going : List ℤ} {first : First} →
@@ -196,7 +198,8 @@ module _ (r : Round) (currents : List ℤ) where
         is = next .is;
         comes = sums-on r (newAt r) from i h next comes;
         goes = sums-on r (heldAt currents) from i h next goes;
-        first-is = told ∙ sym (rw (sym sum) (first-past (member (r .marked)) _ _ from (i - from) (λ j p q. next .between j p
+        first-is =
+            told ∙ sym (rw (sym sum) (first-past (member (r .marked)) _ _ from (i - from) (λ j p q. next .between j p
             (rw sum at q))));
       }
     where
@@ -361,7 +364,8 @@ module _ (r : Round) (currents : List ℤ) where
           }
 
   -- as many totals as before
-  pub settled-long : {totals : List ℤ} → length totals ≡ nodesMost → {i : ℕ} {told : Judgement} {totals′ held : List ℤ} →
+  pub settled-long : {totals : List ℤ} → length totals ≡ nodesMost →
+      {i : ℕ} {told : Judgement} {totals′ held : List ℤ} →
       Settled r currents totals i told totals′ held → length totals′ ≡ length totals
   settled-long {totals} long {told = told} s = ap length (s .totals-are) ∙ go (isTaken told)
     where

@@ -25,7 +25,8 @@ use totals::NODES;
 // A set below this one has none but the first sixteen places, which give so little that all of it is small.
 const FEW: u64 = 65536;
 
-// What is held at the place i goes out at its nodes. Apart, so that a copy of it is not kept while later places are worked.
+// What is held at the place i goes out at its nodes. Apart, so that a copy of it is not kept while later places are
+// worked.
 fn put_out(going: &mut [i64; NODES], on: &[u8; ROLES], currents: &[i64; ALL_CURRENTS], i: usize)
     requires { ⌜ (i < transistorsMost)
         × Givable (now going) (now on) (stretch (pos 0) (now currents) (branches * i) branches) ⌝ }
@@ -108,8 +109,8 @@ fn settle_from(
 
 // Brings the places of the set to the new voltages: at their nodes what they hold goes out of the totals and what they
 // will have comes in, and that is held then. Tells the first of them that overloads then, and where none does whether
-// every total as it would stand is in range; where one overloads or a total is not, the totals stay and what was held is
-// held on. Where the set has no places, nothing is worked.
+// every total as it would stand is in range; where one overloads or a total is not, the totals stay and what was held
+// is held on. Where the set has no places, nothing is worked.
 pub fn settle(
     currents: &mut [i64; ALL_CURRENTS],
     totals: &mut [i64],

@@ -1,46 +1,59 @@
 // The library held, and a line obeyed that asks it or nobody. It fills the start of a buffer, and its own header says
 // how long it is. The answer is put to the bytes that wait.
+ghost use mathlib.Core.Path.{_≡_};
+ghost use lib.ListN.{take};
+ghost use Rattle.page.specs.Page.{Writes};
+ghost use Rattle.library.specs.Unique.{asReading};
+ghost use Rattle.clipped.specs.Clipped.{clipLine};
+ghost use Rattle.shelving.specs.Shelf.{heldOf, keptOver, brought, judged, libraryLine, shelfWith};
+ghost use Rattle.shelving.specs.Shelf.{mendingHeld, mendedLine, mendedShelf};
+ghost use Rattle.shelving.specs.Shelf.{wordsIf, cardPlace, clipSaid, cardClipped, modelSaid, cardModel};
+ghost use Rattle.shelving.specs.Apart.{apartSaid, apartShelf};
 use answers::Answer;
+use asks::Apart;
 use card::Clipping;
 use library::Located;
 use library::Reading;
 use line_write::Written;
 use mending::Mending;
-use page::ANSWER_ROOM;
-use saying::ROOM;
+use page::ROOM;
 use saying::part;
 use saying::put_answer;
 use saying::put_error;
-use saying::put_part;
+use saying::put_model;
 use saying::put_refused;
-use saying::puts;
-use script::Command;
-use script::Verb;
+use words::Words;
 
 // One byte more than the longest library.
 pub const MOST: usize = 53265;
 
-// Room for the longest model line, and for its newline too.
+// Room for the longest model line.
 const MODEL_ROOM: usize = 640;
 
-const LINE_ROOM: usize = 641;
-
-pub fn held(shelf: &[u8]) -> &[u8] {
+// The library held: the first bytes of the shelf, as many as its header says.
+pub fn held(shelf: &[u8]) -> &[u8]
+    ensures { λ r. ⌜ now r ≡ heldOf (now (shelf .entry)) ⌝ }
+{
     part(shelf, 0, bytes_le::u32_at(shelf, 12) as usize)
 }
 
 // How many cards a library has, or why it is none.
-fn judge(bytes: &[u8]) -> Reading {
+fn judge(bytes: &[u8]) -> Reading
+    ensures { λ r. ⌜ r ≡ asReading (judged (now (bytes .entry))) ⌝ }
+{
     let mut names = [0u8; 4096];
     let mut words = [0u64; 6144];
     library::read(bytes, &mut names, &mut words)
 }
 
-fn keep(bytes: &[u8], shelf: &mut [u8; MOST]) {
-    for i in 0..bytes.len() {
-        if i < MOST {
-            shelf[i] = bytes[i];
-        }
+// Bytes put at the start of the shelf, as many as have room.
+fn keep(bytes: &[u8], shelf: &mut [u8; MOST])
+    ensures { λ _. ⌜ now (shelf .exit) ≡ keptOver (now (bytes .entry)) (now (shelf .entry)) ⌝ }
+{
+    if MOST < bytes.len() {
+        library::copy(&bytes[0..MOST], shelf);
+    } else {
+        library::copy(bytes, shelf);
     }
 }
 
@@ -51,7 +64,11 @@ pub fn keep_library(
     held: &mut [u8; MOST],
     out: &mut [u8; ROOM],
     at: &mut usize,
-) {
+)
+    ensures { λ _. ⌜ Writes (libraryLine (judged (brought n (now (read .entry))))) (now (out .entry)) (now (at .entry))
+        (now (out .exit)) (now (at .exit))
+        × (now (held .exit) ≡ shelfWith (brought n (now (read .entry))) (now (held .entry))) ⌝ }
+{
     let bytes = part(read, 0, n);
     match judge(bytes) {
         Reading::Cards(cards, _) => {
@@ -63,7 +80,10 @@ pub fn keep_library(
 }
 
 // The library held is replaced by what mending makes of it.
-fn mend(shelf: &mut [u8; MOST], out: &mut [u8; ROOM], at: &mut usize) {
+fn mend(shelf: &mut [u8; MOST], out: &mut [u8; ROOM], at: &mut usize)
+    ensures { λ _. ⌜ Writes (mendedLine (mendingHeld (now (shelf .entry)))) (now (out .entry)) (now (at .entry))
+        (now (out .exit)) (now (at .exit)) × (now (shelf .exit) ≡ mendedShelf (now (shelf .entry))) ⌝ }
+{
     let mut mended = [0u8; MOST];
     match mending::mend(held(shelf), &mut mended) {
         Mending::Set(n) => {
@@ -74,7 +94,11 @@ fn mend(shelf: &mut [u8; MOST], out: &mut [u8; ROOM], at: &mut usize) {
     }
 }
 
-fn find(name: &[u8], library: &[u8], out: &mut [u8; ROOM], at: &mut usize) {
+// Where the record of a card begins.
+fn find(name: &[u8], library: &[u8], out: &mut [u8; ROOM], at: &mut usize)
+    ensures { λ _. ⌜ Writes (cardPlace (now (name .entry)) (now (library .entry))) (now (out .entry)) (now (at .entry))
+        (now (out .exit)) (now (at .exit)) ⌝ }
+{
     match library::locate(library, name) {
         Located::Record { at: place, size: _ } => put_answer(Answer::Offset(place), out, at),
         Located::Refused(f) => put_refused(f, out, at),
@@ -82,7 +106,9 @@ fn find(name: &[u8], library: &[u8], out: &mut [u8; ROOM], at: &mut usize) {
 }
 
 // The first n of the numbers; all of them where there are not so many.
-fn firsts(numbers: &[f64], n: usize) -> &[f64] {
+fn firsts(numbers: &[f64], n: usize) -> &[f64]
+    ensures { λ r. ⌜ now r ≡ take n (now (numbers .entry)) ⌝ }
+{
     if n < numbers.len() {
         return &numbers[0..n];
     }
@@ -90,15 +116,21 @@ fn firsts(numbers: &[f64], n: usize) -> &[f64] {
 }
 
 // A clipped record: as many numbers as it has words.
-fn put_clipping(clipping: Clipping, wide: bool, out: &mut [u8; ROOM], at: &mut usize) {
+fn put_clipping(clipping: Clipping, wide: bool, out: &mut [u8; ROOM], at: &mut usize)
+    ensures { λ _. ⌜ Writes (clipLine (clipping .mask) wide (take (wordsIf wide) (clipping .numbers)))
+        (now (out .entry)) (now (at .entry)) (now (out .exit)) (now (at .exit)) ⌝ }
+{
     let numbers = clipping.numbers;
     let count = if wide { clip::WIDTH } else { clip::NARROW };
-    let mut text = [0u8; ANSWER_ROOM];
-    let n = clipped::clip_line(clipping.mask, wide, firsts(&numbers, count), &mut text);
-    put_part(&text, n, out, at);
+    let n = clipped::clip_line(clipping.mask, wide, firsts(&numbers, count), out, *at);
+    *at = n;
 }
 
-fn clip_record(bytes: &[u8], out: &mut [u8; ROOM], at: &mut usize) {
+// The line of a record, or why it is not taken.
+fn clip_record(bytes: &[u8], out: &mut [u8; ROOM], at: &mut usize)
+    ensures { λ _. ⌜ Writes (clipSaid (now (bytes .entry))) (now (out .entry)) (now (at .entry))
+        (now (out .exit)) (now (at .exit)) ⌝ }
+{
     let clipping = card::clip(bytes);
     let answer = clipping.answer;
     match answer {
@@ -107,22 +139,22 @@ fn clip_record(bytes: &[u8], out: &mut [u8; ROOM], at: &mut usize) {
     }
 }
 
-fn clip(name: &[u8], library: &[u8], out: &mut [u8; ROOM], at: &mut usize) {
+// The line of a card's record.
+fn clip(name: &[u8], library: &[u8], out: &mut [u8; ROOM], at: &mut usize)
+    ensures { λ _. ⌜ Writes (cardClipped (now (name .entry)) (now (library .entry))) (now (out .entry))
+        (now (at .entry)) (now (out .exit)) (now (at .exit)) ⌝ }
+{
     match library::locate(library, name) {
         Located::Record { at: place, size } => clip_record(part(library, place, size), out, at),
         Located::Refused(f) => put_refused(f, out, at),
     }
 }
 
-// A model line.
-fn put_model(line: &[u8], out: &mut [u8; ROOM], at: &mut usize) {
-    let mut text = [0u8; LINE_ROOM];
-    let n = quoting::model_line(line, &mut text);
-    puts(part(&text, 0, n), out, at);
-}
-
-// The model line of a card of the library held.
-fn write_model(name: &[u8], rec: &[u8], out: &mut [u8; ROOM], at: &mut usize) {
+// The model line of a record by this name.
+fn write_model(name: &[u8], rec: &[u8], out: &mut [u8; ROOM], at: &mut usize)
+    ensures { λ _. ⌜ Writes (modelSaid (now (name .entry)) (now (rec .entry))) (now (out .entry)) (now (at .entry))
+        (now (out .exit)) (now (at .exit)) ⌝ }
+{
     let mut line = [0u8; MODEL_ROOM];
     match line_write::write_line(name, rec, &mut line) {
         Written::Bytes(n) => put_model(part(&line, 0, n), out, at),
@@ -130,7 +162,11 @@ fn write_model(name: &[u8], rec: &[u8], out: &mut [u8; ROOM], at: &mut usize) {
     }
 }
 
-fn model(name: &[u8], library: &[u8], out: &mut [u8; ROOM], at: &mut usize) {
+// The model line of a card.
+fn model(name: &[u8], library: &[u8], out: &mut [u8; ROOM], at: &mut usize)
+    ensures { λ _. ⌜ Writes (cardModel (now (name .entry)) (now (library .entry))) (now (out .entry)) (now (at .entry))
+        (now (out .exit)) (now (at .exit)) ⌝ }
+{
     match library::locate(library, name) {
         Located::Record { at: place, size } => write_model(
             name,
@@ -142,36 +178,27 @@ fn model(name: &[u8], library: &[u8], out: &mut [u8; ROOM], at: &mut usize) {
     }
 }
 
-// A line about the library held, by its first word's argument: a name, or none.
-fn obey_shelf(
-    verb: Verb,
-    word: &[u8],
-    shelf: &mut [u8; MOST],
-    out: &mut [u8; ROOM],
-    at: &mut usize,
-) {
-    match verb {
-        Verb::Find => find(word, held(shelf), out, at),
-        Verb::Mend => mend(shelf, out, at),
-        Verb::Model => model(word, held(shelf), out, at),
-        _ => clip(word, held(shelf), out, at),
-    }
-}
-
-// A line that asks nothing of the board.
+// A line of these words that asks nothing of the board.
 pub fn obey_apart(
-    c: Command,
+    what: Apart,
+    words: Words,
     line: &[u8],
     shelf: &mut [u8; MOST],
     out: &mut [u8; ROOM],
     at: &mut usize,
-) {
-    let words = c.words;
-    let verb = c.verb;
-    match verb {
-        Verb::Nothing => {}
-        Verb::TooLong => put_answer(Answer::TooLong, out, at),
-        Verb::Error => put_error(script::word(line, words, 0), out, at),
-        _ => obey_shelf(verb, script::word(line, words, 1), shelf, out, at),
+)
+    ensures { λ _. ⌜ Writes (apartSaid what words (now (line .entry)) (now (shelf .entry))) (now (out .entry))
+        (now (at .entry)) (now (out .exit)) (now (at .exit))
+        × (now (shelf .exit) ≡ apartShelf what (now (shelf .entry))) ⌝ }
+{
+    let name = words::word(line, words, 1);
+    match what {
+        Apart::Nothing => {}
+        Apart::TooLong => put_answer(Answer::TooLong, out, at),
+        Apart::Error => put_error(words::word(line, words, 0), out, at),
+        Apart::Find => find(name, held(shelf), out, at),
+        Apart::Clip => clip(name, held(shelf), out, at),
+        Apart::Mend => mend(shelf, out, at),
+        Apart::Model => model(name, held(shelf), out, at),
     }
 }

@@ -62,7 +62,8 @@ unfolding anyOf
 all-near [] e = record { each = λ k. zero-le }
 all-near (v ∷ l) e =
     let both = neither (offVolts v) (anyOf offVolts l) e in
-    let rest = all-near l (both .1) in record { each = each (keptAs v) (map keptAs l) (kept v (both .0) .near) (rest .each) }
+    let rest = all-near l (both .1) in
+    record { each = each (keptAs v) (map keptAs l) (kept v (both .0) .near) (rest .each) }
   where
     each : (x : ℕ) (xs : List ℕ) → x ≤ span → ((k : ℕ) → getD xs k 0 ≤ span) → (k : ℕ) → getD (x ∷ xs) k 0 ≤ span
     each x xs h t zero = h

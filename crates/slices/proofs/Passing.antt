@@ -23,7 +23,8 @@ use Rattle.deck.specs.laws.Stretches.{getD-none}
 use Rattle.deck.specs.laws.Ups.{length-up, getD-up}
 use Rattle.slices.specs.declared.Total.{Total}
 use Rattle.slices.specs.declared.Total.the-variants.{At, Leaves}
-use Rattle.slices.specs.Slices.{offSlices, rightLengths, KeepsVolts, Keeps, outside64, standingAt, changed, Stands, StandsIn}
+use Rattle.slices.specs.Slices.{offSlices, rightLengths, KeepsVolts, Keeps}
+use Rattle.slices.specs.Slices.{outside64, standingAt, changed, Stands, StandsIn}
 use Rattle.slices.proofs.Raised.{inside-held, same-stands}
 
 -- ---- while it is filled

@@ -7,7 +7,7 @@ use lib.ListN.{length, drop, getD, drop-of-length-le}
 use lib.Seq.{drop-cons}
 use Rattle.spelling.specs.Bytes.{space, newline}
 use Rattle.page.specs.Page.{Page, page, withBytes, Writes}
-use Rattle.page.proofs.Pages.{write-two, write-long, then}
+use Rattle.page.proofs.Pages.{write-two, write-long}
 use Rattle.spaced.specs.Spaced.{spacedLine}
 
 pub record SpacedLeft {A : Type 0} (digits : A → List ℕ) (l : List A) (old : List ℕ) (at : ℕ) (new : List ℕ) (end i : ℕ)
@@ -22,11 +22,10 @@ spaced-all = record { long = refl; same = refl }
 module _ {A : Type 0} {digits : A → List ℕ} {l : List A} {old new : List ℕ} {at end i : ℕ}
     (v : SpacedLeft digits l old at new end i) where
   -- one more, which is `none` past the last
-  pub spaced-on : (none : A) {mid next : List ℕ} {on last : ℕ} → i < length l → Writes (space ∷ []) new end mid on →
-      Writes (digits (getD l i none)) mid on next last → SpacedLeft digits l old at next last (i + 1)
+  pub spaced-on : (none : A) {next : List ℕ} {last : ℕ} → i < length l
+      → Writes (space ∷ digits (getD l i none)) new end next last → SpacedLeft digits l old at next last (i + 1)
   unfolding spacedLine
-  spaced-on none {next = next} {last = last} h p q =
-      let w : Writes (space ∷ digits (getD l i none)) new end next last = then p q in
+  spaced-on none {next = next} {last = last} h w =
       let rest = spacedLine digits (drop (suc i) l) in record {
         long = write-long w ∙ v .long;
         same =

@@ -63,13 +63,14 @@ pub fn put_totals(totals: &mut [i64], next: &[i64; NODES])
     }
 }
 
-// Each of 32 totals with what comes in at its node and less what goes out there, in place: all are written, or none where
-// one leaves the 64-bit range. Where all numbers are small, as they nearly always are, none leaves it, and no node is
-// judged by itself; that so little comes and goes is said by the caller, where it has few transistors.
+// Each of 32 totals with what comes in at its node and less what goes out there, in place: all are written, or none
+// where one leaves the 64-bit range. Where all numbers are small, as they nearly always are, none leaves it, and no
+// node is judged by itself; that so little comes and goes is said by the caller, where it has few transistors.
 pub fn stand_in(totals: &mut [i64], coming: &[i64; NODES], going: &[i64; NODES], few: bool) -> bool
     requires { ⌜ length (now totals) ≡ nodesMost ⌝ }
     requires { ⌜ (few ≡ true → Near (now coming) (now going)) ⌝ }
-    ensures { λ r. ⌜ StandsIn (now (totals .entry)) (now (coming .entry)) (now (going .entry)) r (now (totals .exit)) ⌝ }
+    ensures { λ r. ⌜ StandsIn (now (totals .entry)) (now (coming .entry)) (now (going .entry))
+        r (now (totals .exit)) ⌝ }
 {
     if small::all_small(totals, coming, going, few) {
         let mut near = [0i64; NODES];
@@ -85,11 +86,12 @@ pub fn stand_in(totals: &mut [i64], coming: &[i64; NODES], going: &[i64; NODES],
     true
 }
 
-// The same where nothing comes and nothing goes: each total stands as it is, and stays in its range, as every number does
-// that can be read; of the reading the compiler leaves nothing.
+// The same where nothing comes and nothing goes: each total stands as it is, and stays in its range, as every number
+// does that can be read; of the reading the compiler leaves nothing.
 pub fn stand_still(totals: &[i64]) -> bool
     requires { ⌜ length (now totals) ≡ nodesMost ⌝ }
-    ensures { λ r. ⌜ StandsIn (now (totals .entry)) (replicate nodesMost (pos 0)) (replicate nodesMost (pos 0)) r (now (totals .entry)) ⌝ }
+    ensures { λ r. ⌜ StandsIn (now (totals .entry)) (replicate nodesMost (pos 0)) (replicate nodesMost (pos 0))
+        r (now (totals .entry)) ⌝ }
 {
     for k in 0..NODES {
         let total = totals[k];

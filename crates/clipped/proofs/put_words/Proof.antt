@@ -9,6 +9,7 @@ use Rattle.sheet.specs.Text.{textOf}
 use Rattle.sheet.specs.Digits.{wordDigits, hexDigits}
 use Rattle.sheet.specs.laws.LinesFit.{hex-whole}
 use Rattle.clipped.specs.Clipped.{wordOf}
+use Rattle.page.proofs.Pages.{then}
 use Rattle.texts.proofs.Written.{text-written}
 use Rattle.spaced.proofs.Written.{SpacedLeft, spaced-all, spaced-on, spaced-end}
 use Rattle.clipped.proofs.put_words.Tie as tie
@@ -31,11 +32,12 @@ loop-again c =
     let d = digits c in
     let s = spaced d in
     let t = s .before .before .before in
-    spaced-on (t .before .loop .inv) nan (t .loop-test .taken) (s .put .ensures)
+    spaced-on (t .before .loop .inv) nan (t .loop-test .taken)
+    (then (s .put .ensures)
     (text-written
     (d .word-digits .ensures ∙ ap (λ (b : ℕ). textOf (hexDigits wordDigits b)) (d .before .bits .ensures))
     (hex-whole wordDigits _ (le-refl _))
-    (c .put-text .ensures))
+    (c .put-text .ensures)))
 
 returns : tie.Need-returns Inv-loop μ-loop
 returns c =

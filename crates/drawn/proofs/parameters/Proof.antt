@@ -17,7 +17,8 @@ same x e f = e ∙ ap (λ (t : Bool). cond t x zero) f
 returns : tie.Need-returns
 returns c =
     let first = c .before .before .before .before .before .before .before .before in
-    let leads = first .before .before .before .before .before .before .before .before .before .before .before .before .before in
+    let leads =
+    first .before .before .before .before .before .before .before .before .before .before .before .before .before in
     let x = leads .before .args .x .now in
     let e = leads .has-leads .ensures in
     λ i. record {

@@ -11,7 +11,8 @@ returns : tie.Need-returns
 returns c = sym (ap (λ (x : Located). numberTold (verdictLocated x)) (c .enum-told .given .1))
 
 returns-2 : tie.Need-returns-2
-returns-2 c = c .number .ensures ∙ sym (ap (λ (x : Located). numberTold (verdictLocated x)) (c .before .before .a .given .1))
+returns-2 c =
+    c .number .ensures ∙ sym (ap (λ (x : Located). numberTold (verdictLocated x)) (c .before .before .a .given .1))
 
 pub find-result-spec : {M : Type 1} → statement M
 find-result-spec =

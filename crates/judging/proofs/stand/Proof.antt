@@ -14,7 +14,8 @@ total-raised c =
     let s = c .before .before .before .before in
     raised (toZ-ofZ w64 (s .args .total) (s .fits .total)) (s .fits .total) (c .before .before .raise .ensures)
 
-coming-raised : (c : tie.After-raise3) → Raised (c .before .raise2 .result) (c .before .before .before .before .args .coming)
+coming-raised : (c : tie.After-raise3) →
+    Raised (c .before .raise2 .result) (c .before .before .before .before .args .coming)
 coming-raised c =
     let s = c .before .before .before .before in
     raised (toZ-ofZ w64 (s .args .coming) (s .fits .coming)) (s .fits .coming) (c .before .raise2 .ensures)

@@ -1,5 +1,5 @@
--- `move_all` turns away slices, what is no list and what is out of range, settles the places that name a node of a pair,
--- and writes what comes out unless that is refused.
+-- `move_all` turns away slices, what is no list and what is out of range, settles the places that name a node of a
+-- pair, and writes what comes out unless that is refused.
 use mathlib.Core.Path.{_≡_, refl, sym, ap, _∙_}
 use mathlib.Core.Bool.{Bool, true, false, not}
 use mathlib.Core.List.{List, map}

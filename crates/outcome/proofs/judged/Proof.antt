@@ -8,7 +8,8 @@ use Rattle.outcome.proofs.judged.Tie as tie
 returns : tie.Need-returns
 returns c =
     let p = c .before .before .before .before .before .before in
-    sym (low-within _ (c .before .all-digits2 .ensures) (c .if2 .taken) (p .before .all-digits .ensures) (p .if1 .taken))
+    sym (low-within _ (c .before .all-digits2 .ensures) (c .if2 .taken) (p .before .all-digits .ensures)
+    (p .if1 .taken))
 
 pub judged-spec : {M : Type 1} → statement M
 judged-spec =

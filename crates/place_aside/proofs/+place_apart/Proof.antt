@@ -1,5 +1,5 @@
--- `place_apart` places, after its own call or at once, and writes the number of its turn. The turns that are left are the
--- measure.
+-- `place_apart` places, after its own call or at once, and writes the number of its turn. The turns that are left are
+-- the measure.
 use Prim.Native.Nat.{ℕ, _<_}
 use native.Mathlib.Omega.{arith}
 use borrow.Author.Needs.{needs}

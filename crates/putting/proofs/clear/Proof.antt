@@ -52,5 +52,5 @@ returns-2 c =
 pub clear-spec : {M : Type 1} → statement M
 clear-spec =
     tie.close
-    (tie.spec (λ c κs. search needs) (λ c. search needs) (λ c. search needs) returns put-totals-requires put-totals-requires-2
-    (λ c. search needs) (λ c. search needs) returns-2)
+    (tie.spec (λ c κs. search needs) (λ c. search needs) (λ c. search needs) returns put-totals-requires
+    put-totals-requires-2 (λ c. search needs) (λ c. search needs) returns-2)

@@ -29,7 +29,8 @@ module _ (worked : ℕ → Bool) (new : ℕ → List ℤ) (held : List ℤ) wher
 
   -- the places before i keep what they hold
   before : (n i j : ℕ) → j < i →
-      stretch (pos 0) (renewed worked new held n i) (branches * j) branches ≡ stretch (pos 0) held (branches * j) branches
+      stretch (pos 0) (renewed worked new held n i) (branches * j) branches
+      ≡ stretch (pos 0) held (branches * j) branches
   unfolding renewed
   before zero i j h = refl
   before (suc n) i j h = go (worked i) (before n (suc i) j (omega arith))

@@ -100,7 +100,8 @@ module _ (t : ℕ) where
   returns : lts.Need-returns (callees t) (settle-from-at t) settle-from.Post
   returns c =
       let o = c .before in
-      gone-over _ _ (o .before .before .pre .1 .gone) (o .before .if1 .taken) (sym (o .is-over .ensures) ∙ c .if2 .taken)
+      gone-over _ _ (o .before .before .pre .1 .gone) (o .before .if1 .taken)
+      (sym (o .is-over .ensures) ∙ c .if2 .taken)
 
   stand-in-requires : lts.Need-stand-in-requires (callees t) (settle-from-at t) settle-from.Post
   stand-in-requires c κs =
@@ -144,8 +145,10 @@ module _ (t : ℕ) where
   put-out-requires : lts.Need-put-out-requires (callees t) (settle-from-at t) settle-from.Post
   put-out-requires c κs =
       let w = c .before .before .before in
-      let g = left w .before .pre .1 in
-      (left w .if1 .left, gone-goes _ _ (g .settling) (g .gone) (left w .if1 .left) (found w .nodes-at .ensures) refl .0)
+      let g = left w .before .pre .1 in (
+        left w .if1 .left,
+        gone-goes _ _ (g .settling) (g .gone) (left w .if1 .left) (found w .nodes-at .ensures) refl .0,
+      )
 
   put-in-requires : lts.Need-put-in-requires (callees t) (settle-from-at t) settle-from.Post
   put-in-requires c κs =

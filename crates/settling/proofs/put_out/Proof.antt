@@ -23,7 +23,8 @@ put-in-requires c κs =
 
 returns : tie.Need-returns
 returns c =
-    let a = c .before .before .before in more-as (a .before .args .on .now) (a .currents-at .ensures) (c .put-in .ensures)
+    let a = c .before .before .before in
+    more-as (a .before .args .on .now) (a .currents-at .ensures) (c .put-in .ensures)
 
 pub put-out-spec : {M : Type 1} → statement M
 put-out-spec = tie.close (tie.spec (λ c κs. c .pre .0) put-in-requires returns)

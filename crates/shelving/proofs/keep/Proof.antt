@@ -1,47 +1,20 @@
--- The loop passes the bytes one by one.
+-- More bytes than have room are cut, and all others are kept whole.
+use mathlib.Core.Path.{_∙_}
 use borrow.Author.Needs.{needs}
-use Prim.Native.Nat.{_-_}
-use lib.ListN.{length}
-use Rattle.shelving.proofs.keep.Statement.{statement}
+use Rattle.shelving.specs.Shelf.{keptOver}
+use Rattle.shelving.proofs.Shelves.{kept-whole}
 use Rattle.shelving.proofs.keep.Tie as tie
+use Rattle.shelving.proofs.keep.Statement.{statement}
 
-abbrev Inv-loop : tie.InvT-loop
-Inv-loop bytes shelf₀ i₀ i-end shelf i = Unit {0}
+returns : tie.Need-returns
+unfolding keptOver
+returns c = c .copy .ensures
 
-abbrev μ-loop : tie.MeasureT-loop
-μ-loop bytes shelf₀ i₀ i-end shelf i = length bytes - i
-
-loop-holds : tie.Need-loop-holds Inv-loop μ-loop
-loop-holds c = search needs
-
-shared-slice-read-shelf : tie.Need-shared-slice-read-shelf Inv-loop μ-loop
-shared-slice-read-shelf c = search needs
-
-element-write-shelf : tie.Need-element-write-shelf Inv-loop μ-loop
-element-write-shelf c = search needs
-
-add-i : tie.Need-add-i Inv-loop μ-loop
-add-i c = search needs
-
-loop-less : tie.Need-loop-less Inv-loop μ-loop
-loop-less c = search needs
-
-loop-again : tie.Need-loop-again Inv-loop μ-loop
-loop-again c = search needs
-
-returns : tie.Need-returns Inv-loop μ-loop
-returns c = search needs
+returns-2 : tie.Need-returns-2
+returns-2 c = c .copy2 .ensures ∙ kept-whole _ _ (c .before .before .if1 .left)
 
 pub keep-spec : {M : Type 1} → statement M
 keep-spec =
     tie.close
-    (tie.spec
-    Inv-loop
-    μ-loop
-    loop-holds
-    shared-slice-read-shelf
-    element-write-shelf
-    add-i
-    loop-less
-    loop-again
-    returns)
+    (tie.spec (λ c. search needs) (λ c. search needs) (λ c. search needs) (λ c κs. search needs)
+    (λ c κs. search needs) returns returns-2)

@@ -14,7 +14,8 @@ start-before-part c = c .before
 
 part-put-end : tie.Need-part-put-end
 part-put-end c =
-    let long : length (start-before-part (c .before .before .before) .args .t .bytes) ≡ room = search needs in omega arith
+    let long : length (start-before-part (c .before .before .before) .args .t .bytes) ≡ room = search needs in
+    omega arith
 
 abbrev start-before-put : tie.After-put → tie.Start
 start-before-put c = c .before .before .before .before .before .before .before

@@ -8,6 +8,7 @@ use mir.Syntax.{w64}
 use mir.Val.{toZ, ofZ}
 use Rattle.sheet.specs.Digits.{signedDigits}
 use Rattle.sheet.specs.laws.LinesFit.{signed-whole}
+use Rattle.page.proofs.Pages.{then}
 use Rattle.texts.proofs.Written.{text-written}
 use Rattle.spaced.proofs.Written.{SpacedLeft, spaced-all, spaced-on, spaced-end}
 use Rattle.spaced.proofs.parts.put_ticks.Tie as tie
@@ -33,8 +34,9 @@ loop-again c =
     let l = t .before in
     let z = getD (l .before .args .ticks .now) (l .loop .i) (pos 0) in
     let e : toZ w64 (ofZ w64 z) ≡ z = search needs in
-    spaced-on (l .loop .inv) (pos 0) (t .loop-test .taken) (s .put .ensures)
-    (text-written (rw e at (d .signed-digits .ensures)) (signed-whole z) (c .put-text .ensures))
+    spaced-on (l .loop .inv) (pos 0) (t .loop-test .taken)
+    (then (s .put .ensures)
+    (text-written (rw e at (d .signed-digits .ensures)) (signed-whole z) (c .put-text .ensures)))
 
 returns : tie.Need-returns Inv-loop μ-loop
 returns c =

@@ -1,0 +1,3 @@
+-- Whom a command asks, and by which numbers.
+pub mod Asks
+pub mod Numbers

@@ -1,0 +1,2 @@
+-- The nodes of a transistor's roles.
+pub mod Roles

@@ -1,0 +1,3 @@
+-- The library held, and what is said of it.
+pub mod Shelf
+pub mod Apart
