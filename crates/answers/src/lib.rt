@@ -1,4 +1,6 @@
 // The line that answers a command, written in a lent buffer.
+#![tactic(auto)]
+
 ghost use Rattle.page.specs.Page.{Writes};
 ghost use Rattle.answers.specs.Answers.{answerLine};
 

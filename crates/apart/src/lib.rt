@@ -1,5 +1,7 @@
 // Terms that are worked apart: X of row 6, row 8 whole, and those of the series resistors. Above its limit a number
 // need not be right, but only above it.
+#![tactic(auto)]
+
 ghost use Rattle.std.specs.Prelude.{map};
 ghost use Rattle.volts.specs.Volts.{given_back};
 ghost use Rattle.scaling.specs.Scaled.{tick_limit};

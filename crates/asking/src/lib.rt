@@ -1,5 +1,7 @@
 // The board asked by a command: it gives the next one beside its answer. Voltages and totals stand in two slices that
 // are lent to it.
+#![tactic(auto)]
+
 ghost use Rattle.std.specs.Prelude.{◌≡◌};
 ghost use Rattle.lending.specs.Rest.{bare};
 ghost use Rattle.lending.specs.Lending.{moved_lent};

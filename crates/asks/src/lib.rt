@@ -1,4 +1,6 @@
 // Whom a command asks, and which of its numbers it hands over.
+#![tactic(auto)]
+
 ghost use Rattle.std.specs.Prelude.{◌≡◌, take, drop};
 ghost use Rattle.asks.specs.Asks.{asks_of};
 ghost use Rattle.asks.specs.Numbers.{nodes_in};

@@ -2,6 +2,8 @@
 // slices that the caller lends, 32 numbers each.
 // Each method asks that calls from a fresh board left the board as it is, whatever the slices held at each of them, and
 // gives the answer with the next board, which is such a board again. Of the slices nothing is asked.
+#![tactic(auto)]
+
 ghost use Rattle.std.specs.Prelude.{◌≡◌, [], ◌∷◌, length};
 ghost use Rattle.bytes_le.specs.Buffer.{over};
 ghost use Rattle.model.specs.Model.{loaded_of, withdrawn_of, looked_of, opened_of, listed_of, summed_of};

@@ -1,4 +1,6 @@
 // The branch currents of a transistor, in ticks of 2^-50 ampere.
+#![tactic(auto)]
+
 ghost use Rattle.branch.specs.Currents.{Replies};
 
 mod answering; // answering.rt: from a card and voltages to a reply

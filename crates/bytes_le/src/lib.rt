@@ -1,5 +1,7 @@
 // Little-endian numbers at a place of a slice of bytes. Bytes past the slice's end count as 0, so every function is
 // total.
+#![tactic(auto)]
+
 ghost use Rattle.std.specs.Prelude.{◌≡◌, ◌<◌, ◌≤◌, ◌^◌, get_or, drop};
 ghost use Rattle.bytes_le.specs.Le.{le_at, word_bytes, Word};
 

@@ -1,4 +1,6 @@
 // A call of the board that a command makes, and its answer put to the bytes that wait.
+#![tactic(auto)]
+
 ghost use Rattle.board.specs.Promise.{state_in, Reached};
 ghost use Rattle.asking.specs.Asked.{asked_of};
 ghost use Rattle.calling.specs.Calls.{Calls};

@@ -1,4 +1,6 @@
 // A card: its record judged for loading, and worked to what the branches need.
+#![tactic(auto)]
+
 ghost use Rattle.std.specs.Prelude.{◌≡◌};
 ghost use Rattle.refusal.specs.Order.{tells};
 ghost use Rattle.card.specs.Judge.{judge_of, told_judged, no_worked};

@@ -1,1 +1,2 @@
 // What is sure of a judged card: theorems only, and no code.
+#![tactic(auto)]

@@ -1,6 +1,8 @@
 // Reads model lines on standard input and writes the library of their cards, or the number of the first line that is
 // refused, and why; or, given arguments, does so for each file that one of them names, in turn, where `-` names
 // standard input.
+#![tactic(auto)]
+
 mod gather; // gather.rt: the lines of a file, one by one, and what they come to
 
 use libc::STDIN_FILENO;

@@ -1,4 +1,6 @@
 // A record's numbers clipped, each by its rule, with the mask of those whose value changed.
+#![tactic(auto)]
+
 ghost use Rattle.std.specs.Prelude.{◌≡◌};
 ghost use Rattle.clip.specs.Record.{is_wide, is_narrow, right_length};
 ghost use Rattle.clip.specs.Clip.{Clips};

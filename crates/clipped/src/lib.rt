@@ -1,4 +1,6 @@
 // The line of a clipped record: its mask and its numbers.
+#![tactic(auto)]
+
 ghost use Rattle.std.specs.Prelude.{◌≡◌};
 ghost use Rattle.page.specs.Page.{Writes};
 ghost use Rattle.spaced.specs.Spaced.{spaced_line};

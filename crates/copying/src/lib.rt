@@ -1,4 +1,6 @@
 // Bytes and words of a library copied: from one to the other, and its header.
+#![tactic(auto)]
+
 ghost use Rattle.std.specs.Prelude.{◌≡◌, ◌++◌, ◌+◌, ◌*◌, ◌/◌, ◌≤◌, length, take, drop};
 ghost use Rattle.bytes_le.specs.Le.{word_bytes, bytes_of};
 ghost use Rattle.bytes_le.specs.Buffer.{over};

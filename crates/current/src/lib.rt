@@ -1,4 +1,6 @@
 // A current as it is shown: its size, whether it is below zero, and its picoamperes.
+#![tactic(auto)]
+
 ghost use Rattle.std.specs.Prelude.{◌≡◌, ◌&&◌, ltb};
 ghost use Rattle.current.specs.Current.{opened_of, pico_of};
 

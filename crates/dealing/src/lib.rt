@@ -1,4 +1,6 @@
 // A card read from its stretches of the flat arrays.
+#![tactic(auto)]
+
 ghost use Rattle.std.specs.Prelude.{◌≡◌, ◌+◌, ◌<◌};
 ghost use Rattle.deck.specs.Layout.{cards_most, numbers_each, powers_each, ticks_each};
 ghost use Rattle.deck.specs.Layout.{numbers_at, powers_at, ticks_at, switches_at};

@@ -1,4 +1,6 @@
 // The word of a number in decimal digits: one exact multiplication or division, since both its operands are exact.
+#![tactic(auto)]
+
 ghost use Rattle.std.specs.Prelude.{◌≡◌, ◌<◌};
 ghost use Rattle.decimal.specs.Decimal.{digits_end, powers_end, rounded_of, size_bits, word_of, powers_of_ten};
 

@@ -1,5 +1,7 @@
 // The text of a number, read. Inside, no answer is an enum: a digit, two digits and a power have a number that none of
 // them has for what is none.
+#![tactic(auto)]
+
 ghost use Rattle.std.specs.Prelude.{false, ◌≡◌, ◌+◌, ◌<◌, ◌≤◌};
 ghost use Rattle.decimal.specs.Decimal.{digits_end, powers_of_ten};
 ghost use Rattle.decimal_read.specs.Text.{most_digits, figure_of, pair_of, signed_power, power_after, placed_of};

@@ -1,4 +1,6 @@
 // Texts put into a line's room, each after the bytes that are used.
+#![tactic(auto)]
+
 ghost use Rattle.std.specs.Prelude.{◌≡◌, ◌∷◌, [], ◌+◌, ◌≤◌, ◌<◌, ◌^◌, length};
 ghost use Rattle.spelling.specs.Digits.{plain_digits};
 ghost use Rattle.decimal.specs.Decimal.{digits_end, powers_end};

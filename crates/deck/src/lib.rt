@@ -1,5 +1,6 @@
 // The cards' numbers as flat arrays: each place has a stretch of every array. No code; `laying` writes them and
 // `dealing` reads them.
+#![tactic(auto)]
 
 // The places.
 pub const CARDS: usize = 16;

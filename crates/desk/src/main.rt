@@ -1,5 +1,7 @@
 // The desk at work: obeys the commands of each script that an argument names, one script after the other, or those of
 // standard input where none is named. An option holds for the scripts after it.
+#![tactic(auto)]
+
 mod options; // options.rt: what the arguments ask for
 mod help; // help.rt: the options and the commands, as they are printed
 mod out; // out.rt: what waits, written

@@ -1,4 +1,6 @@
 // The header and the directory of a library, judged: 1, 2, 3 of a library, and of what is to become one.
+#![tactic(auto)]
+
 ghost use Rattle.std.specs.Prelude.{◌≡◌, ◌≤◌};
 ghost use Rattle.refusal.specs.Order.{refuse_if};
 ghost use Rattle.roll.specs.Directory.{names_in, all_named};

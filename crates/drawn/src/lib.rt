@@ -1,4 +1,6 @@
 // What is worked of the clipped numbers: the parameters, with their resistances where there are resistors.
+#![tactic(auto)]
+
 ghost use Rattle.std.specs.Prelude.{◌≡◌, cond};
 ghost use Rattle.clip.specs.Limits.{zero};
 ghost use Rattle.loading.specs.Numbers.{has_leads, parameters_of};

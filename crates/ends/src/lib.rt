@@ -1,4 +1,6 @@
 // At which roles the branches start and end, and what a card looks at of the numbers given for the roles.
+#![tactic(auto)]
+
 ghost use Rattle.std.specs.Prelude.{◌≡◌};
 ghost use Rattle.terms.specs.Ends.{from_roles, to_roles};
 ghost use Rattle.terms.specs.Looked.{looked_at};

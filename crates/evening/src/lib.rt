@@ -1,4 +1,6 @@
 // A node's transistors listed, and the sheet of the evening, put to the bytes that wait.
+#![tactic(auto)]
+
 ghost use Rattle.page.specs.Page.{Writes};
 ghost use Rattle.lending.specs.Rest.{bare};
 ghost use Rattle.board.specs.Promise.{model_of, state_in, Reached};

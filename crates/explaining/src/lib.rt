@@ -1,4 +1,6 @@
 // What a refusal means, in words: a line that explains an answer, written in a lent buffer.
+#![tactic(auto)]
+
 ghost use Rattle.std.specs.Prelude.{◌≡◌};
 ghost use Rattle.page.specs.Page.{Writes};
 ghost use Rattle.spelling.specs.Number.{parsed_of};

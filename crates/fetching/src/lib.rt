@@ -1,4 +1,6 @@
 // A card loaded from where it is written: a library that holds it by a name, or its model line.
+#![tactic(auto)]
+
 ghost use Rattle.std.specs.Prelude.{◌≡◌};
 ghost use Rattle.model.specs.Model.{refuse};
 ghost use Rattle.lending.specs.Rest.{bare};

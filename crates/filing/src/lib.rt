@@ -1,4 +1,6 @@
 // The cards of a file of models filed, one after the other; its lines are those of `joining`.
+#![tactic(auto)]
+
 ghost use Rattle.std.specs.Prelude.{◌≡◌, ◌*◌, length, take};
 ghost use Rattle.name.specs.Name.{name_length};
 ghost use Rattle.line.specs.Answers.{record_bytes};

@@ -1,4 +1,6 @@
 // A card's record in a library: found by the card's name, or handed out by its number.
+#![tactic(auto)]
+
 ghost use Rattle.std.specs.Prelude.{◌≡◌};
 ghost use Rattle.refusal.specs.Order.{tells};
 ghost use Rattle.roll.specs.Directory.{names_in, place_of};

@@ -1,4 +1,6 @@
 // The floats of a record: the number that a word's bits stand for, and a number cut to 31 binary digits.
+#![tactic(auto)]
+
 ghost use Rattle.std.specs.Prelude.{◌≡◌, ◌<◌, ◌^◌, false, negsuc};
 ghost use Rattle.std.specs.Float.{fin};
 ghost use Rattle.std.specs.Float.Ieee.Scale.{finite};

@@ -1,4 +1,6 @@
 // A transistor worked: its currents, and by what it overloads; and currents put into sums at its nodes.
+#![tactic(auto)]
+
 ghost use Rattle.std.specs.Prelude.{◌≡◌, map, ◌<◌, length, get_or};
 ghost use Rattle.volts.specs.Volts.{given_back};
 ghost use Rattle.terms.specs.Rows.{roles, branches};

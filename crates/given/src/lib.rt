@@ -1,4 +1,6 @@
 // Numbers of the caller, each an i64, as the board holds them. Every number has an answer.
+#![tactic(auto)]
+
 ghost use Rattle.std.specs.Prelude.{◌≡◌, map};
 ghost use Rattle.given.specs.Arguments.{issue_of};
 ghost use Rattle.given.specs.inner.Nodes.{node_of};

@@ -1,5 +1,7 @@
 // A card held and given back, on a board's arrays lent one by one: giving back tests first and writes last, so that a
 // refusal leaves them as they were.
+#![tactic(auto)]
+
 ghost use Rattle.std.specs.Prelude.{◌≡◌, ◌<◌};
 ghost use Rattle.places.specs.Counts.{cards_most};
 ghost use Rattle.model.specs.Board.{Board};

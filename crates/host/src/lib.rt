@@ -5,6 +5,8 @@
 // one by one, and nothing is copied.
 // 0 is done; any other result is a refusal's number. What a host has to keep is asked once: that the board is one that
 // desk_fresh began and these calls left.
+#![tactic(auto)]
+
 ghost use Rattle.std.specs.Prelude.{[], ◌∷◌, length};
 ghost use Rattle.model.specs.Model.{loaded_of, withdrawn_of, looked_of, opened_of, listed_of, summed_of};
 ghost use Rattle.lending.specs.Rest.{Rest, bare};

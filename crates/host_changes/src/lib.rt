@@ -1,5 +1,7 @@
 // What a host's calls do that begin a board and change the cards on it. Each takes the board by value, and after it
 // what the host lends; it gives the next board beside the result of the call, 0 or a refusal's number.
+#![tactic(auto)]
+
 ghost use Rattle.model.specs.Model.{loaded_of, withdrawn_of};
 ghost use Rattle.lending.specs.Rest.{bare};
 ghost use Rattle.board.specs.Promise.{model_of, given_as, Reached};

@@ -1,5 +1,7 @@
 // What a host's call does that moves nodes on the host's own board: the board's arrays are lent one by one, and nothing
 // is copied. Its result is 0 or a refusal's number.
+#![tactic(auto)]
+
 ghost use Rattle.lending.specs.Rest.{Rest};
 ghost use Rattle.lending.specs.Lending.{moved_lent};
 ghost use Rattle.lending.specs.Reached.{Reached};

@@ -1,4 +1,6 @@
 // What a host's call does that loads a card from its model line.
+#![tactic(auto)]
+
 ghost use Rattle.lending.specs.Rest.{bare};
 ghost use Rattle.board.specs.Promise.{model_of, Reached};
 ghost use Rattle.host_changes.specs.Changes.{Loaded};

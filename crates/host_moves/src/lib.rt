@@ -1,5 +1,7 @@
 // What a host's calls do that move nodes and lift a transistor. Each takes the board by value, and after it what the
 // host lends; it gives the next board beside the result of the call, 0 or a refusal's number.
+#![tactic(auto)]
+
 ghost use Rattle.std.specs.Prelude.{[], ◌∷◌};
 ghost use Rattle.lending.specs.Lending.{moved_lent, lifted_lent};
 ghost use Rattle.board.specs.Promise.{state_in, Reached};

@@ -1,4 +1,6 @@
 // Signed numbers handed to a host, in the buffer that it lends.
+#![tactic(auto)]
+
 ghost use Rattle.std.specs.Prelude.{◌≡◌, leb, length};
 ghost use Rattle.host_numbers.specs.Filled.{filled_if};
 

@@ -1,5 +1,7 @@
 // What a host's call does that stands a transistor on a board. It takes the board by value, and after it what the host
 // lends; it gives the next board beside the result of the call, 0 or a refusal's number.
+#![tactic(auto)]
+
 ghost use Rattle.std.specs.Prelude.{◌≡◌};
 ghost use Rattle.board.specs.Promise.{state_in, Reached};
 ghost use Rattle.host_placing.specs.Placing.{is_list, placing_of, Placed};

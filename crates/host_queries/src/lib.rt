@@ -1,5 +1,7 @@
 // What a host's calls do that only read a board. Each takes the board by value, and after it what the host lends; it
 // gives the result of the call, 0 or a refusal's number.
+#![tactic(auto)]
+
 ghost use Rattle.std.specs.Prelude.{length};
 ghost use Rattle.model.specs.Model.{looked_of, opened_of, listed_of, summed_of};
 ghost use Rattle.lending.specs.Rest.{bare};

@@ -1,5 +1,7 @@
 // What a host's calls do that ask a library: it is read out into lent buffers, and a card is found in it. The result is
 // 0 or a refusal's number, and a refusal leaves every lent place as it was.
+#![tactic(auto)]
+
 ghost use Rattle.std.specs.Prelude.{◌≡◌};
 ghost use Rattle.refusal.specs.Order.{number_told};
 ghost use Rattle.finding.specs.Answers.{verdictLocated};

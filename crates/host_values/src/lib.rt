@@ -1,5 +1,7 @@
 // The values that the board answers a question with, in lent places, as a host in another language takes them: a node's
 // numbers, how many were listed, a node summed up. Each place is left as it was where the answer has no such value.
+#![tactic(auto)]
+
 ghost use Rattle.std.specs.Prelude.{◌≡◌};
 ghost use Rattle.host_words.specs.Words.{result_of};
 ghost use Rattle.host_values.specs.Values.{voltage_over, total_over, count_over};

@@ -1,6 +1,8 @@
 // The board's answers in plain numbers, as a host in another language takes them: the result of a call, 0 or a
 // refusal's number; and in lent places an issue number and who overloads in which branch, each left as it was where the
 // answer has no such value.
+#![tactic(auto)]
+
 ghost use Rattle.std.specs.Prelude.{◌≡◌};
 ghost use Rattle.host_words.specs.Words.{result_of, who_in, branch_in, who_over, branch_over, issue_over};
 

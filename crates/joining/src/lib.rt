@@ -1,4 +1,6 @@
 // The lines of a file of models: their kind, and their bytes joined.
+#![tactic(auto)]
+
 ghost use Rattle.std.specs.Prelude.{◌≡◌, length, take};
 ghost use Rattle.joining.specs.Lines.{line_room, marked, with_byte, with_text, bare_of, kind_of};
 

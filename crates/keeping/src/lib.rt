@@ -1,4 +1,6 @@
 // The lent slices tested, and their voltages kept.
+#![tactic(auto)]
+
 ghost use Rattle.std.specs.Prelude.{◌≡◌, not, length};
 ghost use Rattle.volts.specs.Volts.{off_volts};
 ghost use Rattle.totals.specs.Gives.{nodes_most};

@@ -1,4 +1,6 @@
 // The keys of a card's line with their numbers, put one after the other.
+#![tactic(auto)]
+
 ghost use Rattle.std.specs.Prelude.{◌≡◌, ◌<◌, ◌≤◌, ◌+◌, length};
 ghost use Rattle.decimal.specs.Decimal.{powers_of_ten};
 ghost use Rattle.decimal_write.specs.Added.{line_room, Added};

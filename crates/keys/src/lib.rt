@@ -1,4 +1,6 @@
 // The keys of a model line: found by their words, and the record without any of them given.
+#![tactic(auto)]
+
 ghost use Rattle.std.specs.Prelude.{◌≡◌, ◌≤◌};
 ghost use Rattle.keys.specs.Keys.{key_count, key_number, defaults, packed_keys, key_lengths};
 

@@ -1,4 +1,6 @@
 // A card made ready, written in its stretches of the flat arrays.
+#![tactic(auto)]
+
 ghost use Rattle.std.specs.Prelude.{◌≡◌, false, ◌*◌, ◌<◌};
 ghost use Rattle.deck.specs.Stretch.{written};
 ghost use Rattle.deck.specs.Layout.{cards_most, numbers_each, powers_each, ticks_each, switches_each};

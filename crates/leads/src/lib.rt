@@ -1,1 +1,2 @@
 // What series resistors do: theorems only, and no code.
+#![tactic(auto)]

@@ -1,5 +1,7 @@
 // The card library: read and written. It is searched for a card by the functions of `finding`, and its bytes and words
 // are copied by those of `copying`, which are passed on.
+#![tactic(auto)]
+
 ghost use Rattle.std.specs.Prelude.{◌≡◌, cond, [], ◌+◌, ◌*◌, ◌≤◌, length};
 ghost use Rattle.library.specs.Answers.{Reads, Writes};
 

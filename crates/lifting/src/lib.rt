@@ -1,5 +1,7 @@
 // Lifting on a board's arrays, lent one by one beside the two slices: it tests, judges the totals as they would stand
 // and writes last, so that a refusal leaves all as it was.
+#![tactic(auto)]
+
 ghost use Rattle.lending.specs.Rest.{Rest};
 ghost use Rattle.lending.specs.Lending.{lifted_lent};
 ghost use Rattle.lending.specs.Reached.{Reached};

@@ -1,5 +1,7 @@
 // A model line: what it says, and how reading it goes. Definitions, types and laws; the code is in `line_head`,
 // `line_keys` and `line_read`.
+#![tactic(auto)]
+
 use refusal::Refusal;
 
 // The words of a record of version 2, and its bytes.

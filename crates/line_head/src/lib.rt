@@ -1,4 +1,6 @@
 // The first three words of a model line: `.model`, the name, the type.
+#![tactic(auto)]
+
 ghost use Rattle.std.specs.Prelude.{◌≡◌, ◌-◌, ◌≤◌, length, take, drop};
 ghost use Rattle.name.specs.Name.{same};
 ghost use Rattle.spelling.specs.Bytes.{bytes};

@@ -1,4 +1,6 @@
 // The keys of a model line with their numbers, one word after the other, into the words of a record.
+#![tactic(auto)]
+
 ghost use Rattle.std.specs.Prelude.{◌≡◌, ◌≤◌, length};
 ghost use Rattle.decimal.specs.Decimal.{powers_of_ten};
 ghost use Rattle.keys.specs.Keys.{packed_keys};

@@ -1,4 +1,6 @@
 // A model line read: its card's name and record put into lent buffers, or why not.
+#![tactic(auto)]
+
 ghost use Rattle.std.specs.Prelude.{◌≤◌, length, ◌≡◌};
 ghost use Rattle.line.specs.Line.{model_of, ends_in_space};
 ghost use Rattle.line.specs.Answers.{room_for, Leaves, Reads};

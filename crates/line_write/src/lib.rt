@@ -1,4 +1,6 @@
 // The model line of a card written: into a room of its own, and from there into the lent buffer where that has room.
+#![tactic(auto)]
+
 ghost use Rattle.std.specs.Prelude.{◌≡◌, ◌||◌, eqb, ◌<◌, ◌≤◌, length, take};
 ghost use Rattle.name.specs.Name.{name_length};
 ghost use Rattle.clip.specs.Record.{word_at};

@@ -1,4 +1,6 @@
 // What a listing shows of a card: its name without padding, and its mask or none.
+#![tactic(auto)]
+
 ghost use Rattle.std.specs.Prelude.{◌≡◌};
 ghost use Rattle.listed.specs.Listed.{unpadded, listed_mask};
 

@@ -1,5 +1,7 @@
 // Lists the cards of the library on standard input; or, given arguments, of each library that one of them names, in
 // turn, where `-` names standard input.
+#![tactic(auto)]
+
 use libc::{STDIN_FILENO, STDOUT_FILENO};
 use library::Reading;
 use sheet::Text;

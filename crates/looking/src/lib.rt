@@ -1,4 +1,6 @@
 // A name looked up among the cards held, on a board's arrays lent one by one.
+#![tactic(auto)]
+
 ghost use Rattle.std.specs.Prelude.{◌≡◌};
 ghost use Rattle.model.specs.Board.{Board};
 ghost use Rattle.model.specs.Model.{looked_of};

@@ -1,4 +1,6 @@
 // Old libraries mended: in the copy that is made no card's I_CSs is a number below zero.
+#![tactic(auto)]
+
 ghost use Rattle.mending.specs.Answers.{Mends};
 
 use bytes_le::WORD_BYTES;

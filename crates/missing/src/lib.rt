@@ -1,4 +1,6 @@
 // The words that not every record has: what they mean where they are missing, and the spare ones.
+#![tactic(auto)]
+
 ghost use Rattle.std.specs.Prelude.{◌≡◌, ◌<◌};
 ghost use Rattle.clip.specs.Limits.{wide};
 ghost use Rattle.clip.specs.Record.{word_at};

@@ -1,4 +1,6 @@
 // The board's model, definitions and what holds of them: what each call answers and changes. No code but the answers.
+#![tactic(auto)]
+
 use refusal::Refusal;
 
 #[derive(Drop)]

@@ -1,5 +1,7 @@
 // Writes a model line for each card of the library on standard input, in the library's order; or, given arguments, of
 // each library that one of them names, in turn, where `-` names standard input.
+#![tactic(auto)]
+
 use libc::{STDIN_FILENO, STDOUT_FILENO};
 use library::Reading;
 use line_write::Written;

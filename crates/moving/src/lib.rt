@@ -1,6 +1,8 @@
 // Moving nodes together on a board's arrays, lent one by one beside the two slices: it tests, works each transistor
 // that names one of the nodes once, judges the totals as they would stand, and writes when nothing can be refused any
 // more, so that a refusal leaves all as it was.
+#![tactic(auto)]
+
 ghost use Rattle.std.specs.Prelude.{◌≡◌};
 ghost use Rattle.lending.specs.Rest.{Rest};
 ghost use Rattle.lending.specs.Lending.{moved_lent};

@@ -1,5 +1,7 @@
 // Names of cards: sixteen bytes with their padding, or as they are asked for, without it. Every function takes any
 // slice.
+#![tactic(auto)]
+
 ghost use Rattle.std.specs.Prelude.{◌≡◌, ◌++◌, length, take, drop};
 ghost use Rattle.bytes_le.specs.Le.{word_bytes, bytes_of};
 ghost use Rattle.name.specs.Name.{name_length, mark, run, zeros, well_formed, asked, padded, same};

@@ -1,4 +1,6 @@
 // The newest card of a name: that of the highest issue number.
+#![tactic(auto)]
+
 ghost use Rattle.std.specs.Prelude.{◌≡◌, cond};
 ghost use Rattle.given.specs.Lists.{larger};
 ghost use Rattle.places.specs.inner.Flat.{highest_in};

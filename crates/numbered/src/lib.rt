@@ -1,4 +1,6 @@
 // The numbers of a line, and whether its words are numbers.
+#![tactic(auto)]
+
 ghost use Rattle.std.specs.Prelude.{◌≡◌, ◌-◌};
 ghost use Rattle.spelling.specs.Number.{parsed_of};
 ghost use Rattle.numbered.specs.Numbers.{is_number, value_of, are_numbers, numbers_to, most_numbers};

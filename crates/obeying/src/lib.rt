@@ -1,5 +1,7 @@
 // A command obeyed, but for what reads a file: whom it asks does what it says, and the answer is put to the bytes that
 // wait. Voltages and totals stand in two slices that are lent to the board.
+#![tactic(auto)]
+
 ghost use Rattle.board.specs.Promise.{state_in, Reached};
 ghost use Rattle.obeying.specs.Obeyed.{obeyed_of, Obeys};
 

@@ -1,4 +1,6 @@
 // The exponential G(V) = m * 2^(n - 30) of a voltage for an octave, by a table over one octave.
+#![tactic(auto)]
+
 ghost use Rattle.std.specs.Prelude.{◌≡◌, ◌*◌, ◌≤◌, ◌<◌};
 ghost use Rattle.std.proofs.Math.IntN.{sub_ℕ};
 ghost use Rattle.volts.specs.Volts.{span};

@@ -1,4 +1,6 @@
 // The octave and the second octave, from f64 to whole nanovolts; in `knee` V_Lr.
+#![tactic(auto)]
+
 ghost use Rattle.std.specs.Prelude.{◌≡◌, true, T};
 ghost use Rattle.std.specs.Float.Ieee.Positive.{above};
 ghost use Rattle.loading.specs.Octave.{whole_part, octave_good};

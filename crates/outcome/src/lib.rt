@@ -1,4 +1,6 @@
 // Which row of a transistor's branches overloads first, and the outcome of all rows.
+#![tactic(auto)]
+
 ghost use Rattle.std.specs.Prelude.{◌≡◌, map, ◌≤◌};
 ghost use Rattle.volts.specs.Volts.{given_back};
 ghost use Rattle.terms.specs.Rows.{branches};

@@ -1,4 +1,6 @@
 // A short word as a number of 64 bits.
+#![tactic(auto)]
+
 ghost use Rattle.std.specs.Prelude.{◌≡◌};
 ghost use Rattle.packing.specs.Packing.{packed_of};
 

@@ -1,4 +1,6 @@
 // Bytes written in a lent buffer after those that are used. What there is no room for is left out.
+#![tactic(auto)]
+
 ghost use Rattle.page.specs.Page.{Writes};
 
 // Room for the bytes that wait to be written.

@@ -1,5 +1,7 @@
 // A list of pairs, each a node and a voltage for it: judged, kept at the nodes, written there, and who names one of the
 // nodes.
+#![tactic(auto)]
+
 ghost use Rattle.std.specs.Prelude.{◌≡◌, false, length};
 ghost use Rattle.given.specs.Pairs.{are_pairs, some_pair_off, shifts_of};
 ghost use Rattle.totals.specs.Gives.{nodes_most};

@@ -1,5 +1,7 @@
 // Works the cases that the proved table leaves out, and a few that it has. Each line has the case, the value worked and
 // the paper's value.
+#![tactic(auto)]
+
 ghost use Rattle.board.specs.Promise.{Reached};
 
 mod records; // records.rt: the cards of the cases, as bytes

@@ -1,5 +1,7 @@
 // Placing kept out of its callers: a function that calls itself is never written into them, so that none of a call's
 // stores stand between a board and its copy there.
+#![tactic(auto)]
+
 ghost use Rattle.std.specs.Prelude.{◌≡◌};
 ghost use Rattle.lending.specs.Rest.{Rest};
 ghost use Rattle.lending.specs.Lending.{placed_lent};

@@ -1,4 +1,5 @@
 // Cards and transistors in places, and finding them.
+#![tactic(auto)]
 
 mod finds; // finds.rt: looking through the places
 

@@ -1,4 +1,6 @@
 // Placing's tests in their order, up to the last, which needs the currents.
+#![tactic(auto)]
+
 ghost use Rattle.std.specs.Prelude.{◌≡◌, not, ◌&&◌, ◌<◌, eqb, leb};
 ghost use Rattle.totals.specs.Gives.{nodes_most};
 ghost use Rattle.given.specs.Lists.{any_of};

@@ -1,5 +1,7 @@
 // Two numbers written into the slices that are lent to the board, as a host could: for trying the rule of lent memory
 // by hand.
+#![tactic(auto)]
+
 ghost use Rattle.std.specs.Prelude.{◌≡◌, ◌&&◌};
 ghost use Rattle.page.specs.Page.{Writes};
 ghost use Rattle.poking.specs.Poked.{fit_both, may_poke, pokes, poked_volts, poked_totals, poke_said};

@@ -1,4 +1,6 @@
 // A transistor's polarity: a PNP's voltages are turned over before the rows see them, and its currents after them.
+#![tactic(auto)]
+
 ghost use Rattle.std.specs.Prelude.{◌≡◌, map};
 ghost use Rattle.volts.specs.Volts.{given_back, AllNear};
 ghost use Rattle.terms.specs.inner.Ready.{Askable};

@@ -1,4 +1,6 @@
 // The two lent slices cleared.
+#![tactic(auto)]
+
 ghost use Rattle.slices.specs.Slices.{Clears};
 
 use totals::NODES;

@@ -1,4 +1,6 @@
 // Numbers times a power of two and quotients after a shift, each held at the first number that is too much.
+#![tactic(auto)]
+
 ghost use Rattle.std.specs.Prelude.{◌≡◌, ◌*◌, ◌^◌, ◌≤◌};
 ghost use Rattle.std.proofs.Math.IntN.{sub_ℕ};
 ghost use Rattle.whole.specs.Signed.{signed_span};

@@ -1,4 +1,6 @@
 // The lines that quote what they were given: a line that is no command, a file that cannot be read, a model line.
+#![tactic(auto)]
+
 ghost use Rattle.std.specs.Prelude.{◌≡◌, take};
 ghost use Rattle.page.specs.Page.{Writes};
 ghost use Rattle.quoting.specs.Quotes.{shown_bytes, error_line, unreadable_line, model_line};

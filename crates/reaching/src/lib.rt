@@ -1,4 +1,6 @@
 // The first digits that come to a size, at one power: they are guessed, and the guess is tested.
+#![tactic(auto)]
+
 ghost use Rattle.std.specs.Prelude.{◌≡◌, ◌<◌};
 ghost use Rattle.decimal.specs.Decimal.{digits_end, powers_end, powers_of_ten};
 ghost use Rattle.reaching.specs.FirstTo.{FirstTo, Bracket};

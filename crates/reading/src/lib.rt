@@ -1,4 +1,6 @@
 // Reading what a transistor holds, on a board's arrays lent one by one, and a node's numbers in the two slices.
+#![tactic(auto)]
+
 ghost use Rattle.std.specs.Prelude.{◌≡◌};
 ghost use Rattle.model.specs.Board.{Board};
 ghost use Rattle.model.specs.Model.{opened_of};

@@ -1,4 +1,6 @@
 // A card made ready: what is worked once for it, and a ready card of zeros for a place that holds none.
+#![tactic(auto)]
+
 ghost use Rattle.std.specs.Prelude.{◌≡◌};
 ghost use Rattle.card.specs.inner.Worked.{IsWorked};
 ghost use Rattle.terms.specs.inner.Ready.{ready_of, no_ready};

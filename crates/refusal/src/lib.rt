@@ -1,5 +1,7 @@
 // The ways in which the desk turns a call away. `told`, in specs/, gives each its number and the values that go with
 // it.
+#![tactic(auto)]
+
 ghost use Rattle.std.specs.Prelude.{◌≡◌};
 ghost use Rattle.refusal.specs.Told.{number_of};
 

@@ -1,5 +1,7 @@
 // The sum of two exponentials, and a difference of T's over it: what the reverse non-ideal current has and no other
 // branch.
+#![tactic(auto)]
+
 ghost use Rattle.std.specs.Prelude.{◌≡◌, ◌≤◌};
 ghost use Rattle.scaling.specs.inner.Shifts.{exp_at, UpTo, Sized};
 ghost use Rattle.reverse.specs.Sum.{sum_limit, sum_parts};

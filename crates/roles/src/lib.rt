@@ -1,4 +1,6 @@
 // The nodes of a transistor's roles, from a list of them.
+#![tactic(auto)]
+
 ghost use Rattle.std.specs.Prelude.{◌≡◌};
 ghost use Rattle.roles.specs.Roles.{node_at, roles_of};
 

@@ -1,4 +1,6 @@
 // The names of a directory, one after the other in its bytes, and whether one of them stands twice.
+#![tactic(auto)]
+
 ghost use Rattle.std.specs.Prelude.{◌≡◌, ◌<◌, ◌&&◌, ◌++◌};
 ghost use Rattle.bytes_le.specs.Le.{word_bytes, bytes_of};
 ghost use Rattle.roll.specs.inner.Marks.{slots, slot_of, made, with_mark};

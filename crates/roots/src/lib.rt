@@ -1,4 +1,6 @@
 // The whole square root.
+#![tactic(auto)]
+
 ghost use Rattle.std.specs.Prelude.{◌≡◌, ◌^◌, ◌<◌};
 ghost use Rattle.roots.specs.Root.{root_of};
 

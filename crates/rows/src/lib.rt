@@ -1,4 +1,6 @@
 // The rows of a transistor's branches: what comes of them, and each row's ticks of 2^-50 ampere.
+#![tactic(auto)]
+
 ghost use Rattle.std.specs.Prelude.{◌≡◌, ◌≤◌};
 ghost use Rattle.rows.specs.Ticks.{root_for};
 ghost use Rattle.rows.specs.Outcome.{tick_limit, ratio_limit};

@@ -1,4 +1,6 @@
 // Answers put to the bytes that wait to be written. What there is no room for is left out.
+#![tactic(auto)]
+
 ghost use Rattle.std.specs.Prelude.{◌≡◌, ◌+◌};
 ghost use Rattle.words.specs.Words.{part_of};
 ghost use Rattle.page.specs.Page.{Writes};

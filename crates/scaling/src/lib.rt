@@ -1,5 +1,7 @@
 // A worked value times the exponential of a junction's voltage, in ticks or in parts of a ratio's unit. Above its limit
 // a number need not be right, but only above it.
+#![tactic(auto)]
+
 ghost use Rattle.std.specs.Prelude.{◌≡◌, map, get_or, pos, ◌-ℤ◌};
 ghost use Rattle.volts.specs.Volts.{given_back};
 ghost use Rattle.scaling.specs.inner.Shifts.{alone_of, through_of, Drop, IsExp, Scalable, Junction, scaled_of};

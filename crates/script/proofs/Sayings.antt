@@ -6,9 +6,9 @@ use Prim.Native.Nat.{ℕ, ◌<◌, ◌≤◌}
 use borrow.Author.Tests.{eq-eqb, ne_eqb, lt-ltb, le-ltb}
 use lib.Dec.{eqb}
 use lib.ListN.{length}
-use Rattle.hex.specs.declared.Hex.{Hex}
-use Rattle.hex.specs.declared.Hex.TheVariants.{Bytes, Bad}
-use Rattle.hex.specs.Hex.{ReadsHex}
+use Rattle.hex_bytes.specs.declared.Hex.{Hex}
+use Rattle.hex_bytes.specs.declared.Hex.TheVariants.{Bytes, Bad}
+use Rattle.hex_bytes.specs.Hex.{ReadsHex}
 use Rattle.words.specs.declared.Words.{Words}
 use Rattle.script.specs.declared.Command.{Command}
 use Rattle.verbs.specs.declared.Row.{Row}

@@ -1,8 +1,8 @@
 -- What a line says: one of the commands, nothing, or an error.
 use Rattle.std.specs.Prelude.{◌≡◌, Bool, true, false, ◌&&◌, ◌||◌, List, ℕ, ◌-◌, ◌%◌, eqb, ltb, length, get_or}
-use Rattle.hex.specs.declared.Hex.{Hex}
-use Rattle.hex.specs.declared.Hex.TheVariants.{Bytes, Bad}
-use Rattle.hex.specs.Hex.{spells, pairs_of, hex_if, over_if}
+use Rattle.hex_bytes.specs.declared.Hex.{Hex}
+use Rattle.hex_bytes.specs.declared.Hex.TheVariants.{Bytes, Bad}
+use Rattle.hex_bytes.specs.Hex.{spells, pairs_of, hex_if, over_if}
 use Rattle.words.specs.declared.Words.{Words}
 use Rattle.script.specs.declared.Command.{Command}
 use Rattle.verbs.specs.declared.Row.{Row}

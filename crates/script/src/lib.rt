@@ -1,5 +1,7 @@
 // What a line of a script says. The line is lent; what it says comes back by value, its words by their places in the
 // line.
+#![tactic(auto)]
+
 ghost use Rattle.script.specs.Command.{Says};
 
 mod saying; // saying.rt: what a line says

@@ -4,7 +4,7 @@ ghost use Rattle.script.specs.Command.{most_bytes, passed_over, said, has_number
 ghost use Rattle.script.specs.Command.{verb_if};
 
 use crate::{Command, Verb};
-use hex::Hex;
+use hex_bytes::Hex;
 use numbered::{are_numbers, numbers_of};
 use series::Series;
 use verbs::Wants;
@@ -100,7 +100,7 @@ fn said_hex(line: &[u8], words: Words, verb: Verb, bytes: &mut [u8]) -> Command
     if words.count != 3 {
         return said(line, words, Verb::Error, 0);
     }
-    match hex::hex_bytes(word(line, words, 2), bytes) {
+    match hex_bytes::hex_bytes(word(line, words, 2), bytes) {
         Hex::Bytes(n) => said(line, words, verb, n),
         Hex::Bad => said(line, words, Verb::Error, 0),
     }

@@ -1,5 +1,7 @@
 // Placing on a board's arrays, lent one by one beside the two slices: it tests, works the transistor, judges the totals
 // as they would stand, and writes last, so that a refusal leaves all as it was.
+#![tactic(auto)]
+
 ghost use Rattle.lending.specs.Rest.{Rest};
 ghost use Rattle.lending.specs.Lending.{placed_lent};
 ghost use Rattle.lending.specs.Reached.{Reached};

@@ -1,4 +1,6 @@
 // The numbers of a line after its first word, however many there are.
+#![tactic(auto)]
+
 ghost use Rattle.std.specs.Prelude.{◌≡◌, set};
 ghost use Rattle.series.specs.Series.{no_series, series_of};
 

@@ -1,5 +1,7 @@
 // Sets of places, one bit each: kept by node, and gone through. What stands at a place is read and written by the
 // functions of `stretches`, which are passed on.
+#![tactic(auto)]
+
 ghost use Rattle.std.specs.Prelude.{◌≡◌, ◌≤◌, ◌<◌};
 ghost use Rattle.std.specs.Int.Count.{count_trailing_zeros};
 ghost use Rattle.places.specs.Counts.{transistors_most};

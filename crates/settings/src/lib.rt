@@ -1,4 +1,6 @@
 // Loading's tests on the clipped numbers that stand before any working, in their order.
+#![tactic(auto)]
+
 ghost use Rattle.std.specs.Prelude.{◌≡◌, ◌&&◌};
 ghost use Rattle.loading.specs.Numbers.{is_switch, is_polarity, settings_good};
 ghost use Rattle.settings.specs.inner.Tests.{unless_passed, first_wrong};

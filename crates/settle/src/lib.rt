@@ -1,5 +1,7 @@
 // A set of places brought to new voltages: what comes of it, and the first of the places that overloads. Definitions,
 // laws and the two questions that are put on the way; the way itself is in `settling`.
+#![tactic(auto)]
+
 ghost use Rattle.std.specs.Prelude.{◌≡◌};
 ghost use Rattle.settle.specs.First.{earlier};
 ghost use Rattle.settle.specs.inner.Working.{is_taken};

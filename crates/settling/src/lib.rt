@@ -1,5 +1,7 @@
 // The places of a set brought to new voltages: what comes into the totals and what goes out, how they stand then, what
 // is held then, and the first of the places that overloads.
+#![tactic(auto)]
+
 ghost use Rattle.std.specs.Prelude.{◌*◌, ◌<◌, pos};
 ghost use Rattle.terms.specs.Rows.{branches};
 ghost use Rattle.totals.specs.Gives.{nodes_most};

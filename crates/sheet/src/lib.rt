@@ -1,4 +1,6 @@
 // What the desk's programs print. A text comes back as bytes with their count.
+#![tactic(auto)]
+
 ghost use Rattle.std.specs.Prelude.{◌≡◌, [], ◌∷◌};
 ghost use Rattle.sheet.specs.Text.{text_of};
 ghost use Rattle.sheet.specs.Digits.{decimal_of, mask_digits, word_digits, hex_digits, signed_digits};

@@ -1,5 +1,7 @@
 // The library held, and a line obeyed that asks it or nobody. It fills the start of a buffer, and its own header says
 // how long it is. The answer is put to the bytes that wait.
+#![tactic(auto)]
+
 ghost use Rattle.std.specs.Prelude.{◌≡◌, take};
 ghost use Rattle.page.specs.Page.{Writes};
 ghost use Rattle.library.specs.Unique.{as_reading};

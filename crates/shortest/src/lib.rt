@@ -1,5 +1,7 @@
 // The shortest form of a word. Of all powers the highest that has a form at all has the smallest digits, so that the
 // powers are tried from the highest down.
+#![tactic(auto)]
+
 ghost use Rattle.std.specs.Prelude.{◌≡◌, ◌<◌, ◌≤◌};
 ghost use Rattle.decimal.specs.Decimal.{powers_end, powers_of_ten};
 ghost use Rattle.shortest.specs.Form.{form_of};

@@ -1,4 +1,6 @@
 // Records copied without their signals: I_CSs is +0 where it was a finite number below zero.
+#![tactic(auto)]
+
 ghost use Rattle.std.specs.Prelude.{◌≡◌, cond, ◌≤◌, length};
 ghost use Rattle.bytes_le.specs.Buffer.{over};
 ghost use Rattle.roll.specs.Directory.{cut};

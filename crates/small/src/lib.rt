@@ -1,4 +1,6 @@
 // Whether the numbers of all nodes are small, told at once.
+#![tactic(auto)]
+
 ghost use Rattle.std.specs.Prelude.{◌≡◌, ◌*◌, ◌<◌, true, length};
 ghost use Rattle.totals.specs.Gives.{nodes_most};
 ghost use Rattle.small.specs.inner.Small.{small_most, Small, EachSmall, Near, AllSmall};

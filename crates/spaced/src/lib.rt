@@ -1,4 +1,6 @@
 // The lines of as many numbers as there are: a transistor's currents, who names a node and its sum.
+#![tactic(auto)]
+
 ghost use Rattle.page.specs.Page.{Writes};
 ghost use Rattle.spaced.specs.Spaced.{currents_line, who_line, sum_line};
 

@@ -1,4 +1,6 @@
 // The number that a word spells in decimal digits. The word is lent.
+#![tactic(auto)]
+
 ghost use Rattle.std.specs.Prelude.{◌≡◌};
 ghost use Rattle.spelling.specs.Number.{parsed_of, fits_of};
 

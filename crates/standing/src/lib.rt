@@ -1,4 +1,6 @@
 // Totals judged as they would stand, and written.
+#![tactic(auto)]
+
 ghost use Rattle.std.specs.Prelude.{◌≡◌, true, length, replicate, pos, ◌+ℤ◌, ◌-ℤ◌};
 ghost use Rattle.totals.specs.Gives.{nodes_most};
 ghost use Rattle.slices.specs.Slices.{Stands, StandsIn};

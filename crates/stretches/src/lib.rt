@@ -1,4 +1,6 @@
 // Nodes, held currents and names by place, each a stretch of a flat array.
+#![tactic(auto)]
+
 ghost use Rattle.std.specs.Prelude.{◌≡◌, ◌*◌, ◌<◌, pos};
 ghost use Rattle.name.specs.Name.{name_length};
 ghost use Rattle.terms.specs.Rows.{roles, branches};

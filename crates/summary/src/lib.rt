@@ -1,5 +1,7 @@
 // A node summed up: how many transistors name it, on how many cards, and the largest size of a branch that starts or
 // ends there.
+#![tactic(auto)]
+
 ghost use Rattle.std.specs.Prelude.{◌≡◌, true, cond, ◌||◌, suc, ◌<◌, eqb, get_or, nat_abs};
 ghost use Rattle.given.specs.Lists.{any_of, larger, largest, different};
 ghost use Rattle.places.specs.Counts.{transistors_most};

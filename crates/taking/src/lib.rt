@@ -1,5 +1,7 @@
 // A card taken in, on a board's arrays lent one by one: the tests come first and the writing last, so that a refusal
 // leaves them as they were.
+#![tactic(auto)]
+
 ghost use Rattle.std.specs.Prelude.{◌≡◌};
 ghost use Rattle.model.specs.Board.{Board};
 ghost use Rattle.model.specs.Model.{loaded_of};

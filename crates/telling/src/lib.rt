@@ -1,4 +1,6 @@
 // What is said of the board's answers, put to the bytes that wait.
+#![tactic(auto)]
+
 ghost use Rattle.std.specs.Prelude.{◌≡◌, take};
 ghost use Rattle.page.specs.Page.{Writes};
 ghost use Rattle.sheet.specs.Text.{shown};

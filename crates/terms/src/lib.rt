@@ -1,5 +1,7 @@
 // What the branches of a card name: its T's and ratios at given voltages, and a card made ready for them. Definitions,
 // types and laws; the code is in `ready`, `ends`, `apart` and `values`.
+#![tactic(auto)]
+
 pub mod roles; // roles.rt: the roles by their numbers
 
 use card::WorkedCard;

@@ -1,4 +1,6 @@
 // A text written in a lent buffer after the bytes that are used.
+#![tactic(auto)]
+
 ghost use Rattle.page.specs.Page.{Writes};
 ghost use Rattle.sheet.specs.Text.{shown};
 

@@ -1,4 +1,6 @@
 // What a transistor's branches give to the node totals: each to its roles, and then each role to its node.
+#![tactic(auto)]
+
 ghost use Rattle.std.specs.Prelude.{ℕ, ◌≤◌, ◌<◌, get_or, nat_abs, pos};
 ghost use Rattle.terms.specs.Rows.{roles, branches};
 ghost use Rattle.scaling.specs.Scaled.{tick_limit};

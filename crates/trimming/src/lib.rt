@@ -1,4 +1,6 @@
 // A line without the spaces at its ends.
+#![tactic(auto)]
+
 ghost use Rattle.std.specs.Prelude.{◌≡◌};
 ghost use Rattle.trimming.specs.Trimmed.{from_first, to_last, trimmed};
 

@@ -1,4 +1,6 @@
 // T's and ratios of a card at given voltages. Above its limit a number need not be right, but only above it.
+#![tactic(auto)]
+
 ghost use Rattle.std.specs.Prelude.{map};
 ghost use Rattle.volts.specs.Volts.{given_back};
 ghost use Rattle.terms.specs.Values.{bias_of};

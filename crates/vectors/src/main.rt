@@ -1,6 +1,8 @@
 // Outside vectors for the currents: rows on standard input, each a record, the kept voltages of its roles and what they
 // must give (the script `pack` says how).
 // Prints how many agree and how many differ.
+#![tactic(auto)]
+
 use branch::{Admission, BRANCHES, ROLES};
 use libc::{STDIN_FILENO, STDOUT_FILENO};
 use refusal::Refusal;

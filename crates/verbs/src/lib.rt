@@ -1,4 +1,6 @@
 // The commands: the word of each, and what a line of it has to be.
+#![tactic(auto)]
+
 ghost use Rattle.std.specs.Prelude.{◌≡◌};
 ghost use Rattle.verbs.specs.Table.{row_at, place_in, table, row_named};
 

@@ -1,4 +1,6 @@
 // Voltages as they are kept: in microvolts, raised by the largest of them, so that none is negative.
+#![tactic(auto)]
+
 ghost use Rattle.std.specs.Prelude.{◌≡◌};
 ghost use Rattle.volts.specs.Volts.{keeping, given_back, across_of, Near};
 

@@ -1,4 +1,6 @@
 // Signed numbers in their halves, differences and shifts. Nothing here is above 64 bits.
+#![tactic(auto)]
+
 ghost use Rattle.std.specs.Prelude.{◌≡◌, ◌-◌, ◌/◌, ◌^◌, ◌<◌};
 ghost use Rattle.std.proofs.Math.IntN.{sub_ℕ};
 ghost use Rattle.whole.specs.Signed.{int_of, signed_of, signed_span, Closable, Subtractable};

@@ -1,4 +1,6 @@
 // The words of a line, by their places in it.
+#![tactic(auto)]
+
 ghost use Rattle.std.specs.Prelude.{◌≡◌};
 ghost use Rattle.words.specs.Words.{word_at};
 

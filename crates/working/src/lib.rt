@@ -1,4 +1,6 @@
 // The fifteen worked values of a card, in f64 with one rounding per operation.
+#![tactic(auto)]
+
 ghost use Rattle.std.specs.Prelude.{◌≡◌};
 ghost use Rattle.std.specs.Float.Ieee.Scale.{finite};
 ghost use Rattle.working.specs.Work.{conductance_of, worked_of, values_of, all, all_finite};

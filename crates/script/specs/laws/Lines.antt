@@ -3,7 +3,7 @@ use Rattle.std.specs.Prelude.{◌≡◌, refl, List, [], ◌∷◌, map, ℕ, �
 use Prim.Native.String.{String}
 use Rattle.std.proofs.Common.{lt-ltb}
 use Rattle.spelling.specs.Number.{parsed_of, parsed_with, all_digits, decimal_from}
-use Rattle.hex.specs.Hex.{spells, all_pairs, pairs_of}
+use Rattle.hex_bytes.specs.Hex.{spells, all_pairs, pairs_of}
 use Rattle.verbs.specs.declared.Verb.{Verb}
 use Rattle.verbs.specs.declared.Verb.TheVariants.{Record, Place, Moves, Lift, Withdraw, Sheet, ModelLine, Model}
 use Rattle.verbs.specs.declared.Verb.TheVariants.{Nothing, TooLong, Error}

@@ -1,8 +1,8 @@
 -- One input has one result: any two that a contract permits are equal.
 use Rattle.std.specs.Prelude.{◌≡◌, List, ℕ}
 use Rattle.refusal.specs.Unique.{unique_by_equation}
-use Rattle.hex.specs.declared.Hex.{Hex}
-use Rattle.hex.specs.Hex.{ReadsHex}
+use Rattle.hex_bytes.specs.declared.Hex.{Hex}
+use Rattle.hex_bytes.specs.Hex.{ReadsHex}
 
 -- the answer, and every byte of the buffer
 pub unique_hex_bytes : {w old : List ℕ} {r r' : Hex} {new new' : List ℕ} → ReadsHex w old r new

@@ -1,8 +1,8 @@
 -- `pairs::is_hex` meets its contract, in and between the three ranges of digits.
 use native.Mathlib.Omega.{arith}
 use Rattle.spelling.proofs.Ranges.{within, under, above}
-use Rattle.hex.proofs.pairs.is_hex.Tie as tie
-use Rattle.hex.proofs.pairs.is_hex.Statement.{statement}
+use Rattle.hex_bytes.proofs.pairs.is_hex.Tie as tie
+use Rattle.hex_bytes.proofs.pairs.is_hex.Statement.{statement}
 
 returns : tie.Need-returns
 returns c = simp (within 48 c.before.before.args.b 57 (omega arith) (omega arith))

@@ -4,9 +4,9 @@ use Prim.Native.Nat.{ℕ, ◌+◌, ◌*◌}
 use native.Mathlib.Omega.{arith}
 use lib.ListN.{length, length-drop}
 use borrow.Author.Rules.{rules}
-use Rattle.hex.proofs.HexPairs.{Spelling, after_two, spell_first, spell_small, spell_on, spell_end}
-use Rattle.hex.proofs.pairs.fill.Tie as tie
-use Rattle.hex.proofs.pairs.fill.Statement.{statement}
+use Rattle.hex_bytes.proofs.HexPairs.{Spelling, after_two, spell_first, spell_small, spell_on, spell_end}
+use Rattle.hex_bytes.proofs.pairs.fill.Tie as tie
+use Rattle.hex_bytes.proofs.pairs.fill.Statement.{statement}
 
 abbrev invariant_loop : tie.invariant-loop
 invariant_loop word out₀ t₀ i₀ out t i = Spelling word out₀ out t i

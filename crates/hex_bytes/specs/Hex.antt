@@ -1,8 +1,8 @@
 -- Bytes in a word: two hex digits for each, or `-` for none.
 use Rattle.std.specs.Prelude.{◌≡◌, Bool, true, false, cond, ◌&&◌, ◌||◌, List, [], ◌∷◌, ℕ, ◌+◌, ◌*◌, ◌-◌, ◌/◌, eqb, leb, length, get_or}
 use Rattle.bytes_le.specs.Buffer.{over}
-use Rattle.hex.specs.declared.Hex.{Hex}
-use Rattle.hex.specs.declared.Hex.TheVariants.{Bytes, Bad}
+use Rattle.hex_bytes.specs.declared.Hex.{Hex}
+use Rattle.hex_bytes.specs.declared.Hex.TheVariants.{Bytes, Bad}
 
 abbrev pub between : ℕ → ℕ → ℕ → Bool
 between low b high = leb low b && leb b high

@@ -1,7 +1,7 @@
 // Hex digits of either case, two to a byte.
 ghost use Rattle.std.specs.Prelude.{◌≡◌, ◌/◌, ◌≤◌, ◌<◌, length};
 ghost use Rattle.bytes_le.specs.Buffer.{over};
-ghost use Rattle.hex.specs.Hex.{is_hex, nibble_of, is_dash, all_pairs, pairs_of};
+ghost use Rattle.hex_bytes.specs.Hex.{is_hex, nibble_of, is_dash, all_pairs, pairs_of};
 
 fn is_hex(b: u8) -> bool
     ensures { result ≡ is_hex b }

@@ -1,5 +1,7 @@
 // The bytes that a word spells in hex digits. The word is lent.
-ghost use Rattle.hex.specs.Hex.{ReadsHex};
+#![tactic(auto)]
+
+ghost use Rattle.hex_bytes.specs.Hex.{ReadsHex};
 
 mod pairs; // pairs.rt: hex digits read in pairs
 

@@ -1,8 +1,8 @@
 -- `pairs::is_dash` meets its contract.
 use borrow.Author.Tests.{eq-eqb, ne_eqb}
 use borrow.Author.Rules.{rules}
-use Rattle.hex.proofs.pairs.is_dash.Tie as tie
-use Rattle.hex.proofs.pairs.is_dash.Statement.{statement}
+use Rattle.hex_bytes.proofs.pairs.is_dash.Tie as tie
+use Rattle.hex_bytes.proofs.pairs.is_dash.Statement.{statement}
 
 returns : tie.Need-returns
 returns c = simp (ne_eqb _ _ c.if1.true)

@@ -1,9 +1,9 @@
 -- `hex_bytes` meets its contract: a dash, too many pairs, pairs, or other bytes.
 use mathlib.Core.Path.{sym, ◌∙◌}
 use borrow.Author.Rules.{rules}
-use Rattle.hex.proofs.HexPairs.{dashed, too_many, not_pairs, all_spelled}
-use Rattle.hex.proofs.hex_bytes.Tie as tie
-use Rattle.hex.proofs.hex_bytes.Statement.{statement}
+use Rattle.hex_bytes.proofs.HexPairs.{dashed, too_many, not_pairs, all_spelled}
+use Rattle.hex_bytes.proofs.hex_bytes.Tie as tie
+use Rattle.hex_bytes.proofs.hex_bytes.Statement.{statement}
 
 returns : tie.Need-returns
 returns c = dashed _ _ (sym c.if1.true ∙ c.before.is-dash.ensures)

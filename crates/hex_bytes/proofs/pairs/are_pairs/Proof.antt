@@ -3,9 +3,9 @@ use mathlib.Core.Path.{refl, sym, ◌∙◌}
 use native.Mathlib.Omega.{arith}
 use lib.ListN.{length, length-drop}
 use borrow.Author.Rules.{rules}
-use Rattle.hex.proofs.HexPairs.{Same, after_two, pairs_on, pairs_first, pairs_second, pairs_end}
-use Rattle.hex.proofs.pairs.are_pairs.Tie as tie
-use Rattle.hex.proofs.pairs.are_pairs.Statement.{statement}
+use Rattle.hex_bytes.proofs.HexPairs.{Same, after_two, pairs_on, pairs_first, pairs_second, pairs_end}
+use Rattle.hex_bytes.proofs.pairs.are_pairs.Tie as tie
+use Rattle.hex_bytes.proofs.pairs.are_pairs.Statement.{statement}
 
 abbrev invariant_loop : tie.invariant-loop
 invariant_loop word t₀ t = Same word t

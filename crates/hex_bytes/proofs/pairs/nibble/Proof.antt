@@ -2,8 +2,8 @@
 use native.Mathlib.Omega.{arith}
 use borrow.Author.Rules.{rules}
 use Rattle.spelling.proofs.Ranges.{within, under, above}
-use Rattle.hex.proofs.pairs.nibble.Tie as tie
-use Rattle.hex.proofs.pairs.nibble.Statement.{statement}
+use Rattle.hex_bytes.proofs.pairs.nibble.Tie as tie
+use Rattle.hex_bytes.proofs.pairs.nibble.Statement.{statement}
 
 returns : tie.Need-returns
 returns c = (simp (within 48 c.before.before.args.b 57 (omega arith) (omega arith)), omega arith)

@@ -11,9 +11,9 @@ use lib.ListN.{length, take, drop, get_or, set, length-drop}
 use lib.Seq.{take_all, get_or-drop, drop-drop}
 use Rattle.bytes_le.specs.Buffer.{over}
 use Rattle.name.proofs.Laws.{Filled, fill_first, fill_more, fill_all}
-use Rattle.hex.specs.declared.Hex.{Hex}
-use Rattle.hex.specs.declared.Hex.TheVariants.{Bytes, Bad}
-use Rattle.hex.specs.Hex.{is_hex, nibble_of, all_pairs, pairs_of, is_dash, spells, hex_if, over_if, ReadsHex}
+use Rattle.hex_bytes.specs.declared.Hex.{Hex}
+use Rattle.hex_bytes.specs.declared.Hex.TheVariants.{Bytes, Bad}
+use Rattle.hex_bytes.specs.Hex.{is_hex, nibble_of, all_pairs, pairs_of, is_dash, spells, hex_if, over_if, ReadsHex}
 
 -- two bytes, and those after them
 two : (s : List ℕ) → 2 ≤ length s → s ≡ get_or s 0 0 ∷ get_or s 1 0 ∷ drop 2 s
