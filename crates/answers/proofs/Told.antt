@@ -1,9 +1,7 @@
 -- The refusals that tell a number alone.
 use mathlib.Core.Path.{◌≡◌, refl}
-use mathlib.Core.List.{List, [], ◌∷◌}
+use mathlib.Core.List.{[]}
 use Prim.Native.Nat.{ℕ}
-use types.Run.{OneOf, miss}
-use denote.Enum.Declared.{tag_of}
 use Rattle.refusal.specs.declared.Refusal.{Refusal}
 use Rattle.refusal.specs.declared.Refusal.TheVariants.{Malformed, BadName, NameTwice, NameNotHeld, ShortOutput}
 use Rattle.refusal.specs.declared.Refusal.TheVariants.{NotFinite, WrongLevel, BadExsub, BadOctave, OutOfReach}
@@ -11,33 +9,29 @@ use Rattle.refusal.specs.declared.Refusal.TheVariants.{NoRoom, Unknown, OutOfRan
 use Rattle.refusal.specs.declared.Refusal.TheVariants.{CardInUse, NumbersUsedUp, Injection, NegativeIcss}
 use Rattle.refusal.specs.declared.Refusal.TheVariants.{BadKey, BadNumber, KeyMissing, BadLine}
 use Rattle.refusal.specs.Told.{values_of}
-use Rattle.refusal.specs.contracts.Refusal.{the_type}
 
--- their places among all, from 0
-abbrev alone : List ℕ
-alone = 0 ∷ 1 ∷ 2 ∷ 3 ∷ 4 ∷ 5 ∷ 6 ∷ 7 ∷ 8 ∷ 9 ∷ 10 ∷ 11 ∷ 12 ∷ 13 ∷ 15 ∷ 16 ∷ 18 ∷ 19 ∷ 20 ∷ 21 ∷ 22 ∷ []
-
-pub no_values : (f : Refusal) → OneOf alone (tag_of the_type f) → [] ≡ values_of f
-no_values (Overload i b) h = absurd (miss alone 14 tt h)
-no_values (Injection i b) h = absurd (miss alone 17 tt h)
-no_values Malformed h = refl
-no_values BadName h = refl
-no_values NameTwice h = refl
-no_values NameNotHeld h = refl
-no_values ShortOutput h = refl
-no_values NotFinite h = refl
-no_values WrongLevel h = refl
-no_values BadExsub h = refl
-no_values BadOctave h = refl
-no_values OutOfReach h = refl
-no_values NoRoom h = refl
-no_values Unknown h = refl
-no_values OutOfRange h = refl
-no_values SplitCollector h = refl
-no_values CardInUse h = refl
-no_values NumbersUsedUp h = refl
-no_values NegativeIcss h = refl
-no_values BadKey h = refl
-no_values BadNumber h = refl
-no_values KeyMissing h = refl
-no_values BadLine h = refl
+pub no_values : (f : Refusal) → ((i b : ℕ) → f ≡ Overload i b → ⊥) → ((i b : ℕ) → f ≡ Injection i b → ⊥)
+    → [] ≡ values_of f
+no_values (Overload i b) o j = absurd (o i b refl)
+no_values (Injection i b) o j = absurd (j i b refl)
+no_values Malformed o j = refl
+no_values BadName o j = refl
+no_values NameTwice o j = refl
+no_values NameNotHeld o j = refl
+no_values ShortOutput o j = refl
+no_values NotFinite o j = refl
+no_values WrongLevel o j = refl
+no_values BadExsub o j = refl
+no_values BadOctave o j = refl
+no_values OutOfReach o j = refl
+no_values NoRoom o j = refl
+no_values Unknown o j = refl
+no_values OutOfRange o j = refl
+no_values SplitCollector o j = refl
+no_values CardInUse o j = refl
+no_values NumbersUsedUp o j = refl
+no_values NegativeIcss o j = refl
+no_values BadKey o j = refl
+no_values BadNumber o j = refl
+no_values KeyMissing o j = refl
+no_values BadLine o j = refl

@@ -11,7 +11,7 @@ use refusal::Refusal;
 
 // An answer; those to `clip`, `currents`, `who` and `sum` are apart (`spaced`), and so are those to `model`, an
 // unreadable file and a line that is no command (`quoting`).
-#[derive(Drop)]
+#[derive(Clone, Copy)]
 pub enum Answer {
     Library(u32),
     Offset(usize),

@@ -12,7 +12,7 @@ use terms::ROLES;
 const FEW_ROLES: usize = 7;
 
 // About a card, which the line names or is.
-#[derive(Drop)]
+#[derive(Clone, Copy)]
 pub enum OfCard {
     Load,
     Record,
@@ -21,7 +21,7 @@ pub enum OfCard {
 }
 
 // To change what stands, by numbers.
-#[derive(Drop)]
+#[derive(Clone, Copy)]
 pub enum Change {
     Place,
     Move,
@@ -30,7 +30,7 @@ pub enum Change {
 }
 
 // To read, by one number.
-#[derive(Drop)]
+#[derive(Clone, Copy)]
 pub enum Reads {
     Node,
     Currents,
@@ -38,7 +38,7 @@ pub enum Reads {
 }
 
 // A call of the board.
-#[derive(Drop)]
+#[derive(Clone, Copy)]
 pub enum Call {
     Card(OfCard),
     Change(Change),
@@ -47,7 +47,7 @@ pub enum Call {
 }
 
 // What asks the library held, or nobody.
-#[derive(Drop)]
+#[derive(Clone, Copy)]
 pub enum Apart {
     Nothing,
     TooLong,
@@ -59,7 +59,7 @@ pub enum Apart {
 }
 
 // Whom a command asks: the board, by a call, for a list or for the sheet, nobody but its two slices, or not even these.
-#[derive(Drop)]
+#[derive(Clone, Copy)]
 pub enum Asks {
     Board(Call),
     Who,

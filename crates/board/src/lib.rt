@@ -21,7 +21,7 @@ use terms::{BRANCHES, ROLES};
 // struct, and what does not change is not copied. `next` has 64 bits, though 32 hold every number, so that what follows
 // it begins at a multiple of eight: a part that begins between two is copied more often.
 #[repr(C)]
-#[derive(Drop)]
+#[derive(Clone, Copy)]
 pub struct Board {
     pub numbers: [u32; deck::ALL_NUMBERS],
     pub powers: [u16; deck::ALL_POWERS],
@@ -41,7 +41,7 @@ pub struct Board {
 }
 
 // An answer; the numbers of `Answer::Currents` stand beside it, and are 0 beside every other.
-#[derive(Drop)]
+#[derive(Clone, Copy)]
 pub struct Answered {
     pub board: Board,
     pub answer: Answer,

@@ -25,7 +25,7 @@ pub(crate) fn turned_away(f: Refusal) -> Reply
 
 // The voltages of the roles as they are kept, where every one is within its range; else only those before the first
 // that is not.
-#[derive(Drop)]
+#[derive(Clone, Copy)]
 pub(crate) struct Keeping {
     within: bool,
     volts: [u32; ROLES],

@@ -9,14 +9,14 @@ use card::Judged;
 use refusal::Refusal;
 pub use terms::{BRANCHES, ROLES};
 
-#[derive(Drop)]
+#[derive(Clone, Copy)]
 pub enum Admission {
     Given,
     Refused(Refusal),
 }
 
 // The currents; all zero where the record or a voltage is refused.
-#[derive(Drop)]
+#[derive(Clone, Copy)]
 pub struct Reply {
     pub admission: Admission,
     pub ticks: [i64; BRANCHES],

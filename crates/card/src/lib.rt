@@ -11,7 +11,7 @@ pub use clip::{Answer, Clipping, WIDTH, clip, right_length};
 use refusal::Refusal;
 
 // What the branches need of a card: fifteen values as a * 2^b, the two octaves in nanovolts, V_Lr, and five switches.
-#[derive(Drop)]
+#[derive(Clone, Copy)]
 pub struct WorkedCard {
     pub sn: float::Split,
     pub bulk: float::Split,
@@ -46,7 +46,7 @@ pub struct WorkedCard {
     pub wide: bool,
 }
 
-#[derive(Drop)]
+#[derive(Clone, Copy)]
 pub enum Judged {
     Card(WorkedCard),
     Refused(Refusal),

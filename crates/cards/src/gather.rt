@@ -21,7 +21,7 @@ const LIBRARY_ROOM: usize = 53264;
 const VERSION: u16 = 2;
 
 // How far a file is read. A model line waits, so many bytes of it kept, until it is known to have ended.
-#[derive(Drop)]
+#[derive(Clone, Copy)]
 struct Progress {
     // how many lines have ended, and how many bytes are kept of the next one
     lines: u64,

@@ -17,7 +17,7 @@ pub const WIDTH: usize = 24;
 pub const NARROW: usize = 16;
 
 // How clipping went.
-#[derive(Drop)]
+#[derive(Clone, Copy)]
 pub enum Answer {
     Taken,
     Refused(Refusal),
@@ -25,7 +25,7 @@ pub enum Answer {
 
 // The clipped numbers, +0 for each that the record has not, and bit i of the mask for a number i whose value changed.
 // All are zero where the answer is a refusal.
-#[derive(Drop)]
+#[derive(Clone, Copy)]
 pub struct Clipping {
     pub answer: Answer,
     pub numbers: [f64; WIDTH],

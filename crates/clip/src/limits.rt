@@ -4,7 +4,7 @@ ghost use Rattle.clip.specs.Limits.{rule_of, plain_of, clip_to};
 
 use crate::numbers;
 
-#[derive(Drop)]
+#[derive(Clone, Copy)]
 pub enum Rule {
     Free,
     AtLeast(f64),

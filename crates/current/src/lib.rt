@@ -13,7 +13,7 @@ const AMPERE_TICKS: u64 = 1125899906842624;
 const FOUR: u64 = 10000;
 
 // A signed number: whether it is below zero, and its size.
-#[derive(Drop)]
+#[derive(Clone, Copy)]
 pub struct Opened {
     pub below: bool,
     pub size: u64,

@@ -8,7 +8,7 @@ ghost use Rattle.decimal.specs.Decimal.{digits_end, powers_end, rounded_of, size
 pub const SIGN: u64 = 0x8000000000000000;
 
 // A number in decimal digits: whether it is below zero, its digits, and its power of ten with 22 added; or none.
-#[derive(Drop)]
+#[derive(Clone, Copy)]
 pub enum Form {
     Number(bool, u64, u64),
     Nothing,

@@ -15,7 +15,7 @@ const MOST_DIGITS: u64 = 15;
 const POWERS_END: u64 = 45;
 
 // What a text stands for where a number is wanted.
-#[derive(Drop)]
+#[derive(Clone, Copy)]
 pub enum Reading {
     Word(u64),
     Nothing,

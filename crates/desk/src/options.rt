@@ -1,6 +1,6 @@
 // What the arguments ask for beside the scripts: whether lines may poke, whether refusals are explained, and whether
 // lines are repeated.
-#[derive(Drop)]
+#[derive(Clone, Copy)]
 pub struct Options {
     pub pokes: bool,
     pub explains: bool,
@@ -8,7 +8,7 @@ pub struct Options {
 }
 
 // What an argument is: one of the options, or the name of a script.
-#[derive(Drop)]
+#[derive(Clone, Copy)]
 pub enum Argument {
     Poke,
     Explain,

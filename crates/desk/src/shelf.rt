@@ -2,7 +2,7 @@
 use page::ROOM;
 use shelving::MOST;
 
-#[derive(Drop)]
+#[derive(Clone, Copy)]
 enum File {
     Bytes(usize),
     Failed,

@@ -18,7 +18,7 @@ pub const HEADER_BYTES: usize = 16;
 const MOST_CARDS: usize = 256;
 
 // A library, or what is to become one, inspected: its count of cards and the words of a record, or what is wrong.
-#[derive(Drop)]
+#[derive(Clone, Copy)]
 pub enum Inspection {
     Numbers { cards: usize, words: usize },
     Refused(Refusal),

@@ -11,7 +11,7 @@ use directory::{HEADER_BYTES, Inspection, NAME_BYTES};
 use refusal::Refusal;
 
 // What locating answers: the place of a record's first byte and its count of bytes, or why not.
-#[derive(Drop)]
+#[derive(Clone, Copy)]
 pub enum Located {
     Record { at: usize, size: usize },
     Refused(Refusal),

@@ -8,7 +8,7 @@ ghost use Rattle.float.specs.Word.{real_of};
 ghost use Rattle.float.specs.Split.{split_of, no_split};
 
 // What the bits of a word stand for. Nothing: an infinity, or no number.
-#[derive(Drop)]
+#[derive(Clone, Copy)]
 pub enum Number {
     Real(f64),
     Nothing,
@@ -23,7 +23,7 @@ const LOWEST: u64 = BIAS as u64 + 1105;
 const FIELD: u64 = LOWEST - 52;
 
 // The number a * 2^(BIAS - down), where 2^30 <= a < 2^31 or a is 0.
-#[derive(Drop)]
+#[derive(Clone, Copy)]
 pub struct Split {
     pub a: u32,
     pub down: u16,

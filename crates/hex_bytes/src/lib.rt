@@ -6,7 +6,7 @@ ghost use Rattle.hex_bytes.specs.Hex.{ReadsHex};
 mod pairs; // pairs.rt: hex digits read in pairs
 
 // What a word is where bytes in hex digits are wanted: how many, or that it is none.
-#[derive(Drop)]
+#[derive(Clone, Copy)]
 pub enum Hex {
     Bytes(usize),
     Bad,

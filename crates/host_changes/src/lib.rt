@@ -10,7 +10,7 @@ ghost use Rattle.host_changes.specs.Changes.{Leaves, Begun, Loaded};
 use board::Board;
 
 // The next board, and the result.
-#[derive(Drop)]
+#[derive(Clone, Copy)]
 pub struct Outcome {
     pub board: Board,
     pub code: u32,

@@ -9,7 +9,7 @@ pub const LONGEST_LINE: usize = 4096;
 
 pub const LINE_ROOM: usize = 4098;
 
-#[derive(Drop)]
+#[derive(Clone, Copy)]
 pub enum Kind {
     // a comment, or a blank line
     Passed,

@@ -13,7 +13,7 @@ use decimal_write::LINE_ROOM;
 use keys::KEYS;
 
 // Where a text ends that was put; or nothing, where a number has no form.
-#[derive(Drop)]
+#[derive(Clone, Copy)]
 pub enum Put {
     To(usize),
     Nothing,

@@ -12,14 +12,14 @@ pub use finding::{Located, find, locate, record_at};
 use refusal::Refusal;
 
 // What reading answers: the count of cards and the version, or why not.
-#[derive(Drop)]
+#[derive(Clone, Copy)]
 pub enum Reading {
     Cards(u32, u16),
     Refused(Refusal),
 }
 
 // What writing answers: the count of bytes, or why not.
-#[derive(Drop)]
+#[derive(Clone, Copy)]
 pub enum Writing {
     Bytes(u32),
     Refused(Refusal),

@@ -10,14 +10,14 @@ pub const WORDS: usize = 24;
 pub const RECORD_BYTES: usize = 192;
 
 // How reading went.
-#[derive(Drop)]
+#[derive(Clone, Copy)]
 pub enum Answer {
     Taken,
     Refused(Refusal),
 }
 
 // Where the name begins and ends, the place after the type, and the word of the polarity; or why not.
-#[derive(Drop)]
+#[derive(Clone, Copy)]
 pub enum Head {
     Words {
         start: usize,

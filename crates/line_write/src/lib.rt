@@ -15,7 +15,7 @@ use keyed::Put;
 use refusal::Refusal;
 
 // How writing went: so many bytes, or why not.
-#[derive(Drop)]
+#[derive(Clone, Copy)]
 pub enum Written {
     Bytes(usize),
     Refused(Refusal),

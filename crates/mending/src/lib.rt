@@ -9,7 +9,7 @@ use library::copy;
 use refusal::Refusal;
 
 // What mending answers: how many cards it set to +0, or why not.
-#[derive(Drop)]
+#[derive(Clone, Copy)]
 pub enum Mending {
     Set(u32),
     Refused(Refusal),

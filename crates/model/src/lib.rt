@@ -3,7 +3,7 @@
 
 use refusal::Refusal;
 
-#[derive(Drop)]
+#[derive(Clone, Copy)]
 pub enum Answer {
     Issue(u32),
     Done,

@@ -88,7 +88,7 @@ const POWERS: Table = [
 ];
 
 // The reciprocal of the octave w, FINE * 2^54 / w, is high * 2^32 + low; base and add raise a position by BIAS.
-#[derive(Drop)]
+#[derive(Clone, Copy)]
 pub struct Reciprocal {
     pub w: u32,
     pub high: u32,
@@ -98,7 +98,7 @@ pub struct Reciprocal {
 }
 
 // m, and n raised by BIAS.
-#[derive(Drop)]
+#[derive(Clone, Copy)]
 pub struct Exponential {
     pub m: u64,
     pub n: u64,

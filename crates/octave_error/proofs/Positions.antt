@@ -66,6 +66,7 @@ step_below_lem (suc r) p h =
     raise_more points (lower_chord (suc r) * (one - 1)) (steps * one * one) (suc (entry_of (suc r))) one (2 ^ suc r)
     (omega arith) (leb→le _ _ (at_each step_below (steps - 1) tt r (omega arith)))
     (entry_least (suc r) (omega arith))
+step_below_lem zero p h = elim p [ ]
 
 -- ---- every position
 

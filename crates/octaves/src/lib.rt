@@ -16,7 +16,7 @@ const MOST: f64 = 50000000.0;
 const SECOND_OVER: f64 = 1000000001.0;
 
 // The second octave, or that it is too large.
-#[derive(Drop)]
+#[derive(Clone, Copy)]
 pub enum Octave {
     Nanovolts(u32),
     Out,

@@ -17,7 +17,7 @@ use terms::{C1, C3, C4, ROLES};
 use totals::NODES;
 
 // The places of the card and of the transistor to be, or the refusal.
-#[derive(Drop)]
+#[derive(Clone, Copy)]
 pub enum Way {
     Go(usize, usize),
     Stop(Refusal),

@@ -15,7 +15,7 @@ use terms::BRANCHES;
 use totals::NODES;
 
 // The answer, and the currents beside it: all 0 beside a refusal.
-#[derive(Drop)]
+#[derive(Clone, Copy)]
 pub struct Reading {
     pub answer: Answer,
     pub ticks: [i64; BRANCHES],

@@ -27,7 +27,7 @@ const DOWN: u64 = BIAS + 40;
 const TICKS_OVER: u64 = TICKS_MOST + 1;
 
 // What a branch adds and what it takes away, one of them 0; or more than it may, where it overloads.
-#[derive(Drop)]
+#[derive(Clone, Copy)]
 pub struct Pair {
     pub plus: u64,
     pub minus: u64,

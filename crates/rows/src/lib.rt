@@ -22,7 +22,7 @@ const JUNCTIONS: usize = 8;
 const NEAR: u64 = UNIT / 64;
 
 // Which row overloads first, by its number from 1, and whether by a T or by a ratio.
-#[derive(Drop)]
+#[derive(Clone, Copy)]
 pub enum Over {
     Within,
     Ticks(u32),
@@ -30,7 +30,7 @@ pub enum Over {
 }
 
 // The ticks of each row; all zero where one overloads.
-#[derive(Drop)]
+#[derive(Clone, Copy)]
 pub struct Outcome {
     pub over: Over,
     pub ticks: [i64; BRANCHES],

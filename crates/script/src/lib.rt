@@ -19,7 +19,7 @@ pub const MOST_BYTES: usize = 2048;
 
 // What a line says: the verb, the words, those after the first as numbers, how many bytes its hex digits spell, and the
 // whole series of its numbers where the command is a list.
-#[derive(Drop)]
+#[derive(Clone, Copy)]
 pub struct Command {
     pub verb: Verb,
     pub words: Words,

@@ -10,7 +10,7 @@ use spelling::Parsed;
 pub const ROOM: usize = 66;
 
 // Whether every word after the first is a number; then how many there are, and the first of them.
-#[derive(Drop)]
+#[derive(Clone, Copy)]
 pub struct Series {
     pub good: bool,
     pub count: usize,

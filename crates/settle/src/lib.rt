@@ -10,14 +10,14 @@ pub use flows::{is_over, put_in, refusal_of, work};
 use polarity::Over;
 
 // The first transistor that overloads, by issue number; 0 and within its limits where none does.
-#[derive(Drop)]
+#[derive(Clone, Copy)]
 pub struct First {
     pub issue: u32,
     pub over: Over,
 }
 
 // That, and whether every total stays within 64 bits.
-#[derive(Drop)]
+#[derive(Clone, Copy)]
 pub struct Judgement {
     pub first: First,
     pub fits: bool,

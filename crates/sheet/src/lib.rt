@@ -23,7 +23,7 @@ const WORD_DIGITS: usize = 16;
 pub const ROOM: usize = 104;
 
 // The first `len` bytes are the text; those after it are 0.
-#[derive(Drop)]
+#[derive(Clone, Copy)]
 pub struct Text {
     pub bytes: [u8; ROOM],
     pub len: usize,

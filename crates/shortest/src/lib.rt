@@ -14,7 +14,7 @@ use reaching::{DIGITS_END, NO_POWER};
 const POWERS_END: u64 = 45;
 
 // The digits and the power of a size.
-#[derive(Drop)]
+#[derive(Clone, Copy)]
 pub enum Found {
     At(u64, u64),
     Nowhere,

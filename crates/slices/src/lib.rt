@@ -3,7 +3,7 @@
 #![tactic(auto)]
 
 // A total as it would stand, or word that it would leave the 64-bit range.
-#[derive(Drop)]
+#[derive(Clone, Copy)]
 pub enum Total {
     At(i64),
     Leaves,

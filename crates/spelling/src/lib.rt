@@ -7,7 +7,7 @@ ghost use Rattle.spelling.specs.Number.{parsed_of, fits_of};
 mod numeral; // numeral.rt: a decimal numeral read
 
 // What a word is where a number is wanted.
-#[derive(Drop)]
+#[derive(Clone, Copy)]
 pub enum Parsed {
     Number(i64),
     Nothing,

@@ -16,7 +16,7 @@ use places::{ALL_NAMES, CARDS};
 use refusal::Refusal;
 
 // The free place for a card and the card worked, or the refusal.
-#[derive(Drop)]
+#[derive(Clone, Copy)]
 enum Loading {
     Go(usize, WorkedCard),
     Stop(Refusal),

@@ -14,7 +14,7 @@ pub const BRANCHES: usize = 13;
 
 // A card with what depends on it alone: the octaves' reciprocals, the exponential of V_Lr, and each T without an
 // exponential.
-#[derive(Drop)]
+#[derive(Clone, Copy)]
 pub struct Ready {
     pub card: WorkedCard,
     pub plain: Reciprocal,
@@ -32,7 +32,7 @@ pub struct Ready {
 
 // The T's that each row adds and takes away, and the floors of the two ratios in its divisor: 0 where it has none,
 // whose root is 2^20. Row 8 is worked whole: one of its two numbers is its size, or too much where it overloads.
-#[derive(Drop)]
+#[derive(Clone, Copy)]
 pub struct Terms {
     pub plus: [u64; BRANCHES],
     pub minus: [u64; BRANCHES],
@@ -41,7 +41,7 @@ pub struct Terms {
 }
 
 // What the series resistors add and take away, from E to E1 and so on: one of two numbers is the T, and the other 0.
-#[derive(Drop)]
+#[derive(Clone, Copy)]
 pub struct Leads {
     pub e: Pair,
     pub b: Pair,

@@ -4,7 +4,7 @@
 ghost use Rattle.std.specs.Prelude.{◌≡◌};
 ghost use Rattle.verbs.specs.Table.{row_at, place_in, table, row_named};
 
-#[derive(Drop)]
+#[derive(Clone, Copy)]
 pub enum Verb {
     Library,
     Find,
@@ -36,7 +36,7 @@ pub enum Verb {
 
 // What the words of a command have to be, beside the first: any, or numbers, as many as make so many words in all, or
 // one of two; pairs of numbers, as many as there are; a name and hex digits; or whatever they are.
-#[derive(Drop)]
+#[derive(Clone, Copy)]
 pub enum Wants {
     Texts(usize),
     Numbers(usize),
@@ -46,7 +46,7 @@ pub enum Wants {
     Anything,
 }
 
-#[derive(Drop)]
+#[derive(Clone, Copy)]
 pub struct Row {
     pub verb: Verb,
     pub wants: Wants,

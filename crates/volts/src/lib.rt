@@ -19,7 +19,7 @@ pub const SPAN: u64 = 2 * VOLTS_MOST;
 pub const ZERO: u32 = VOLTS_MOST as u32;
 
 // A voltage as it is kept, or word that it is outside the range.
-#[derive(Drop)]
+#[derive(Clone, Copy)]
 pub enum Voltage {
     Kept(u32),
     Outside,

@@ -9,7 +9,7 @@ ghost use Rattle.whole.specs.Signed.{int_of, signed_of, signed_span, Closable, S
 const SIGNED_PLACES: u64 = 63;
 
 // A signed number in its two halves: NegSuc(n) is -(n + 1).
-#[derive(Drop)]
+#[derive(Clone, Copy)]
 pub enum Int {
     Pos(u64),
     NegSuc(u64),

@@ -13,7 +13,7 @@ pub const MOST_WORDS: usize = 13;
 
 // Where the first words of a line begin, and the places after them. `count` is how many there are; one more than the
 // most stands for any more.
-#[derive(Drop)]
+#[derive(Clone, Copy)]
 pub struct Words {
     pub starts: [usize; MOST_WORDS],
     pub ends: [usize; MOST_WORDS],
@@ -21,7 +21,7 @@ pub struct Words {
 }
 
 // Where a word begins, and the place after its last byte.
-#[derive(Drop)]
+#[derive(Clone, Copy)]
 pub struct Span {
     pub start: usize,
     pub end: usize,

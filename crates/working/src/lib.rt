@@ -12,7 +12,7 @@ const VALUES: usize = 15;
 pub const MICROVOLTS: f64 = 1000000.0;
 
 // Clipped parameters, under the names that document 003 gives them.
-#[derive(Drop)]
+#[derive(Clone, Copy)]
 pub struct Parameters {
     pub mult: f64,
     pub is: f64,
@@ -32,7 +32,7 @@ pub struct Parameters {
     pub rcbli: f64,
 }
 
-#[derive(Drop)]
+#[derive(Clone, Copy)]
 pub struct Worked {
     pub sn: f64,
     pub bulk: f64,

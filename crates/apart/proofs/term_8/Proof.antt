@@ -7,39 +7,30 @@ use Rattle.terms.proofs.Readied.{plain_junction, doubled_junction, scalable, tic
 use Rattle.apart.proofs.term_8.Statement.{statement}
 use Rattle.apart.proofs.term_8.Tie as tie
 
-abbrev start : tie.Else1 → tie.Start
-start c = c.before.before.before.before
+returns : tie.Need-returns-then-s-eq0
+returns c = idle _ _ c.if-s-eq0.true
 
-returns : tie.Need-returns
-returns c = idle _ _ c.if1.true
+exponential_requires : tie.Need-exponential-plain-requires
+exponential_requires c κs = plain_junction c.requires (lit< tt) (lit< tt)
 
-exponential_requires : tie.Need-exponential-requires
-exponential_requires c κs = plain_junction (start c).requires (lit< tt) (lit< tt)
+exponential_requires_2 : tie.Need-exponential-doubled-requires
+exponential_requires_2 c κs = doubled_junction c.requires (lit< tt) (lit< tt)
 
-exponential_requires_2 : tie.Need-exponential-requires-2
-exponential_requires_2 c κs = doubled_junction (start c.before).requires (lit< tt) (lit< tt)
-
-faint_requires : tie.Need-faint-requires
+faint_requires : tie.Need-faint-plus-requires
 faint_requires c κs =
-    let s = start c.before.before in
-    scalable (splits s.pre.ready.worked).reverse c.before.exponential.ensures 0 (lit≤ tt)
+    scalable (splits c.requires.ready.worked).reverse c.exponential-plain.ensures 0 (lit≤ tt)
 
-sum_of_requires : tie.Need-sum-of-requires
+sum_of_requires : tie.Need-sum_of-sum-requires
 sum_of_requires c κs =
-    let e = c.before in
-    let s = start e.before.before in (e.exponential2.ensures.sized, (own_knee s.pre.ready).sized)
+    (c.exponential-doubled.ensures.sized, (own_knee c.requires.ready).sized)
 
-returns_2 : tie.Need-returns-2
+returns_2 : tie.Need-returns
 returns_2 c =
-    let f = c.before.before in
-    let e = f.before in
-    let l = e.before.before in
-    let s = start l in
-    let h = s.pre.ready in
-    over_sum_lem _ _ l.if1.false
-    (ticks_at_lem (splits h.worked).reverse e.before.exponential.ensures (plain_octave h) f.faint.ensures)
-    (own_reverse h) (sum_at e.exponential2.ensures (doubled_octave_lem h) (own_knee h) c.before.sum_of.ensures)
-    c.over_sum_lem.ensures
+    let h = c.requires.ready in
+    over_sum_lem _ _ c.if-s-eq0.false
+    (ticks_at_lem (splits h.worked).reverse c.exponential-plain.ensures (plain_octave h) c.faint-plus.ensures)
+    (own_reverse h) (sum_at c.exponential-doubled.ensures (doubled_octave_lem h) (own_knee h) c.sum_of-sum.ensures)
+    c.over_sum.ensures
 
 pub term_8_spec : {M : Type 1} → statement M
 term_8_spec =

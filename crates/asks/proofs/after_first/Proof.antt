@@ -4,11 +4,11 @@ use Rattle.asks.proofs.Numbers.{none_after, rest_after_lem}
 use Rattle.asks.proofs.after_first.Tie as tie
 use Rattle.asks.proofs.after_first.Statement.{statement}
 
-returns : tie.Need-returns
-returns c = none_after c.before.args.numbers.now c.if1.true
+returns : tie.Need-returns-then-numbers-eq0
+returns c = none_after c.args.numbers.now c.if-numbers-eq0.true
 
-returns_2 : tie.Need-returns-2
-returns_2 c = rest_after_lem c.before.before.args.numbers.now
+returns_2 : tie.Need-returns
+returns_2 c = rest_after_lem c.args.numbers.now
 
 pub after_first_spec : {M : Type 1} → statement M
 after_first_spec =

@@ -4,17 +4,17 @@ use Rattle.asks.proofs.Numbers.{nodes_all, nodes_few}
 use Rattle.asks.proofs.nodes_in.Tie as tie
 use Rattle.asks.proofs.nodes_in.Statement.{statement}
 
-returns : tie.Need-returns
+returns : tie.Need-returns-then-words-eq-MOST_WORDS
 returns c =
     let a = c.before.before in
-    nodes_all a.before.args.numbers.now a.after_first.ensures a.before.args.words c.before.if1.true
+    nodes_all a.args.numbers.now a.after_first-nodes.ensures a.args.words c.if-words-eq-MOST_WORDS.true
     c.first.ensures
 
-returns_2 : tie.Need-returns-2
+returns_2 : tie.Need-returns
 returns_2 c =
     let a = c.before.before in
-    nodes_few a.before.args.numbers.now a.after_first.ensures a.before.args.words c.before.if1.false
-    c.first2.ensures
+    nodes_few a.args.numbers.now a.after_first-nodes.ensures a.args.words c.if-words-eq-MOST_WORDS.false
+    c.first-2.ensures
 
 pub nodes_in_spec : {M : Type 1} → statement M
 nodes_in_spec =

@@ -4,10 +4,10 @@ use borrow.Author.Rules.{rules}
 use Rattle.bytes_le.proofs.u64_at.Statement.{statement}
 use Rattle.bytes_le.proofs.u64_at.Tie as tie
 
-returns : tie.Need-returns
-returns c = no_word _ _ c.if1.true
+returns : tie.Need-returns-then-s-at
+returns c = no_word _ _ c.if-s-at.true
 
-returns_2 : tie.Need-returns-2
+returns_2 : tie.Need-returns
 returns_2 c = rw rest at c.word.ensures
 
 pub u64_at_spec : {M : Type 1} → statement M

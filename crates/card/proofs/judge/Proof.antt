@@ -10,24 +10,24 @@ use Rattle.card.proofs.judge.Statement.{statement}
 use Rattle.card.proofs.judge.Tie as tie
 
 -- clipping was taken
-filled : (c : tie.After-filled)
-    → Went c.before.before.before.before.before.before.before.args.bytes.now c.filled.result
+filled : (c : tie.After-filled-numbers)
+    → Went c.args.bytes.now c.filled-numbers.result
 filled c =
     let told = c.before.before.before in
-    let e = c.filled.ensures ∙ ap (λ (b : Bool). filled_with b told.before.before.clip.result.numbers)
-    c.before.is_wide.ensures in
-    went told.before.before.clip.ensures told.enum_told.given.1 e
+    let e = c.filled-numbers.ensures ∙ ap (λ (b : Bool). filled_with b told.clip-clipping.result.numbers)
+    c.is_wide.ensures in
+    went told.clip-clipping.ensures told.in-Taken.is e
 
-returns : tie.Need-returns
+returns : tie.Need-returns-in-Taken
 returns c =
     let w = filled c.before.before.before in
-    c.judge-numbers.ensures
-    ∙ ap (λ (b : Bool). tells (judge_numbers b c.before.before.before.filled.result))
-    c.before.spares-good.ensures
+    c.judge_numbers.ensures
+    ∙ ap (λ (b : Bool). tells (judge_numbers b c.filled-numbers.result))
+    c.spares_good.ensures
     ∙ ap tells (sym w.next)
 
-returns_2 : tie.Need-returns-2
-returns_2 c = stays c.before.before.before.clip.ensures _ c.before.answer.given.1
+returns_2 : tie.Need-returns-in-Refused
+returns_2 c = stays c.clip-clipping.ensures _ c.in-Refused.is
 
 pub judge_spec : {M : Type 1} → statement M
 judge_spec =

@@ -11,29 +11,29 @@ use Rattle.clip.proofs.Taken.{wide_record, narrow_record, no_record, clips_refus
 use Rattle.clip.proofs.clip.Statement.{statement}
 use Rattle.clip.proofs.clip.Tie as tie
 
-clip_all_requires : tie.Need-clip-all-requires
+clip_all_requires : tie.Need-clip_all-requires
 clip_all_requires c κs =
     let wide = c.before in
-    wide_record wide.before.before.args.bytes.now (sym wide.is_wide.ensures ∙ c.if1.true)
+    wide_record wide.args.bytes.now (sym wide.is_wide.ensures ∙ c.if-is_wide.true)
 
 -- not of version 2
-module _ (c : tie.Else1) where
+module _ (c : tie.Else-is_wide) where
   abbrev s : List ℕ
-  s = c.before.before.before.args.bytes.now
+  s = c.args.bytes.now
 
   not_wide : is_wide s ≡ false
-  not_wide = sym c.before.is_wide.ensures ∙ c.if1.false
+  not_wide = sym c.is_wide.ensures ∙ c.if-is_wide.false
 
-clip_all_requires_2 : tie.Need-clip-all-requires-2
+clip_all_requires_2 : tie.Need-clip_all-requires-then-is_narrow
 clip_all_requires_2 c κs =
     let e = c.before.before in
-    narrow_record (s e) (not_wide e) (sym c.before.is-narrow.ensures ∙ c.if2.true)
+    narrow_record (s e) (not_wide e) (sym c.is_narrow.ensures ∙ c.if-is_narrow.true)
 
-returns_3 : tie.Need-returns-3
+returns_3 : tie.Need-returns-else-is_narrow
 returns_3 c =
     let narrow = c.before.before in
     let e = narrow.before in
-    let none = no_record (s e) (not_wide e) (sym narrow.is-narrow.ensures ∙ c.before.if2.false) in
+    let none = no_record (s e) (not_wide e) (sym narrow.is_narrow.ensures ∙ c.if-is_narrow.false) in
     subst (λ (r : Clipping). Clips (s e) r) (sym c.refused.ensures) (clips_refused none)
 
 pub clip_spec : {M : Type 1} → statement M
@@ -45,6 +45,6 @@ clip_spec =
     (λ c κs. search rules)
     clip_all_requires_2
     (λ c κs. search rules)
-    (λ c. c.clip-all.ensures)
-    (λ c. c.clip-all2.ensures)
+    (λ c. c.clip_all.ensures)
+    (λ c. c.clip_all-then-is_narrow.ensures)
     returns_3)

@@ -7,23 +7,23 @@ use borrow.Author.Rules.{rules}
 use Rattle.copying.proofs.copy.Statement.{statement}
 use Rattle.copying.proofs.copy.Tie as tie
 
-abbrev invariant_loop : tie.invariant-loop
+abbrev invariant_loop : tie.invariant-loop-i
 invariant_loop src dst₀ i₀ dst i = Filled src dst₀ dst i
 
-abbrev decreases_loop : tie.decreases-loop
+abbrev decreases_loop : tie.decreases-loop-i
 decreases_loop src dst₀ i₀ dst i = length src - i
 
-loop_holds : tie.Need-loop-init invariant_loop decreases_loop
+loop_holds : tie.Need-loop-i-init invariant_loop decreases_loop
 loop_holds c = fill_first c.requires
 
-loop_again : tie.Need-loop-preserved invariant_loop decreases_loop
-loop_again c = fill_more c.before.before.loop.invariant _ c.before.loop-test.true refl
+loop_again : tie.Need-loop-i-preserved invariant_loop decreases_loop
+loop_again c = fill_more c.loop-i.invariant _ c.loop-i-test.true refl
 
-same_length : tie.Need-same-length invariant_loop decreases_loop
-same_length c = c.before.loop.invariant.kept
+same_length : tie.Need-shape_of-dst invariant_loop decreases_loop
+same_length c = c.loop-i.invariant.kept
 
 returns : tie.Need-returns invariant_loop decreases_loop
-returns c = fill_all c.before.loop.invariant c.loop-test.false
+returns c = fill_all c.loop-i.invariant c.loop-i-test.false
 
 pub copy_spec : {M : Type 1} → statement M
 copy_spec =

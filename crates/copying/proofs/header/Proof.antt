@@ -9,40 +9,40 @@ use Rattle.copying.proofs.header.Tie as tie
 use Rattle.directory.specs.Format.{most_cards}
 use Rattle.directory.specs.Format.{most_words}
 
-fits : (c : tie.After-width) → c.width.result * c.before.args.count ≤ most_words * most_cards
-fits c = few c.width.ensures.1 c.before.requires
+fits : (c : tie.After-width) → c.width.result * c.args.count ≤ most_words * most_cards
+fits c = few c.width.ensures.1 c.requires
 
-mul_whole : tie.Need-overflow-mul-whole
+mul_whole : tie.Need-overflow_mul-whole
 mul_whole c = omega (arith, fits c)
 
-mul_whole_2 : tie.Need-overflow-mul-whole-2
+mul_whole_2 : tie.Need-overflow_mul-whole-2
 mul_whole_2 c = omega (arith, fits c)
 
-add_whole : tie.Need-overflow-add-whole
+add_whole : tie.Need-overflow_add-whole
 add_whole c = omega (arith, fits c)
 
-abbrev put4_before_h10 : tie.After-h10 → tie.After-put4
+abbrev put4_before_h10 : tie.After-h-10-1 → tie.After-put-4
 put4_before_h10 c = c.before.before.before.before
 
-abbrev put3_before_h10 : tie.After-h10 → tie.After-put3
+abbrev put3_before_h10 : tie.After-h-10-1 → tie.After-put-3
 put3_before_h10 c = c.before.before.before.before.before.before.before
 
-abbrev put2_before_h10 : tie.After-h10 → tie.After-put2
+abbrev put2_before_h10 : tie.After-h-10-1 → tie.After-put-2
 put2_before_h10 c = c.before.before.before.before.before.before.before.before.before.before
 
-abbrev put_before_h10 : tie.After-h10 → tie.After-put
+abbrev put_before_h10 : tie.After-h-10-1 → tie.After-put
 put_before_h10 c =
     c.before.before.before.before.before.before.before.before.before.before.before.before.before
 
-abbrev width_before_h10 : tie.After-h10 → tie.After-width
+abbrev width_before_h10 : tie.After-h-10-1 → tie.After-width
 width_before_h10 c =
     c.before.before.before.before.before.before.before.before.before.before.before.before.before.before.before
 
 returns : tie.Need-returns
 returns c =
     header_put _ _ (width_before_h10 c).width.ensures.0 (put_before_h10 c).put.ensures
-    (put2_before_h10 c).put2.ensures (put3_before_h10 c).put3.ensures (put4_before_h10 c).put4.ensures
-    c.before.put5.ensures
+    (put2_before_h10 c).put-2.ensures (put3_before_h10 c).put-3.ensures (put4_before_h10 c).put-4.ensures
+    c.put-5.ensures
 
 pub header_spec : {M : Type 1} → statement M
 header_spec =

@@ -6,36 +6,36 @@ use borrow.Author.Rules.{rules}
 use Rattle.copying.proofs.load.Statement.{statement}
 use Rattle.copying.proofs.load.Tie as tie
 
-abbrev invariant_loop : tie.invariant-loop
+abbrev invariant_loop : tie.invariant-loop-t
 invariant_loop src dst₀ t₀ i₀ dst t i = Loading src dst₀ dst t i
 
-abbrev decreases_loop : tie.decreases-loop
+abbrev decreases_loop : tie.decreases-loop-t
 decreases_loop src dst₀ t₀ i₀ dst t i = length t
 
-loop_holds : tie.Need-loop-init invariant_loop decreases_loop
-loop_holds c = load_first _ c.before.before.requires
+loop_holds : tie.Need-loop-t-init invariant_loop decreases_loop
+loop_holds c = load_first _ c.requires
 
-mul_dst : tie.Need-overflow-mul-dst invariant_loop decreases_loop
-mul_dst c = omega (arith, load_room c.before.before.loop.invariant c.before.loop-test.true)
+mul_dst : tie.Need-offset_bounds-dst-i invariant_loop decreases_loop
+mul_dst c = omega (arith, load_room c.loop-t.invariant c.loop-t-test.true)
 
-slice_write_dst : tie.Need-slice-write-dst invariant_loop decreases_loop
-slice_write_dst c = omega (arith, load_room c.before.before.loop.invariant c.before.loop-test.true)
+slice_write_dst : tie.Need-bounds-dst-i invariant_loop decreases_loop
+slice_write_dst c = omega (arith, load_room c.loop-t.invariant c.loop-t-test.true)
 
-add_i : tie.Need-overflow-add-i invariant_loop decreases_loop
-add_i c = omega (arith, load_room c.before.before.before.loop.invariant c.before.before.loop-test.true)
+add_i : tie.Need-overflow_add-i invariant_loop decreases_loop
+add_i c = omega (arith, load_room c.loop-t.invariant c.loop-t-test.true)
 
-loop_less : tie.Need-loop-smaller invariant_loop decreases_loop
-loop_less c = load_less c.before.before.before.loop.invariant c.before.before.loop-test.true
+loop_less : tie.Need-loop-t-smaller invariant_loop decreases_loop
+loop_less c = load_less c.loop-t.invariant c.loop-t-test.true
 
-loop_again : tie.Need-loop-preserved invariant_loop decreases_loop
+loop_again : tie.Need-loop-t-preserved invariant_loop decreases_loop
 loop_again c =
-    load_more c.before.before.before.loop.invariant c.before.before.loop-test.true c.before.u64-at.ensures
+    load_more c.loop-t.invariant c.loop-t-test.true c.u64_at.ensures
 
-same_length : tie.Need-same-length invariant_loop decreases_loop
-same_length c = c.before.loop.invariant.filled.kept
+same_length : tie.Need-shape_of-dst invariant_loop decreases_loop
+same_length c = c.loop-t.invariant.filled.kept
 
 returns : tie.Need-returns invariant_loop decreases_loop
-returns c = load_all c.before.loop.invariant c.loop-test.false
+returns c = load_all c.loop-t.invariant c.loop-t-test.false
 
 pub load_spec : {M : Type 1} → statement M
 load_spec =

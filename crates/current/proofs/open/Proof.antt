@@ -12,27 +12,19 @@ use Rattle.current.specs.Current.{opened_of}
 use Rattle.current.proofs.open.Tie as tie
 use Rattle.current.proofs.open.Statement.{statement}
 
-abbrev start_before_known_told2 : tie.After-known-told2 → tie.Start
-start_before_known_told2 c = c.before.before.before.before
-
-abbrev start_before_known_told : tie.After-known-told → tie.Start
-start_before_known_told c = c.before.before.before.before
-
 -- the number that whole's `open` gave is v
-is_up : (c : tie.After-known-told) → pos c.before.n.given.0.0 ≡ (start_before_known_told c).args.v
+is_up : (c : tie.In-Pos) → pos c.in-Pos.n ≡ c.args.v
 is_up c =
-    let s = start_before_known_told c in
-    opened (to_z-of_z w64 s.args.v s.fits.v) c.before.before.before.«open».ensures
-    c.before.n.given.1
+    opened (to_z-of_z w64 c.args.v c.ranges.v) c.«open».ensures
+    c.in-Pos.is
 
-is_down : (c : tie.After-known-told2) → negsuc c.before.n2.given.0.0 ≡ (start_before_known_told2 c).args.v
+is_down : (c : tie.In-NegSuc) → negsuc c.in-NegSuc.n ≡ c.args.v
 is_down c =
-    let s = start_before_known_told2 c in
-    opened (to_z-of_z w64 s.args.v s.fits.v) c.before.before.before.«open».ensures
-    c.before.n2.given.1
+    opened (to_z-of_z w64 c.args.v c.ranges.v) c.«open».ensures
+    c.in-NegSuc.is
 
-add_t6 : tie.Need-overflow-add-t6
-add_t6 c = let h = (subst (SFits w64) (sym (is_down c)) (start_before_known_told2 c).ranges.v).sfits in omega arith
+add_t6 : tie.Need-overflow_add-result
+add_t6 c = let h = (subst (SFits w64) (sym (is_down c)) c.ranges.v).sfits in omega arith
 
 pub open_spec : {M : Type 1} → statement M
 open_spec =

@@ -6,23 +6,16 @@ use Rattle.dealing.proofs.Readings.{tick_is}
 use Rattle.dealing.proofs.ready_at.Statement.{statement}
 use Rattle.dealing.proofs.ready_at.Tie as tie
 
--- earlier places, from later ones
-abbrev octaves : tie.After-t56 → tie.After-reciprocal-at3
-octaves c = let five = c.before.before.before.before in five.before.before.before.before.before
-
-abbrev worked : tie.After-t56 → tie.After-worked-at
-worked c = (octaves c).before.before.before
-
 returns : tie.Need-returns
 unfolding ready_at
 returns c =
-    let s = (worked c).before in
+    let s = c.before in
     let ticks = s.args.ticks.now in
     λ j. record {
-      card = (worked c).worked-at.ensures j;
-      plain = (octaves c).before.before.reciprocal-at.ensures j;
-      second = (octaves c).before.reciprocal-at2.ensures j;
-      doubled = (octaves c).reciprocal-at3.ensures j;
+      card = c.worked_at.ensures j;
+      plain = c.reciprocal_at.ensures j;
+      second = c.reciprocal_at-2.ensures j;
+      doubled = c.reciprocal_at-3.ensures j;
       knee =
           record {
             m = tick_is ticks s.args.i 3 (omega arith) j;

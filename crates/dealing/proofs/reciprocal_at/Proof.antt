@@ -5,8 +5,8 @@ use Rattle.dealing.proofs.Readings.{number_is, number_after, tick_is}
 use Rattle.dealing.proofs.reciprocal_at.Statement.{statement}
 use Rattle.dealing.proofs.reciprocal_at.Tie as tie
 
-abbrev start : tie.After-t31 → tie.Start
-start c = c.before.before.before.before.before
+abbrev start : tie.After-result-5-1 → tie.Start
+start c = c.before.before.before.before.before.before.before
 
 returns : tie.Need-returns
 returns c =

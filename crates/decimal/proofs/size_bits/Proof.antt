@@ -8,8 +8,8 @@ use Rattle.decimal.proofs.size_bits.Tie as tie
 rounded_requires : tie.Need-rounded-requires
 rounded_requires c κs = search rules
 
-float_to_bits_result : tie.Need-float-to-bits-result
-float_to_bits_result c = rw c.rounded.ensures (plain_number c.before.args.d c.before.args.q)
+float_to_bits_result : tie.Need-float_to_bits-result
+float_to_bits_result c = rw c.rounded.ensures (plain_number c.args.d c.args.q)
 
 returns : tie.Need-returns
 unfolding size_bits

@@ -5,23 +5,23 @@ use borrow.Author.Rules.{rules}
 use Rattle.decimal.proofs.word.Statement.{statement}
 use Rattle.decimal.proofs.word.Tie as tie
 
-size_bits_requires : tie.Need-size-bits-requires
+size_bits_requires : tie.Need-size_bits-size-requires
 size_bits_requires c κs = search rules
 
-add_result : tie.Need-overflow-add-result
-add_result c = let a = c.before.before.before.args in let h =
+add_result : tie.Need-overflow_add-result
+add_result c = let a = c.args in let h =
     size_under a.d a.q (search rules) (search rules) in search rules
 
-returns : tie.Need-returns
-returns c = let a = c.before.before.before.args in
+returns : tie.Need-returns-then-d-gt0
+returns c = let a = c.args in
     word_minus a.minus a.d a.q _ (search rules) (search rules) (search rules) (search rules) (search rules)
 
-returns_2 : tie.Need-returns-2
-returns_2 c = let a = c.before.before.before.args in
+returns_2 : tie.Need-returns-else-d-gt0
+returns_2 c = let a = c.args in
     word_zero a.minus a.d a.q _ (search rules) (search rules) (search rules) (search rules)
 
-returns_3 : tie.Need-returns-3
-returns_3 c = let a = c.before.before.args in word_plain a.minus a.d a.q _ (search rules) (search rules)
+returns_3 : tie.Need-returns-else-minus
+returns_3 c = let a = c.args in word_plain a.minus a.d a.q _ (search rules) (search rules)
     (search rules) (search rules)
 
 pub word_spec : {M : Type 1} → statement M

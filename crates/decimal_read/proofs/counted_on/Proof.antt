@@ -4,13 +4,13 @@ use borrow.Author.Rules.{rules}
 use Rattle.decimal_read.proofs.counted_on.Statement.{statement}
 use Rattle.decimal_read.proofs.counted_on.Tie as tie
 
-add_result : tie.Need-overflow-add-result
+add_result : tie.Need-overflow_add-result
 add_result c = search rules
 
-returns : tie.Need-returns
-returns c = (counted_yes c.before.args.point _ (search rules), search rules)
+returns : tie.Need-returns-then-point
+returns c = (counted_yes c.args.point _ (search rules), search rules)
 
-returns_2 : tie.Need-returns-2
+returns_2 : tie.Need-returns
 returns_2 c = search rules
 
 pub counted_on_spec : {M : Type 1} → statement M

@@ -10,14 +10,14 @@ power_requires c κs = search rules
 placed_requires : tie.Need-placed-requires
 placed_requires c κs = search rules
 
-returns : tie.Need-returns
+returns : tie.Need-returns-then-n-gt0
 returns c = (
-  ended_some _ _ _ _ c.before.power.result _ _ (search rules) (search rules)
+  ended_some _ _ _ _ c.power.result _ _ (search rules) (search rules)
       (search rules),
   search rules,
 )
 
-returns_2 : tie.Need-returns-2
+returns_2 : tie.Need-returns
 returns_2 c = (ended_none _ _ _ _ _ (search rules), tt)
 
 pub ended_spec : {M : Type 1} → statement M

@@ -4,16 +4,16 @@ use borrow.Author.Rules.{rules}
 use Rattle.decimal_read.proofs.figure.Statement.{statement}
 use Rattle.decimal_read.proofs.figure.Tie as tie
 
-cast_result : tie.Need-overflow-cast-result
+cast_result : tie.Need-overflow_cast-result
 cast_result c = search rules
 
-returns : tie.Need-returns
+returns : tie.Need-returns-then-b-le57
 returns c = (digit_in _ (search rules) (search rules), search rules)
 
-returns_2 : tie.Need-returns-2
+returns_2 : tie.Need-returns-else-b-le57
 returns_2 c = (digit_high _ (search rules), search rules)
 
-returns_3 : tie.Need-returns-3
+returns_3 : tie.Need-returns-else-b-ge48
 returns_3 c = (digit_low _ (search rules), search rules)
 
 pub figure_spec : {M : Type 1} → statement M

@@ -4,28 +4,28 @@ use borrow.Author.Rules.{rules}
 use Rattle.decimal_read.proofs.power.Statement.{statement}
 use Rattle.decimal_read.proofs.power.Tie as tie
 
-returns : tie.Need-returns
+returns : tie.Need-returns-then-s-eq0
 returns c = (power_none _ (search rules), search rules)
 
-shared_slice_read_if2 : tie.Need-shared-slice-read-if2
+shared_slice_read_if2 : tie.Need-bounds-s-0
 shared_slice_read_if2 c = search rules
 
-sub_signed : tie.Need-overflow-sub-signed
+sub_signed : tie.Need-slice_bounds-signed-count
 sub_signed c = search rules
 
-part_signed_start : tie.Need-slice-bounds-signed-start
+part_signed_start : tie.Need-slice_bounds-signed-start
 part_signed_start c = search rules
 
-part_signed_end : tie.Need-slice-bounds-signed-end
+part_signed_end : tie.Need-slice_bounds-signed-end
 part_signed_end c = search rules
 
 signed_requires : tie.Need-signed-requires
 signed_requires c κs = search rules
 
-returns_2 : tie.Need-returns-2
+returns_2 : tie.Need-returns-then-s-eq101
 returns_2 c = (power_marked _ _ (search rules) (search rules) (search rules), search rules)
 
-returns_3 : tie.Need-returns-3
+returns_3 : tie.Need-returns
 returns_3 c = (power_other _ (search rules) (search rules), search rules)
 
 pub power_spec : {M : Type 1} → statement M

@@ -4,49 +4,49 @@ use borrow.Author.Rules.{rules}
 use Rattle.decimal_read.proofs.signed.Statement.{statement}
 use Rattle.decimal_read.proofs.signed.Tie as tie
 
-returns : tie.Need-returns
+returns : tie.Need-returns-then-s-eq0
 returns c = (signed_none _ (search rules), search rules)
 
-shared_slice_read_if2 : tie.Need-shared-slice-read-if2
+shared_slice_read_if2 : tie.Need-bounds-s-0
 shared_slice_read_if2 c = search rules
 
-sub_pair : tie.Need-overflow-sub-pair
+sub_pair : tie.Need-slice_bounds-pair-count
 sub_pair c = search rules
 
-part_pair_start : tie.Need-slice-bounds-pair-start
+part_pair_start : tie.Need-slice_bounds-pair-start
 part_pair_start c = search rules
 
-part_pair_end : tie.Need-slice-bounds-pair-end
+part_pair_end : tie.Need-slice_bounds-pair-end
 part_pair_end c = search rules
 
-pair_requires : tie.Need-pair-requires
+pair_requires : tie.Need-pair-v-requires
 pair_requires c κs = search rules
 
-sub_result : tie.Need-overflow-sub-result
+sub_result : tie.Need-overflow_sub-result
 sub_result c = search rules
 
-returns_2 : tie.Need-returns-2
+returns_2 : tie.Need-returns-then-v-lt100
 returns_2 c = (minus_some _ _ (search rules) (search rules) (search rules) (search rules), search rules)
 
-returns_3 : tie.Need-returns-3
+returns_3 : tie.Need-returns-then-s-eq45
 returns_3 c = (
-  minus_none _ c.before.pair.result (search rules) (search rules) (search rules)
+  minus_none _ c.pair-v.result (search rules) (search rules) (search rules)
       (search rules),
   search rules,
 )
 
-pair_requires_2 : tie.Need-pair-requires-2
+pair_requires_2 : tie.Need-pair-v-requires-2
 pair_requires_2 c κs = search rules
 
-add_result : tie.Need-overflow-add-result
+add_result : tie.Need-overflow_add-result
 add_result c = search rules
 
-returns_4 : tie.Need-returns-4
+returns_4 : tie.Need-returns-then-v-lt100-2
 returns_4 c = (plain_some _ _ (search rules) (search rules) (search rules) (search rules), search rules)
 
-returns_5 : tie.Need-returns-5
+returns_5 : tie.Need-returns
 returns_5 c = (
-  plain_none _ c.before.pair2.result (search rules) (search rules) (search rules)
+  plain_none _ c.pair-v-2.result (search rules) (search rules) (search rules)
       (search rules),
   search rules,
 )

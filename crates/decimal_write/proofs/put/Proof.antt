@@ -6,10 +6,10 @@ use borrow.Author.Rules.{rules}
 use Rattle.decimal_write.proofs.put.Statement.{statement}
 use Rattle.decimal_write.proofs.put.Tie as tie
 
-element_write_line : tie.Need-element-write-line
+element_write_line : tie.Need-bounds-line-at
 element_write_line c = search rules
 
-add_result : tie.Need-overflow-add-result
+add_result : tie.Need-overflow_add-result
 add_result c = search rules
 
 returns : tie.Need-returns

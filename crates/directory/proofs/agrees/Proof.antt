@@ -6,52 +6,52 @@ use borrow.Author.Rules.{rules}
 use Rattle.directory.proofs.agrees.Statement.{statement}
 use Rattle.directory.proofs.agrees.Tie as tie
 
-returns : tie.Need-returns
-returns c = agree_version _ _ _ _ _ _ c.before.width.ensures.0 c.if1.true
+returns : tie.Need-returns-then-k-eq0
+returns c = agree_version _ _ _ _ _ _ c.width-k.ensures.0 c.if-k-eq0.true
 
-returns_2 : tie.Need-returns-2
-returns_2 c = agree_count _ _ _ _ _ _ c.before.before.width.ensures.0 c.before.if1.false c.if2.true
+returns_2 : tie.Need-returns-then-n-gt-MOST_CARDS
+returns_2 c = agree_count _ _ _ _ _ _ c.width-k.ensures.0 c.if-k-eq0.false c.if-n-gt-MOST_CARDS.true
 
-returns_3 : tie.Need-returns-3
+returns_3 : tie.Need-returns-then-directory-ne-HEADER_BYTES
 returns_3 c =
-    agree_directory _ _ _ _ _ _ c.before.before.before.width.ensures.0 c.before.before.if1.false
-    c.before.if2.false c.if3.true
+    agree_directory _ _ _ _ _ _ c.width-k.ensures.0 c.if-k-eq0.false
+    c.if-n-gt-MOST_CARDS.false c.if-directory-ne-HEADER_BYTES.true
 
-abbrev width_before_then4 : tie.Then4 → tie.After-width
+abbrev width_before_then4 : tie.Then-records-e → tie.After-width-k
 width_before_then4 c = c.before.before.before.before
 
-abbrev width_before_else4 : tie.Else4 → tie.After-width
+abbrev width_before_else4 : tie.Else-records-e → tie.After-width-k
 width_before_else4 c = c.before.before.before.before
 
-abbrev else1_before_then5 : tie.Then5 → tie.Else1
+abbrev else1_before_then5 : tie.Then-whole-all → tie.Else-k-eq0
 else1_before_then5 c = c.before.before.before.before
 
-abbrev else1_before_else5 : tie.Else5 → tie.Else1
+abbrev else1_before_else5 : tie.Else-whole-all → tie.Else-k-eq0
 else1_before_else5 c = c.before.before.before.before
 
-returns_4 : tie.Need-returns-4
+returns_4 : tie.Need-returns-then-records-e
 returns_4 c =
-    agree_records _ _ _ _ _ _ (width_before_then4 c).width.ensures.0 c.before.before.before.if1.false
-    c.before.before.if2.false c.before.if3.false c.if4.true
+    agree_records _ _ _ _ _ _ (width_before_then4 c).width-k.ensures.0 c.if-k-eq0.false
+    c.if-n-gt-MOST_CARDS.false c.if-directory-ne-HEADER_BYTES.false c.if-records-e.true
 
-mul_all : tie.Need-overflow-mul-all
-mul_all c = omega (arith, few (width_before_else4 c).width.ensures.1 c.before.before.if2.false)
+mul_all : tie.Need-overflow_mul-all
+mul_all c = omega (arith, few (width_before_else4 c).width-k.ensures.1 c.if-n-gt-MOST_CARDS.false)
 
-mul_all_2 : tie.Need-overflow-mul-all-2
-mul_all_2 c = omega (arith, few (width_before_else4 c).width.ensures.1 c.before.before.if2.false)
+mul_all_2 : tie.Need-overflow_mul-all-2
+mul_all_2 c = omega (arith, few (width_before_else4 c).width-k.ensures.1 c.if-n-gt-MOST_CARDS.false)
 
-add_all : tie.Need-overflow-add-all
-add_all c = omega (arith, few (width_before_else4 c).width.ensures.1 c.before.before.if2.false)
+add_all : tie.Need-overflow_add-all
+add_all c = omega (arith, few (width_before_else4 c).width-k.ensures.1 c.if-n-gt-MOST_CARDS.false)
 
-returns_5 : tie.Need-returns-5
+returns_5 : tie.Need-returns-then-whole-all
 returns_5 c =
-    agree_whole _ _ _ _ _ _ (width_before_else4 c.before).width.ensures.0 (else1_before_then5 c).if1.left
-    c.before.before.before.if2.false c.before.before.if3.false c.before.if4.false c.if5.true
+    agree_whole _ _ _ _ _ _ (width_before_else4 c.before).width-k.ensures.0 (else1_before_then5 c).if-k-eq0.false
+    c.if-n-gt-MOST_CARDS.false c.if-directory-ne-HEADER_BYTES.false c.if-records-e.false c.if-whole-all.true
 
-returns_6 : tie.Need-returns-6
+returns_6 : tie.Need-returns
 returns_6 c =
-    agree_length _ _ _ _ _ _ (width_before_else4 c.before).width.ensures.0 (else1_before_else5 c).if1.left
-    c.before.before.before.if2.false c.before.before.if3.false c.before.if4.false c.if5.false
+    agree_length _ _ _ _ _ _ (width_before_else4 c.before).width-k.ensures.0 (else1_before_else5 c).if-k-eq0.false
+    c.if-n-gt-MOST_CARDS.false c.if-directory-ne-HEADER_BYTES.false c.if-records-e.false c.if-whole-all.false
 
 pub agrees_spec : {M : Type 1} → statement M
 agrees_spec =

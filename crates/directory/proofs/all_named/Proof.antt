@@ -9,44 +9,44 @@ use borrow.Author.Rules.{rules}
 use Rattle.directory.proofs.all_named.Statement.{statement}
 use Rattle.directory.proofs.all_named.Tie as tie
 
-abbrev invariant_loop : tie.invariant-loop
+abbrev invariant_loop : tie.invariant-loop-t
 invariant_loop d t₀ t = Walk all_named d t
 
-abbrev decreases_loop : tie.decreases-loop
+abbrev decreases_loop : tie.decreases-loop-t
 decreases_loop d t₀ t = length t
 
-loop_holds : tie.Need-loop-init invariant_loop decreases_loop
+loop_holds : tie.Need-loop-t-init invariant_loop decreases_loop
 loop_holds c = record { so_far = refl }
 
-slice_aggregate_is_well_formed : tie.Need-slice-aggregate-is-well-formed invariant_loop decreases_loop
+slice_aggregate_is_well_formed : tie.Need-slice_bounds-is_well_formed-end invariant_loop decreases_loop
 slice_aggregate_is_well_formed c =
-    sym (length-take-le 16 c.before.before.loop.t.now c.before.loop-test.true)
+    sym (length-take-le 16 c.loop-t.t.now c.loop-t-test.true)
 
-abbrev in_loop_before_t : tie.After-t invariant_loop decreases_loop → tie.In-loop invariant_loop decreases_loop
-in_loop_before_t c = c.before.before.before.before
+abbrev in_loop_before_t : tie.After-t-1 invariant_loop decreases_loop → tie.In-loop-t invariant_loop decreases_loop
+in_loop_before_t c = c.before.before.before
 
-abbrev loop_before_else1 : tie.Else1 invariant_loop decreases_loop → tie.At-loop invariant_loop decreases_loop
-loop_before_else1 c = c.before.before.before.before
+abbrev loop_before_else1 : tie.Else-is_well_formed invariant_loop decreases_loop → tie.At-loop-t invariant_loop decreases_loop
+loop_before_else1 c = c.before.before.before
 
-abbrev loop_before_t : tie.After-t invariant_loop decreases_loop → tie.At-loop invariant_loop decreases_loop
-loop_before_t c = c.before.before.before.before.before
+abbrev loop_before_t : tie.After-t-1 invariant_loop decreases_loop → tie.At-loop-t invariant_loop decreases_loop
+loop_before_t c = c.before.before.before.before
 
-loop_less : tie.Need-loop-smaller invariant_loop decreases_loop
-loop_less c = shorter (loop_before_t c).loop.t.now (in_loop_before_t c).loop-test.taken
+loop_less : tie.Need-loop-t-smaller invariant_loop decreases_loop
+loop_less c = shorter (loop_before_t c).loop-t.t.now (in_loop_before_t c).loop-t-test.true
 
-loop_again : tie.Need-loop-preserved invariant_loop decreases_loop
+loop_again : tie.Need-loop-t-preserved invariant_loop decreases_loop
 loop_again c =
-    walk_on (loop_before_t c).loop.inv (in_loop_before_t c).loop-test.taken
-    (and_true (sym c.before.before.is-well-formed.ensures ∙ c.before.if1.true))
+    walk_on (loop_before_t c).loop-t.invariant (in_loop_before_t c).loop-t-test.true
+    (and_true (sym c.is_well_formed.ensures ∙ c.if-is_well_formed.true))
 
-returns : tie.Need-returns invariant_loop decreases_loop
+returns : tie.Need-returns-else-is_well_formed invariant_loop decreases_loop
 returns c =
     sym
-    (walk_here (loop_before_else1 c).loop.inv c.before.before.before.loop-test.true ∙ and_false
-    (sym c.before.is-well-formed.ensures ∙ c.if1.false) _)
+    (walk_here (loop_before_else1 c).loop-t.invariant c.loop-t-test.true ∙ and_false
+    (sym c.is_well_formed.ensures ∙ c.if-is_well_formed.false) _)
 
-returns_2 : tie.Need-returns-2 invariant_loop decreases_loop
-returns_2 c = sym (walk_end c.before.loop.invariant c.loop-test.false)
+returns_2 : tie.Need-returns invariant_loop decreases_loop
+returns_2 c = sym (walk_end c.loop-t.invariant c.loop-t-test.false)
 
 pub all_named_spec : {M : Type 1} → statement M
 all_named_spec =

@@ -12,19 +12,19 @@ use Rattle.refusal.specs.declared.Refusal.TheVariants.{Malformed}
 use Rattle.directory.proofs.Inspections.{by_header}
 use Rattle.directory.proofs.Verdicts.{drawn}
 
-abbrev u16_at2_before_agrees : tie.After-agrees → tie.After-u16-at2
+abbrev u16_at2_before_agrees : tie.After-agrees → tie.After-u16_at-count
 u16_at2_before_agrees c = c.before.before.before.before
 
-abbrev u16_at_before_agrees : tie.After-agrees → tie.After-u16-at
+abbrev u16_at_before_agrees : tie.After-agrees → tie.After-u16_at-version
 u16_at_before_agrees c = c.before.before.before.before.before
 
 abbrev start_before_agrees : tie.After-agrees → tie.Start
 start_before_agrees c = c.before.before.before.before.before.before.before
 
-abbrev u16_at2_before_judge : tie.After-judge → tie.After-u16-at2
+abbrev u16_at2_before_judge : tie.After-judge → tie.After-u16_at-count
 u16_at2_before_judge c = c.before.before.before.before.before.before.before.before
 
-abbrev u16_at_before_judge : tie.After-judge → tie.After-u16-at
+abbrev u16_at_before_judge : tie.After-judge → tie.After-u16_at-version
 u16_at_before_judge c = c.before.before.before.before.before.before.before.before.before
 
 abbrev start_before_judge : tie.After-judge → tie.Start
@@ -32,29 +32,29 @@ start_before_judge c = c.before.before.before.before.before.before.before.before
 
 said : (c : tie.After-agrees) → c.agrees.result ≡ headed (start_before_agrees c).args.s.now
 said c =
-    headed_by (start_before_agrees c).args.s.now (u16_at_before_agrees c).u16-at.ensures
-    (u16_at2_before_agrees c).u16-at2.ensures
-    c.before.before.before.u32-at.ensures c.before.before.u32-at2.ensures c.before.u32-at3.ensures
+    headed_by (start_before_agrees c).args.s.now (u16_at_before_agrees c).u16_at-version.ensures
+    (u16_at2_before_agrees c).u16_at-count.ensures
+    c.u32_at-directory.ensures c.u32_at-records.ensures c.u32_at-whole.ensures
     c.agrees.ensures
 
-right : (c : tie.Then1) → headed (start_before_agrees c.before).args.s.now ≡ true
-right c = sym (said c.before) ∙ c.if1.true
+right : (c : tie.Then-agrees) → headed (start_before_agrees c.before).args.s.now ≡ true
+right c = sym (said c.before) ∙ c.if-agrees.true
 
-part_judge_end : tie.Need-slice-bounds-judge-end
+part_judge_end : tie.Need-slice_bounds-judge-end
 part_judge_end c =
     let h = sized (start_before_agrees c.before).args.s.now (right c) in
-    let e = (u16_at2_before_agrees c.before).u16-at2.ensures in
+    let e = (u16_at2_before_agrees c.before).u16_at-count.ensures in
     omega arith
 
-returns : tie.Need-returns
+returns : tie.Need-returns-then-agrees
 returns c =
     by_header (start_before_judge c).args.s.now (right c.before.before.before)
-    (u16_at2_before_judge c).u16-at2.ensures
-    (c.before.width.ensures.0 ∙ ap words_of (u16_at_before_judge c).u16-at.ensures) c.judge.ensures
+    (u16_at2_before_judge c).u16_at-count.ensures
+    (c.width.ensures.0 ∙ ap words_of (u16_at_before_judge c).u16_at-version.ensures) c.judge.ensures
 
-returns_2 : tie.Need-returns-2
+returns_2 : tie.Need-returns-else-agrees
 unfolding library_judged
-returns_2 c = sym (drawn (ap not (sym (said c.before) ∙ c.if1.false)) Malformed _)
+returns_2 c = sym (drawn (ap not (sym (said c.before) ∙ c.if-agrees.false)) Malformed _)
 
 pub inspect_spec : {M : Type 1} → statement M
 inspect_spec =

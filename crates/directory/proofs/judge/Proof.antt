@@ -13,11 +13,11 @@ returns : tie.Need-returns
 unfolding names_judged
 returns c =
     let d = c.before.before in
-    let a = d.before.before.before.args in
-    c.refuse-if2.ensures ∙ ap₂ (λ (t : Bool) (v : Verdict (ℕ × ℕ)). refuse_if t BadName v)
-    (ap not d.before.all_named.ensures)
-    (c.before.refuse-if.ensures
-    ∙ ap (λ (t : Bool). refuse_if t NameTwice (yes (a.cards, a.words))) d.doubled.ensures)
+    let a = d.args in
+    c.refuse_if-2.ensures ∙ ap₂ (λ (t : Bool) (v : Verdict (ℕ × ℕ)). refuse_if t BadName v)
+    (ap not d.all_named-malformed.ensures)
+    (c.refuse_if.ensures
+    ∙ ap (λ (t : Bool). refuse_if t NameTwice (yes (a.cards, a.words))) d.doubled-twice.ensures)
 
 pub judge_spec : {M : Type 1} → statement M
 judge_spec =

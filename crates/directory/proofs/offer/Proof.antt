@@ -6,60 +6,60 @@ use borrow.Author.Rules.{rules}
 use Rattle.directory.proofs.offer.Statement.{statement}
 use Rattle.directory.proofs.offer.Tie as tie
 
-abbrev start_before_then1 : tie.Then1 → tie.Start
+abbrev start_before_then1 : tie.Then-k-eq0 → tie.Start
 start_before_then1 c = c.before.before.before.before
 
-abbrev width_before_then4 : tie.Then4 → tie.After-width
+abbrev width_before_then4 : tie.Then-words-k → tie.After-width-k
 width_before_then4 c = c.before.before.before.before
 
-abbrev else1_before_judge : tie.After-judge → tie.Else1
+abbrev else1_before_judge : tie.After-judge → tie.Else-k-eq0
 else1_before_judge c = c.before.before.before.before
 
-abbrev start_before_then2 : tie.Then2 → tie.Start
+abbrev start_before_then2 : tie.Then-names-n → tie.Start
 start_before_then2 c = c.before.before.before.before.before
 
-abbrev width_before_judge : tie.After-judge → tie.After-width
+abbrev width_before_judge : tie.After-judge → tie.After-width-k
 width_before_judge c = c.before.before.before.before.before
 
-abbrev start_before_then3 : tie.Then3 → tie.Start
+abbrev start_before_then3 : tie.Then-n-gt-MOST_CARDS → tie.Start
 start_before_then3 c = c.before.before.before.before.before.before
 
-abbrev start_before_then4 : tie.Then4 → tie.Start
+abbrev start_before_then4 : tie.Then-words-k → tie.Start
 start_before_then4 c = c.before.before.before.before.before.before.before
 
 abbrev start_before_judge : tie.After-judge → tie.Start
 start_before_judge c = c.before.before.before.before.before.before.before.before
 
-returns : tie.Need-returns
+returns : tie.Need-returns-then-k-eq0
 returns c =
     offer_version _ (start_before_then1 c).args.names.now (start_before_then1 c).args.words.now
-    c.before.width.ensures.0 c.if1.true
+    c.width-k.ensures.0 c.if-k-eq0.true
 
-returns_2 : tie.Need-returns-2
+returns_2 : tie.Need-returns-then-names-n
 returns_2 c =
     offer_names _ (start_before_then2 c).args.names.now (start_before_then2 c).args.words.now
-    c.before.before.width.ensures.0 c.before.if1.false c.if2.true
+    c.width-k.ensures.0 c.if-k-eq0.false c.if-names-n.true
 
-returns_3 : tie.Need-returns-3
+returns_3 : tie.Need-returns-then-n-gt-MOST_CARDS
 returns_3 c =
     offer_count _ (start_before_then3 c).args.names.now (start_before_then3 c).args.words.now
-    c.before.before.before.width.ensures.0 c.before.before.if1.false c.before.if2.false
-    c.if3.true
+    c.width-k.ensures.0 c.if-k-eq0.false c.if-names-n.false
+    c.if-n-gt-MOST_CARDS.true
 
-mul_if4 : tie.Need-overflow-mul-if4
-mul_if4 c = omega (arith, few c.before.before.before.width.ensures.1 c.if3.false)
+mul_if4 : tie.Need-overflow_mul-k
+mul_if4 c = omega (arith, few c.width-k.ensures.1 c.if-n-gt-MOST_CARDS.false)
 
-returns_4 : tie.Need-returns-4
+returns_4 : tie.Need-returns-then-words-k
 returns_4 c =
     offer_words _ (start_before_then4 c).args.names.now (start_before_then4 c).args.words.now
-    (width_before_then4 c).width.ensures.0 c.before.before.before.if1.false c.before.before.if2.false
-    c.before.if3.false c.if4.true
+    (width_before_then4 c).width-k.ensures.0 c.if-k-eq0.false c.if-names-n.false
+    c.if-n-gt-MOST_CARDS.false c.if-words-k.true
 
-returns_5 : tie.Need-returns-5
+returns_5 : tie.Need-returns
 returns_5 c =
     offer_judged_lem _ (start_before_judge c).args.names.now (start_before_judge c).args.words.now
-    (width_before_judge c).width.ensures.0 (else1_before_judge c).if1.left
-    c.before.before.before.if2.false c.before.before.if3.false c.before.if4.false c.judge.ensures
+    (width_before_judge c).width-k.ensures.0 (else1_before_judge c).if-k-eq0.false
+    c.if-names-n.false c.if-n-gt-MOST_CARDS.false c.if-words-k.false c.judge.ensures
 
 pub offer_spec : {M : Type 1} → statement M
 offer_spec =

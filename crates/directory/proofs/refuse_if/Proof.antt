@@ -5,4 +5,4 @@ use Rattle.directory.proofs.refuse_if.Statement.{statement}
 use Rattle.directory.proofs.refuse_if.Tie as tie
 
 pub refuse_if_spec : {M : Type 1} → statement M
-refuse_if_spec = tie.close (tie.spec (λ c. sym (drawn c.if1.true _ _)) (λ c. sym (passed c.if1.false _ _)))
+refuse_if_spec = tie.close (tie.spec (λ c. sym (drawn c.if-wrong.true _ _)) (λ c. sym (passed c.if-wrong.false _ _)))

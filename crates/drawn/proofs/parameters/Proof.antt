@@ -20,7 +20,7 @@ returns c =
     let leads =
     first.before.before.before.before.before.before.before.before.before.before.before.before.before in
     let x = leads.before.args.x.now in
-    let e = leads.has-leads.ensures in
+    let e = leads.has_leads-leads.ensures in
     λ i. record {
       mult = at x number.mult;
       is = at x number.is;
@@ -33,11 +33,11 @@ returns c =
       icss = at x number.icss;
       iks = at x number.iks;
       ibr = at x number.ibr;
-      re = same (at x number.re) first.where-any.ensures e i;
-      rbc = same (at x number.rbc) c.before.before.before.before.before.before.where-any2.ensures e i;
-      rcc = same (at x number.rcc) c.before.before.before.before.where-any3.ensures e i;
-      rcblx = same (at x number.rcblx) c.before.before.where-any4.ensures e i;
-      rcbli = same (at x number.rcbli) c.where-any5.ensures e i;
+      re = same (at x number.re) first.where_any.ensures e i;
+      rbc = same (at x number.rbc) c.where_any-2.ensures e i;
+      rcc = same (at x number.rcc) c.where_any-3.ensures e i;
+      rcblx = same (at x number.rcblx) c.where_any-4.ensures e i;
+      rcbli = same (at x number.rcbli) c.where_any-5.ensures e i;
     }
 
 pub parameters_spec : {M : Type 1} → statement M

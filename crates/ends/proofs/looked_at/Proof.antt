@@ -9,23 +9,21 @@ use Rattle.terms.specs.Looked.{looked_at}
 use Rattle.ends.proofs.looked_at.Statement.{statement}
 use Rattle.ends.proofs.looked_at.Tie as tie
 
-returns : tie.Need-returns
+returns : tie.Need-returns-then-wide
 unfolding looked_at
-returns c = rw c.if1.true
+returns c = rw c.if-wide.true
 
-returns_2 : tie.Need-returns-2
+returns_2 : tie.Need-returns
 unfolding looked_at
 returns_2 c =
-    let first = c.before.before.before.before.before.before.before.before.before.before in
-    let s = first.before.before in
-    let e1 = to_z-of_z w64 (get_or s.args.t2 0 (pos 0)) (search rules) in
-    let b1 = to_z-of_z w64 (get_or s.args.t2 1 (pos 0)) (search rules) in
-    let b2 = to_z-of_z w64 (get_or s.args.t2 2 (pos 0)) (search rules) in
-    let c1 = to_z-of_z w64 (get_or s.args.t2 3 (pos 0)) (search rules) in
-    let c2 = to_z-of_z w64 (get_or s.args.t2 4 (pos 0)) (search rules) in
-    let c4 = to_z-of_z w64 (get_or s.args.t2 5 (pos 0)) (search rules) in
-    let t = to_z-of_z w64 (get_or s.args.t2 6 (pos 0)) (search rules) in
-    rw first.before.if1.false
+    let e1 = to_z-of_z w64 (get_or c.args.given 0 (pos 0)) (search rules) in
+    let b1 = to_z-of_z w64 (get_or c.args.given 1 (pos 0)) (search rules) in
+    let b2 = to_z-of_z w64 (get_or c.args.given 2 (pos 0)) (search rules) in
+    let c1 = to_z-of_z w64 (get_or c.args.given 3 (pos 0)) (search rules) in
+    let c2 = to_z-of_z w64 (get_or c.args.given 4 (pos 0)) (search rules) in
+    let c4 = to_z-of_z w64 (get_or c.args.given 5 (pos 0)) (search rules) in
+    let t = to_z-of_z w64 (get_or c.args.given 6 (pos 0)) (search rules) in
+    rw c.if-wide.false
     (λ i. e1 i ∷ b1 i ∷ b2 i ∷ c1 i ∷ c2 i ∷ c4 i ∷ t i ∷ e1 i ∷ b1 i ∷ c4 i ∷ c4 i ∷ [])
 
 pub looked_at_spec : {M : Type 1} → statement M

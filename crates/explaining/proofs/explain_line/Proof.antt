@@ -11,7 +11,7 @@ use Rattle.explaining.proofs.Explained.{is_refused, is_another, explains, explai
 use Rattle.explaining.proofs.explain_line.Tie as tie
 use Rattle.explaining.proofs.explain_line.Statement.{statement}
 
-returns : tie.Need-returns
+returns : tie.Need-returns-then-packed-eq-REFUSED
 returns c =
     let placed = c.before.before.before in
     let said = placed.before.before in
@@ -20,22 +20,31 @@ returns c =
     let begun = w.before in
     let t = begun.before.before.before in
     let p = t.before in
-    let number = n.natural.ensures ∙ ap (λ (b : List ℕ). natural_of (parsed_of b)) w.word2.ensures in
-    let refused = is_refused p.packed.ensures p.before.word.ensures t.if1.true in
-    explains _ p.before.before.words_of.ensures refused
-    (then begun.put.ensures
-    (then (as_sentence (sym number) said.put-sentence.ensures)
-    (then placed.put-where.ensures c.put2.ensures)))
+    let number = n.natural.ensures ∙ ap (λ (b : List ℕ). natural_of (parsed_of b)) w.word-then-packed-eq-REFUSED.ensures in
+    let refused = is_refused p.packed.ensures p.word.ensures t.if-packed-eq-REFUSED.true in
+    explains _ p.words_of-words.ensures refused
+    (then begun.put-begun.ensures
+    (then (as_sentence (sym number) said.put_sentence-said.ensures)
+    (then placed.put_where-placed.ensures c.put.ensures)))
 
-returns_2 : tie.Need-returns-2
+returns_2 : tie.Need-returns
 returns_2 c =
     let p = c.before in
-    let another = is_another p.packed.ensures p.before.word.ensures c.if1.false in
-    explains_not _ p.before.before.words_of.ensures another
+    let another = is_another p.packed.ensures p.word.ensures c.if-packed-eq-REFUSED.false in
+    explains_not _ p.words_of-words.ensures another
 
 pub explain_line_spec : {M : Type 1} → statement M
 explain_line_spec =
     tie.close
-    (tie.spec (λ c κs. search rules) (λ c κs. search rules) (λ c κs. search rules) (λ c. search rules)
-    (λ c κs. search rules) (λ c κs. search rules) (λ c κs. search rules) (λ c κs. search rules)
-    (λ c κs. search rules) (λ c. search rules) (λ c κs. search rules) returns returns_2)
+    (tie.spec
+    (λ c κs. search rules)
+    (λ c κs. search rules)
+    (λ c κs. search rules)
+    (λ c κs. search rules)
+    (λ c κs. search rules)
+    (λ c κs. search rules)
+    (λ c κs. search rules)
+    (λ c κs. search rules)
+    (λ c κs. search rules)
+    returns
+    returns_2)

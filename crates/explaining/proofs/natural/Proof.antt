@@ -8,22 +8,18 @@ use Rattle.explaining.proofs.Naturals.{natural_above, natural_below}
 use Rattle.explaining.proofs.natural.Tie as tie
 use Rattle.explaining.proofs.natural.Statement.{statement}
 
-returns : tie.Need-returns
+returns : tie.Need-returns-in-Pos
 returns c =
-    let o = c.before.before.before in
-    let x = o.before.before in
-    natural_above x.before.before.number.ensures x.x.given.1 (to_z-of_z w64 _ (search rules))
-    o.«open».ensures c.before.n.given.1
+    natural_above c.number.ensures c.in-Number.is (to_z-of_z w64 _ (search rules))
+    c.«open».ensures c.in-Pos.is
 
-returns_2 : tie.Need-returns-2
+returns_2 : tie.Need-returns-in-NegSuc
 returns_2 c =
-    let o = c.before.before in
-    let x = o.before.before in
-    natural_below x.before.before.number.ensures x.x.given.1 (to_z-of_z w64 _ (search rules))
-    o.«open».ensures c.enum_told.given.1
+    natural_below c.number.ensures c.in-Number.is (to_z-of_z w64 _ (search rules))
+    c.«open».ensures c.in-NegSuc.is
 
-returns_3 : tie.Need-returns-3
-returns_3 c = sym (ap natural_of (sym c.before.before.number.ensures ∙ c.enum-told2.given.1))
+returns_3 : tie.Need-returns-in-Nothing
+returns_3 c = sym (ap natural_of (sym c.number.ensures ∙ c.in-Nothing.is))
 
 pub natural_spec : {M : Type 1} → statement M
 natural_spec =

@@ -11,7 +11,7 @@ use Rattle.explaining.proofs.Told.{as_bytes, as_ends, nothing}
 use Rattle.explaining.proofs.put_where.Tie as tie
 use Rattle.explaining.proofs.put_where.Statement.{statement}
 
-returns : tie.Need-returns
+returns : tie.Need-returns-then-words-eq-WHERE_WORDS
 unfolding where_told
 returns c =
     let n = c.before.before in
@@ -22,20 +22,28 @@ returns c =
     let w1 = p2.before.before in
     let p1 = w1.before in
     let t = p1.before.before.before in
-    let branch = n.natural.ensures ∙ ap (λ (b : List ℕ). natural_of (parsed_of b)) w2.word2.ensures in
-    let ends = as_ends (sym branch) c.put-ends.ensures in
-    rw t.if1.true
-    (then p1.put.ensures
-    (then (as_bytes w1.word.ensures p2.put2.ensures)
-    (then p3.put3.ensures (then (as_bytes w2.word2.ensures p4.put4.ensures) ends))))
+    let branch = n.natural.ensures ∙ ap (λ (b : List ℕ). natural_of (parsed_of b)) w2.word-branch.ensures in
+    let ends = as_ends (sym branch) c.put_ends.ensures in
+    rw t.if-words-eq-WHERE_WORDS.true
+    (then p1.put-begun.ensures
+    (then (as_bytes w1.word.ensures p2.put-named.ensures)
+    (then p3.put-parted.ensures (then (as_bytes w2.word-branch.ensures p4.put-told.ensures) ends))))
 
-returns_2 : tie.Need-returns-2
+returns_2 : tie.Need-returns
 unfolding where_told
-returns_2 c = rw (ne_eqb _ _ c.if1.false) (nothing refl)
+returns_2 c = rw (ne_eqb _ _ c.if-words-eq-WHERE_WORDS.false) (nothing refl)
 
 pub put_where_spec : {M : Type 1} → statement M
 put_where_spec =
     tie.close
-    (tie.spec (λ c. search rules) (λ c κs. search rules) (λ c κs. search rules) (λ c κs. search rules)
-    (λ c. search rules) (λ c κs. search rules) (λ c κs. search rules) (λ c κs. search rules) (λ c κs. search rules)
-    (λ c κs. search rules) returns returns_2)
+    (tie.spec
+    (λ c κs. search rules)
+    (λ c κs. search rules)
+    (λ c κs. search rules)
+    (λ c κs. search rules)
+    (λ c κs. search rules)
+    (λ c κs. search rules)
+    (λ c κs. search rules)
+    (λ c κs. search rules)
+    returns
+    returns_2)

@@ -1,4 +1,4 @@
--- `finding::find` meets its contract: the part between the place and the end of the located record.
+-- `finding::find` meets its contract: the part between the place and the end of the (let located_ : let a = record.args in locating a.library.now a.name.now ≡ yes (record.at-1.given.0.0, record.at-1.given.0.1.0) = (let answer_ : let a = record.args in locating a.library.now a.name.now ≡ verdictLocated record.locate.result = let a = record.args in sym (tells_one (verdictLocated record.locate.result) (locating a.library.now a.name.now) record.locate.ensures) in answer_) ∙ ap verdictLocated record.at-1.given.1 in located_).
 use mathlib.Core.Path.{◌≡◌, sym, ap, ◌∙◌}
 use Prim.Native.Nat.{ℕ, ◌+◌, ◌≤◌}
 use native.Mathlib.Nat.{add-sub_cancel_left}
@@ -11,52 +11,28 @@ use Rattle.finding.proofs.find.Statement.{statement}
 use Rattle.finding.proofs.find.Tie as tie
 use Rattle.refusal.specs.Order.{tells_one, yes}
 
-answer : (c : tie.After-locate)
-    → let a = c.before.before.before.args in
-    locating a.library.now a.name.now ≡ verdictLocated c.locate.result
-answer c =
-    let a = c.before.before.before.args in
-    sym
-    (tells_one (verdictLocated c.locate.result) (locating a.library.now a.name.now) c.locate.ensures)
+add_result : tie.Need-overflow_add-result
+add_result c = omega (arith, (let inside_ : c.in-Record.at + c.in-Record.size ≤ length c.args.library.now = (located_within c.args.library.now c.args.name.now (let located_ : let a = c.args in locating a.library.now a.name.now ≡ yes (c.in-Record.at, c.in-Record.size) = (let answer_ : let a = c.args in locating a.library.now a.name.now ≡ verdictLocated c.locate.result = let a = c.args in sym (tells_one (verdictLocated c.locate.result) (locating a.library.now a.name.now) c.locate.ensures) in answer_) ∙ ap verdictLocated c.in-Record.is in located_)).inside in inside_))
 
-abbrev start_before_at : tie.After-at → tie.Start
-start_before_at c = c.before.before.before.before.before
+part_result_end : tie.Need-slice_bounds-result-end
+part_result_end c = omega (arith, (let inside_ : c.in-Record.at + c.in-Record.size ≤ length c.args.library.now = (located_within c.args.library.now c.args.name.now (let located_ : let a = c.args in locating a.library.now a.name.now ≡ yes (c.in-Record.at, c.in-Record.size) = (let answer_ : let a = c.args in locating a.library.now a.name.now ≡ verdictLocated c.locate.result = let a = c.args in sym (tells_one (verdictLocated c.locate.result) (locating a.library.now a.name.now) c.locate.ensures) in answer_) ∙ ap verdictLocated c.in-Record.is in located_)).inside in inside_))
 
-abbrev start_before_result2 : tie.After-result2 → tie.Start
-start_before_result2 c = c.before.before.before.before.before.before
-
-located : (c : tie.After-at)
-    → let a = (start_before_at c).args in
-    locating a.library.now a.name.now ≡ yes (c.at.given.0.0, c.at.given.0.1.0)
-located c = answer c.before.before ∙ ap verdictLocated c.at.given.1
-
-inside : (c : tie.After-at)
-    → c.at.given.0.0 + c.at.given.0.1.0 ≤ length (start_before_at c).args.library.now
-inside c =
-    (located_within (start_before_at c).args.library.now (start_before_at c).args.name.now (located c)).inside
-
-add_result : tie.Need-overflow-add-result
-add_result c = omega (arith, inside c.before)
-
-part_result_end : tie.Need-slice-bounds-result-end
-part_result_end c = omega (arith, inside c.before)
-
-returns : tie.Need-returns
+returns : tie.Need-returns-in-Record
 returns c =
-    let l = (start_before_at c.before.before).args.library in
-    let at = c.before.before.at.given.0.0 in
-    let e = located c.before.before in
+    let l = c.args.library in
+    let at = c.in-Record.at in
+    let e = (let located_ : let a = c.args in locating a.library.now a.name.now ≡ yes (c.in-Record.at, c.in-Record.size) = (let answer_ : let a = c.args in locating a.library.now a.name.now ≡ verdictLocated c.locate.result = let a = c.args in sym (tells_one (verdictLocated c.locate.result) (locating a.library.now a.name.now) c.locate.ensures) in answer_) ∙ ap verdictLocated c.in-Record.is in located_) in
     record {
       bytes =
-          ap (λ (n : ℕ). take n (drop at l.now)) (add-sub_cancel_left at c.before.before.at.given.0.1.0) ∙
+          ap (λ (n : ℕ). take n (drop at l.now)) (add-sub_cancel_left at c.in-Record.size) ∙
           sym (ap (λ t. handed t l.now) e);
       place = sym (ap (λ t. standing t l) e);
     }
 
-returns_2 : tie.Need-returns-2
+returns_2 : tie.Need-returns-in-Refused
 returns_2 c =
-    let l = (start_before_result2 c).args.library in
-    let e = answer c.before.before.before ∙ ap verdictLocated c.before.enum_told.given.1 in
+    let l = c.args.library in
+    let e = (let answer_ : let a = c.args in locating a.library.now a.name.now ≡ verdictLocated c.locate.result = let a = c.args in sym (tells_one (verdictLocated c.locate.result) (locating a.library.now a.name.now) c.locate.ensures) in answer_) ∙ ap verdictLocated c.in-Refused.is in
     record { bytes = sym (ap (λ t. handed t l.now) e); place = sym (ap (λ t. standing t l) e) }
 
 pub find_spec : {M : Type 1} → statement M

@@ -40,44 +40,44 @@ yes e = subst T (sym e) tt
 
 -- what owning an f64 tells: the format holds it
 held : (c : tie.Start) → T (fits binary64 c.args.x)
-held c = yes c.well-formed.0.1
+held c = yes c.well_formed.0.1
 
-is_number : (c : tie.Then1) → T (finite c.before.before.args.x)
-is_number c = yes (sym c.before.is_finite.ensures ∙ c.if1.true)
+is_number : (c : tie.Then-is_finite) → T (finite c.args.x)
+is_number c = yes (sym c.is_finite.ensures ∙ c.if-is_finite.true)
 
-is_finite_requires : tie.Need-is-finite-requires
+is_finite_requires : tie.Need-is_finite-requires
 is_finite_requires c κs = search rules
 
-float_to_bits_bits : tie.Need-float-to-bits-bits
-float_to_bits_bits c = finite_no_nan c.before.before.args.x (is_number c)
+float_to_bits_bits : tie.Need-float_to_bits-bits
+float_to_bits_bits c = finite_no_nan c.args.x (is_number c)
 
-cut_small_requires : tie.Need-cut-small-requires
+cut_small_requires : tie.Need-cut_small-requires
 cut_small_requires c κs = search rules
 
-returns : tie.Need-returns
+returns : tie.Need-returns-then-field-eq0
 returns c =
     let start = c.before.before.before.before in
-    low _ _ _ _ _ (read_back _ (held start)) c.before.if2.true (omega arith) c.cut_small.ensures
+    low _ _ _ _ _ (read_back _ (held start)) c.if-field-eq0.true (omega arith) c.cut_small.ensures
 
-add_t6 : tie.Need-overflow-add-t6
+add_t6 : tie.Need-overflow_add-result
 add_t6 c = search rules
 
-cast_t9 : tie.Need-overflow-cast-t9
+cast_t9 : tie.Need-overflow_cast-result
 cast_t9 c = search rules
 
-sub_t10 : tie.Need-overflow-sub-t10
+sub_t10 : tie.Need-overflow_sub-result
 sub_t10 c = search rules
 
-cast_t11 : tie.Need-overflow-cast-t11
+cast_t11 : tie.Need-overflow_cast-result-then-is_finite
 cast_t11 c = search rules
 
-returns_2 : tie.Need-returns-2
+returns_2 : tie.Need-returns-then-is_finite
 returns_2 c =
-    high _ _ _ _ (read_back _ (held c.before.before.before)) c.if2.false (omega arith) (omega arith)
+    high _ _ _ _ (read_back _ (held c.before.before.before)) c.if-field-eq0.false (omega arith) (omega arith)
     (is_number c.before)
 
-returns_3 : tie.Need-returns-3
-returns_3 c = none c.before.before.args.x (sym c.before.is_finite.ensures ∙ c.if1.false)
+returns_3 : tie.Need-returns
+returns_3 c = none c.args.x (sym c.is_finite.ensures ∙ c.if-is_finite.false)
 
 pub cut_spec : {M : Type 1} → statement M
 cut_spec =

@@ -30,44 +30,44 @@ some_units (suc n) z h l e =
     let down : 9277 - z ≡ 9277 - (0 + size (suc n)) = omega arith in
     ap₂ (λ (x y : ℕ). record { a = x / 2 ^ 22; down = y }) (shifted (suc n) z l e) down
 
-counted : (c : tie.Else1) → count_leading_zeros 64 c.before.args.n + size c.before.args.n ≡ 64
-counted c = count c.before.args.n c.if1.false c.before.requires
+counted : (c : tie.Else-n-eq0) → count_leading_zeros 64 c.args.n + size c.args.n ≡ 64
+counted c = count c.args.n c.if-n-eq0.false c.requires
 
-returns : tie.Need-returns
-returns c = ap (λ (n : ℕ). units_of n 0) (sym c.if1.true)
-    ∙ sym (plain_split c.before.args.n (let l = c.before.requires in omega arith))
+returns : tie.Need-returns-then-n-eq0
+returns c = ap (λ (n : ℕ). units_of n 0) (sym c.if-n-eq0.true)
+    ∙ sym (plain_split c.args.n (let l = c.requires in omega arith))
 
-sub_size : tie.Need-overflow-sub-size
+sub_size : tie.Need-overflow_sub-size
 sub_size c = omega (arith, counted c)
 
-cast_size : tie.Need-overflow-cast-size
+cast_size : tie.Need-overflow_cast-size
 cast_size c = search rules
 
-sub_t6 : tie.Need-overflow-sub-t6
-sub_t6 c = omega (arith, counted c, size-le c.before.args.n 53 (let l = c.before.requires in omega arith))
+sub_t6 : tie.Need-overflow_sub-result
+sub_t6 c = omega (arith, counted c, size-le c.args.n 53 (let l = c.requires in omega arith))
 
-shl_t7 : tie.Need-overflow-shl-t7
+shl_t7 : tie.Need-overflow_shl-result
 shl_t7 c = search rules
 
-cast_t4 : tie.Need-overflow-cast-t4
+cast_t4 : tie.Need-overflow_cast-result
 cast_t4 c =
-    let n = c.before.args.n in
-    let l : n < 2 ^ 53 = let k = c.before.requires in omega arith in
-    let f = filled n (let k = c.if1.false in omega arith) l in
-    let e = shifted n (64 - count_leading_zeros 64 n) c.before.requires (omega (arith, counted c)) in
+    let n = c.args.n in
+    let l : n < 2 ^ 53 = let k = c.requires in omega arith in
+    let f = filled n (let k = c.if-n-eq0.false in omega arith) l in
+    let e = shifted n (64 - count_leading_zeros 64 n) c.requires (omega (arith, counted c)) in
     omega (arith, e, f.1)
 
-sub_t9 : tie.Need-overflow-sub-t9
+sub_t9 : tie.Need-overflow_sub-result-2
 sub_t9 c = search rules
 
-cast_t10 : tie.Need-overflow-cast-t10
+cast_t10 : tie.Need-overflow_cast-result-2
 cast_t10 c = search rules
 
-returns_2 : tie.Need-returns-2
+returns_2 : tie.Need-returns
 returns_2 c =
-    some_units c.before.args.n (64 - count_leading_zeros 64 c.before.args.n) c.if1.false c.before.requires
+    some_units c.args.n (64 - count_leading_zeros 64 c.args.n) c.if-n-eq0.false c.requires
     (omega (arith, counted c))
-    ∙ sym (plain_split c.before.args.n (let l = c.before.requires in omega arith))
+    ∙ sym (plain_split c.args.n (let l = c.requires in omega arith))
 
 pub cut_small_spec : {M : Type 1} → statement M
 cut_small_spec =

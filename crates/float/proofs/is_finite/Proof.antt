@@ -20,13 +20,13 @@ not_below nan e = refl
 not_below (inf s) e = refl
 not_below (fin s m d) e = absurd (subst T e tt)
 
-returns : tie.Need-returns
+returns : tie.Need-returns-then-x-over
 unfolding div neg of_bits
-returns c = below c.before.args.x c.if1.true
+returns c = below c.args.x c.if-x-over.true
 
-returns_2 : tie.Need-returns-2
+returns_2 : tie.Need-returns-else-x-over
 unfolding div neg of_bits
-returns_2 c = not_below c.before.args.x c.if1.false
+returns_2 c = not_below c.args.x c.if-x-over.false
 
 pub is_finite_spec : {M : Type 1} → statement M
 is_finite_spec = tie.close (tie.spec returns returns_2)

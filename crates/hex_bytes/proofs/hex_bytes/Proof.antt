@@ -5,29 +5,22 @@ use Rattle.hex_bytes.proofs.HexPairs.{dashed, too_many, not_pairs, all_spelled}
 use Rattle.hex_bytes.proofs.hex_bytes.Tie as tie
 use Rattle.hex_bytes.proofs.hex_bytes.Statement.{statement}
 
-returns : tie.Need-returns
-returns c = dashed _ _ (sym c.if1.true ∙ c.before.is-dash.ensures)
+returns : tie.Need-returns-then-is_dash
+returns c = dashed _ _ (sym c.if-is_dash.true ∙ c.is_dash.ensures)
 
-returns_2 : tie.Need-returns-2
-returns_2 c = too_many _ _ (sym c.before.if1.false ∙ c.before.before.is-dash.ensures) c.if2.true
+returns_2 : tie.Need-returns-then-out-word
+returns_2 c = too_many _ _ (sym c.if-is_dash.false ∙ c.is_dash.ensures) c.if-out-word.true
 
-abbrev then3_before_slice_known2 : tie.After-slice-known2 → tie.Then3
-then3_before_slice_known2 c = c.before.before.before.before
-
-abbrev is_dash_before_else3 : tie.Else3 → tie.After-is-dash
-is_dash_before_else3 c = c.before.before.before.before
-
-returns_3 : tie.Need-returns-3
+returns_3 : tie.Need-returns-then-are_pairs
 returns_3 c =
-    let d = (then3_before_slice_known2 c) in
-    all_spelled _ _ (sym d.before.before.before.if1.left ∙ d.before.before.before.before.is-dash.ensures)
-    d.before.before.if2.left (sym d.if3.taken ∙ d.before.are-pairs.ensures)
-    c.before.before.fill.ensures
+    all_spelled _ _ (sym c.if-is_dash.false ∙ c.is_dash.ensures)
+    c.if-out-word.false (sym c.if-are_pairs.true ∙ c.are_pairs.ensures)
+    c.fill.ensures
 
-returns_4 : tie.Need-returns-4
+returns_4 : tie.Need-returns
 returns_4 c =
-    not_pairs _ _ (sym c.before.before.before.if1.false ∙ (is_dash_before_else3 c).is-dash.ensures)
-    c.before.before.if2.false (sym c.if3.false ∙ c.before.are-pairs.ensures)
+    not_pairs _ _ (sym c.if-is_dash.false ∙ c.is_dash.ensures)
+    c.if-out-word.false (sym c.if-are_pairs.false ∙ c.are_pairs.ensures)
 
 pub hex_bytes_spec : {M : Type 1} → statement M
 hex_bytes_spec =

@@ -10,9 +10,9 @@ returns c =
     let at = size.before.before in
     let a = at.before.before in
     let s = a.before.before.before in
-    finds s.args.library.now s.args.name.now a.locate.result a.locate.ensures
+    finds s.args.library.now s.args.name.now a.locate-a.result a.locate-a.ensures
     at.place_over.ensures
-    size.size_over_lem.ensures c.find-result.ensures
+    size.size_over.ensures c.find_result.ensures
 
 pub find_spec : {M : Type 1} → statement M
 find_spec =

@@ -7,12 +7,12 @@ use Rattle.finding.specs.Answers.{verdictLocated}
 use Rattle.host_shelf.proofs.find_result.Statement.{statement}
 use Rattle.host_shelf.proofs.find_result.Tie as tie
 
-returns : tie.Need-returns
-returns c = sym (ap (λ (x : Located). number_told (verdictLocated x)) c.enum_told.given.1)
+returns : tie.Need-returns-in-Record
+returns c = sym (ap (λ (x : Located). number_told (verdictLocated x)) c.in-Record.is)
 
-returns_2 : tie.Need-returns-2
+returns_2 : tie.Need-returns-in-Refused
 returns_2 c =
-    c.number.ensures ∙ sym (ap (λ (x : Located). number_told (verdictLocated x)) c.before.before.a.given.1)
+    c.number.ensures ∙ sym (ap (λ (x : Located). number_told (verdictLocated x)) c.in-Refused.is)
 
 pub find_result_spec : {M : Type 1} → statement M
 find_result_spec =

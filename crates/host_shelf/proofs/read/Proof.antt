@@ -9,7 +9,7 @@ returns c =
     let version = c.before in
     let cards = version.before.before in
     let a = cards.before.before.before.before.before.before in
-    reads_out a.read.ensures cards.cards-over.ensures version.version-over.ensures c.read_result.ensures
+    reads_out a.read-a.ensures cards.cards_over.ensures version.version_over.ensures c.read_result.ensures
 
 pub read_spec : {M : Type 1} → statement M
 read_spec =

@@ -7,12 +7,12 @@ use Rattle.library.specs.Answers.{verdictRead}
 use Rattle.host_shelf.proofs.read_result.Statement.{statement}
 use Rattle.host_shelf.proofs.read_result.Tie as tie
 
-returns : tie.Need-returns
-returns c = sym (ap (λ (x : Reading). number_told (verdictRead x)) c.enum_told.given.1)
+returns : tie.Need-returns-in-Cards
+returns c = sym (ap (λ (x : Reading). number_told (verdictRead x)) c.in-Cards.is)
 
-returns_2 : tie.Need-returns-2
+returns_2 : tie.Need-returns-in-Refused
 returns_2 c =
-    c.number.ensures ∙ sym (ap (λ (x : Reading). number_told (verdictRead x)) c.before.before.a.given.1)
+    c.number.ensures ∙ sym (ap (λ (x : Reading). number_told (verdictRead x)) c.in-Refused.is)
 
 pub read_result_spec : {M : Type 1} → statement M
 read_result_spec =

@@ -4,10 +4,10 @@ use borrow.Author.Rules.{rules}
 use Rattle.joining.proofs.add_byte.Statement.{statement}
 use Rattle.joining.proofs.add_byte.Tie as tie
 
-returns : tie.Need-returns
+returns : tie.Need-returns-then-n-lt-LINE_ROOM
 returns c = search (rules, byte_put)
 
-returns_2 : tie.Need-returns-2
+returns_2 : tie.Need-returns
 returns_2 c = search (rules, byte_over)
 
 pub add_byte_spec : {M : Type 1} → statement M

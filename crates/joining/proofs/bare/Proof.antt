@@ -4,13 +4,13 @@ use borrow.Author.Rules.{rules}
 use Rattle.joining.proofs.bare.Statement.{statement}
 use Rattle.joining.proofs.bare.Tie as tie
 
-returns : tie.Need-returns
+returns : tie.Need-returns-then-n-eq0
 returns c = bare_none _ (search rules)
 
-returns_2 : tie.Need-returns-2
+returns_2 : tie.Need-returns-then-line-n-eq13
 returns_2 c = bare_return _ (search rules)
 
-returns_3 : tie.Need-returns-3
+returns_3 : tie.Need-returns
 returns_3 c = bare_other _ (search rules)
 
 pub bare_spec : {M : Type 1} → statement M

@@ -9,21 +9,21 @@ use Rattle.deck.specs.laws.Stretches.{written_none, written_more}
 use Rattle.laying.proofs.lay_numbers.Statement.{statement}
 use Rattle.laying.proofs.lay_numbers.Tie as tie
 
-abbrev invariant_loop : tie.invariant-loop
+abbrev invariant_loop : tie.invariant-loop-k
 invariant_loop all₀ i own at k₀ all k = (k ≤ numbers_each) × (all ≡ written 0 all₀ (numbers_each * i) own k)
 
-abbrev decreases_loop : tie.decreases-loop
+abbrev decreases_loop : tie.decreases-loop-k
 decreases_loop all₀ i own at k₀ all k = numbers_each - k
 
-loop_holds : tie.Need-loop-init invariant_loop decreases_loop
+loop_holds : tie.Need-loop-k-init invariant_loop decreases_loop
 loop_holds c = (search rules, written_none 0 _ _ _)
 
-loop_again : tie.Need-loop-preserved invariant_loop decreases_loop
-loop_again c = (omega arith, written_more 0 _ _ _ _ c.before.before.loop.invariant.1)
+loop_again : tie.Need-loop-k-preserved invariant_loop decreases_loop
+loop_again c = (omega arith, written_more 0 _ _ _ _ c.loop-k.invariant.1)
 
 returns : tie.Need-returns invariant_loop decreases_loop
 returns c =
-    let e : c.before.loop.k ≡ numbers_each = omega arith in rw e at c.before.loop.invariant.1
+    let e : c.loop-k.k ≡ numbers_each = omega arith in rw e at c.loop-k.invariant.1
 
 pub lay_numbers_spec : {M : Type 1} → statement M
 lay_numbers_spec =

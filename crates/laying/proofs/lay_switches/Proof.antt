@@ -10,21 +10,21 @@ use Rattle.deck.specs.laws.Stretches.{written_none, written_more}
 use Rattle.laying.proofs.lay_switches.Statement.{statement}
 use Rattle.laying.proofs.lay_switches.Tie as tie
 
-abbrev invariant_loop : tie.invariant-loop
+abbrev invariant_loop : tie.invariant-loop-k
 invariant_loop all₀ i own at k₀ all k = (k ≤ switches_each) × (all ≡ written false all₀ (switches_each * i) own k)
 
-abbrev decreases_loop : tie.decreases-loop
+abbrev decreases_loop : tie.decreases-loop-k
 decreases_loop all₀ i own at k₀ all k = switches_each - k
 
-loop_holds : tie.Need-loop-init invariant_loop decreases_loop
+loop_holds : tie.Need-loop-k-init invariant_loop decreases_loop
 loop_holds c = (search rules, written_none false _ _ _)
 
-loop_again : tie.Need-loop-preserved invariant_loop decreases_loop
-loop_again c = (omega arith, written_more false _ _ _ _ c.before.before.loop.invariant.1)
+loop_again : tie.Need-loop-k-preserved invariant_loop decreases_loop
+loop_again c = (omega arith, written_more false _ _ _ _ c.loop-k.invariant.1)
 
 returns : tie.Need-returns invariant_loop decreases_loop
 returns c =
-    let e : c.before.loop.k ≡ switches_each = omega arith in rw e at c.before.loop.invariant.1
+    let e : c.loop-k.k ≡ switches_each = omega arith in rw e at c.loop-k.invariant.1
 
 pub lay_switches_spec : {M : Type 1} → statement M
 lay_switches_spec =

@@ -1,7 +1,7 @@
 -- `library::read` meets its contract: 1, 2, 3 as judged, then 5, and else both buffers filled.
 use mathlib.Core.Path.{sym, ap, ◌∙◌}
 use native.Mathlib.Omega.{arith}
-use borrow.Author.Tests.{lt-ltb}
+use borrow.Author.Tests.{lt-ltb, le-leb, lt-leb}
 use Rattle.library.proofs.Outcomes.{words_room_lem, read_short, read_cards, read_none, read_refused}
 use Rattle.directory.proofs.Inspections.{Inspected, inspected}
 use borrow.Author.Rules.{rules}
@@ -10,69 +10,46 @@ use Rattle.library.proofs.read.Tie as tie
 use Rattle.roll.proofs.Names.{or_true}
 use Rattle.directory.specs.Judged.{found}
 
-abbrev start_before_cards : tie.After-cards → tie.Start
-start_before_cards c = c.before.before.before.before.before.before
+mul_a : tie.Need-overflow_mul-a
+mul_a c = omega (arith, (let seen_ : Inspected c.args.library.now c.in-Numbers.cards c.in-Numbers.k = inspected _ (sym c.inspect.ensures ∙ ap found c.in-Numbers.is) in seen_))
 
--- in this arm the library is sound
-seen : (c : tie.After-cards)
-    → Inspected (start_before_cards c).args.library.now c.cards.given.0.0 c.cards.given.0.1.0
-seen c = inspected _ (sym c.before.before.inspect.ensures ∙ ap found c.cards.given.1)
+returns : tie.Need-returns-then-names-a
+returns c = read_short _ _ _ (let seen_ : Inspected c.args.library.now c.in-Numbers.cards c.in-Numbers.k = inspected _ (sym c.inspect.ensures ∙ ap found c.in-Numbers.is) in seen_) (or_true (lt-ltb _ _ c.if-names-a.true) _)
 
-mul_a : tie.Need-overflow-mul-a
-mul_a c = omega (arith, seen c.before)
+cast_n : tie.Need-overflow_cast-n
+cast_n c = omega (arith, (let seen_ : Inspected c.args.library.now c.in-Numbers.cards c.in-Numbers.k = inspected _ (sym c.inspect.ensures ∙ ap found c.in-Numbers.is) in seen_))
 
-returns : tie.Need-returns
-returns c = read_short _ _ _ (seen c.before.before) (or_true (lt-ltb _ _ c.if1.true) _)
+mul_room : tie.Need-overflow_mul-room
+mul_room c = omega (arith, (let seen_ : Inspected c.args.library.now c.in-Numbers.cards c.in-Numbers.k = inspected _ (sym c.inspect.ensures ∙ ap found c.in-Numbers.is) in seen_))
 
-cast_n : tie.Need-overflow-cast-n
-cast_n c = omega (arith, seen c.before.before)
+part_where_room_end : tie.Need-slice_bounds-where_room-end
+part_where_room_end c = omega (arith, (let seen_ : Inspected c.args.library.now c.in-Numbers.cards c.in-Numbers.k = inspected _ (sym c.inspect.ensures ∙ ap found c.in-Numbers.is) in seen_))
 
-mul_room : tie.Need-overflow-mul-room
-mul_room c = omega (arith, seen c.before.before)
+sub_where_room_2 : tie.Need-slice_bounds-where_room-count-in-Numbers
+sub_where_room_2 c = omega (arith, (let seen_ : Inspected c.args.library.now c.in-Numbers.cards c.in-Numbers.k = inspected _ (sym c.inspect.ensures ∙ ap found c.in-Numbers.is) in seen_))
 
-part_where_room_end : tie.Need-slice-bounds-where-room-end
-part_where_room_end c = omega (arith, seen c.before.before)
-
-abbrev cards_before_slice_known3 : tie.After-slice-known3 → tie.After-cards
-cards_before_slice_known3 c = c.before.before.before.before.before.before.before.before
-
-sub_where_room_2 : tie.Need-overflow-sub-where-room-2
-sub_where_room_2 c = omega (arith, seen (cards_before_slice_known3 c))
-
-part_where_room_start_2 : tie.Need-slice-bounds-where-room-start-2
-part_where_room_start_2 c = omega (arith, seen (cards_before_slice_known3 c))
+part_where_room_start_2 : tie.Need-slice_bounds-where_room-start-in-Numbers
+part_where_room_start_2 c = omega (arith, (let seen_ : Inspected c.args.library.now c.in-Numbers.cards c.in-Numbers.k = inspected _ (sym c.inspect.ensures ∙ ap found c.in-Numbers.is) in seen_))
 
 load_requires : tie.Need-load-requires
 load_requires c κs =
-    words_room_lem (seen (cards_before_slice_known3 c.before.before.before)) _ c.before.where-room2.ensures.0
-
-abbrev load_before : tie.After-slice-known4 → tie.After-load
-load_before c = c.before.before
-
-abbrev copy_before : tie.After-slice-known4 → tie.After-copy
-copy_before c = (load_before c).before.before.before.before.before.before
+    words_room_lem (let seen_ : Inspected c.args.library.now c.in-Numbers.cards c.in-Numbers.k = inspected _ (sym c.inspect.ensures ∙ ap found c.in-Numbers.is) in seen_) _ c.where_room-in-Numbers.ensures.0
 
 -- the way out of a reading that has room for the names
-abbrev else1_before : tie.After-slice-known4 → tie.Else1
-else1_before c = (copy_before c).before.before.before.before
-
-returns_2 : tie.Need-returns-2
+returns_2 : tie.Need-returns-then-room
 returns_2 c =
-    let t = c.before in
-    let d = t.before in
-    read_cards _ _ _ (seen (else1_before d).before.before) (else1_before d).if1.left
-    (copy_before d).before.before.where-room.ensures.0 (load_before d).before.before.where-room2.ensures.0
-    (copy_before d).copy.ensures (load_before d).load.ensures t.if2.true c.u16-at.ensures
+    read_cards _ _ _ (let seen_ : Inspected c.args.library.now c.in-Numbers.cards c.in-Numbers.k = inspected _ (sym c.inspect.ensures ∙ ap found c.in-Numbers.is) in seen_) c.if-names-a.false
+    c.where_room.ensures.0 c.where_room-in-Numbers.ensures.0
+    c.copy.ensures c.load.ensures (le-leb _ _ c.if-room.true) c.u16_at-version.ensures
 
-returns_3 : tie.Need-returns-3
-returns_3 c = read_refused _ _ _ (sym c.before.before.before.inspect.ensures ∙ ap found c.before.f.given.1)
+returns_3 : tie.Need-returns-in-Refused
+returns_3 c = read_refused _ _ _ (sym c.inspect.ensures ∙ ap found c.in-Refused.is)
 
-returns_4 : tie.Need-returns-4
+returns_4 : tie.Need-returns-else-room
 returns_4 c =
-    let d = c.before in
-    read_none _ _ _ (seen (else1_before d).before.before) (else1_before d).if1.left
-    (copy_before d).before.before.where-room.ensures.0 (load_before d).before.before.where-room2.ensures.0
-    (copy_before d).copy.ensures (load_before d).load.ensures c.if2.false
+    read_none _ _ _ (let seen_ : Inspected c.args.library.now c.in-Numbers.cards c.in-Numbers.k = inspected _ (sym c.inspect.ensures ∙ ap found c.in-Numbers.is) in seen_) c.if-names-a.false
+    c.where_room.ensures.0 c.where_room-in-Numbers.ensures.0
+    c.copy.ensures c.load.ensures (lt-leb _ _ c.if-room.false)
 
 pub read_spec : {M : Type 1} → statement M
 read_spec =

@@ -4,13 +4,13 @@ use borrow.Author.Rules.{rules}
 use Rattle.line_head.proofs.starts_in_space.Statement.{statement}
 use Rattle.line_head.proofs.starts_in_space.Tie as tie
 
-returns : tie.Need-returns
-returns c = nothing_first c.before.args.line.now (search rules)
+returns : tie.Need-returns-then-line-eq0
+returns c = nothing_first c.args.line.now (search rules)
 
-shared_slice_read_result : tie.Need-shared-slice-read-result
+shared_slice_read_result : tie.Need-bounds-line-0
 shared_slice_read_result c = search rules
 
-returns_2 : tie.Need-returns-2
+returns_2 : tie.Need-returns
 returns_2 c = search rules
 
 pub starts_in_space_spec : {M : Type 1} → statement M

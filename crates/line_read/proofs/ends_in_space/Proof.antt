@@ -4,16 +4,16 @@ use borrow.Author.Rules.{rules}
 use Rattle.line_read.proofs.ends_in_space.Statement.{statement}
 use Rattle.line_read.proofs.ends_in_space.Tie as tie
 
-returns : tie.Need-returns
-returns c = nothing_last c.before.args.line.now (search rules)
+returns : tie.Need-returns-then-n-eq0
+returns c = nothing_last c.args.line.now (search rules)
 
-sub_result : tie.Need-overflow-sub-result
+sub_result : tie.Need-overflow_sub-result
 sub_result c = search rules
 
-shared_slice_read_result : tie.Need-shared-slice-read-result
+shared_slice_read_result : tie.Need-bounds-line-n
 shared_slice_read_result c = search rules
 
-returns_2 : tie.Need-returns-2
+returns_2 : tie.Need-returns
 returns_2 c = search rules
 
 pub ends_in_space_spec : {M : Type 1} → statement M

@@ -1,6 +1,6 @@
 -- Keys that are refused, a space last, no octave, and the buffers.
-use mathlib.Core.Path.{◌≡◌, sym, ◌∙◌}
-use mathlib.Core.Bool.{false}
+use mathlib.Core.Path.{◌≡◌, sym, ◌∙◌, ap}
+use mathlib.Core.Bool.{false, not}
 use Rattle.line.specs.Line.{Head, Taken, taken, ends_in_space}
 use Rattle.line.specs.inner.Steps.{head_at, is_refused}
 use Rattle.line.proofs.Ends.{refused_leaves, same_verdict, keys_refused, keys_taken}
@@ -9,17 +9,17 @@ use borrow.Author.Rules.{rules}
 use Rattle.line_read.proofs.finish.Statement.{statement}
 use Rattle.line_read.proofs.finish.Tie as tie
 
-is_refused_requires : tie.Need-is-refused-requires
+is_refused_requires : tie.Need-is_refused-refused-requires
 is_refused_requires c κs = search rules
 
-ends_in_space_requires : tie.Need-ends-in-space-requires
+ends_in_space_requires : tie.Need-ends_in_space-spaced-requires
 ends_in_space_requires c κs = search rules
 
-element_copy_out_missing : tie.Need-element-copy-out-missing
+element_copy_out_missing : tie.Need-bounds-given-14
 element_copy_out_missing c = search rules
 
-abbrev entry : tie.After-missing → tie.Start
-entry c = c.before.before.before.before.before.before
+abbrev entry : tie.After-missing-1 → tie.Start
+entry c = c.before.before.before.before.before.before.before
 
 -- the head, and what was taken
 abbrev head : tie.Start → Head
@@ -29,50 +29,50 @@ abbrev so_far : tie.Start → Taken
 so_far c = taken c.args.words.now c.args.given.now
 
 -- the keys were taken
-went_well : (c : tie.Else1) → false ≡ is_refused (entry c.before).args.went
-went_well c = sym c.if1.false ∙ c.before.before.before.is_refused.ensures
+went_well : (c : tie.Else-refused) → false ≡ is_refused (entry c.before).args.went
+went_well c = sym c.if-refused.false ∙ c.is_refused-refused.ensures
 
 -- no space stands last
-plain_last : (c : tie.Else2) → false ≡ ends_in_space (entry c.before.before).args.line.now
-plain_last c = sym c.if2.false ∙ c.before.before.before.ends-in-space.ensures
+plain_last : (c : tie.Else-spaced) → false ≡ ends_in_space (entry c.before.before).args.line.now
+plain_last c = sym c.if-spaced.false ∙ c.ends_in_space-spaced.ensures
 
-returns : tie.Need-returns
+returns : tie.Need-returns-then-refused
 returns c =
     let a = entry c.before in
     keys_refused a.args.line.now (head a) a.args.words.now a.args.given.now a.args.name.now
     a.args.rec.now a.args.went
-    (sym c.if1.true ∙ c.before.before.before.is_refused.ensures)
+    (sym c.if-refused.true ∙ c.is_refused-refused.ensures)
 
-returns_2 : tie.Need-returns-2
+returns_2 : tie.Need-returns-then-spaced
 returns_2 c =
     let e = c.before in
     let a = entry e.before in
     refused_leaves _ _
     (end_space a.args.line.now (head a) (so_far a) a.args.name.now a.args.rec.now
-    (sym c.if2.true ∙ e.before.before.ends-in-space.ensures)
+    (sym c.if-spaced.true ∙ e.ends_in_space-spaced.ensures)
     ∙ keys_taken a.args.line.now (head a) a.args.words.now a.args.given.now a.args.name.now
     a.args.rec.now a.args.went (went_well e))
 
-returns_3 : tie.Need-returns-3
+returns_3 : tie.Need-returns-then-missing
 returns_3 c =
     let e = c.before in
     let a = entry e.before.before in
     refused_leaves _ _
     (end_missing a.args.line.now (head a) (so_far a) a.args.name.now a.args.rec.now (plain_last e)
-    c.if3.true
+    (ap not c.if-missing.true)
     ∙ keys_taken a.args.line.now (head a) a.args.words.now a.args.given.now a.args.name.now
     a.args.rec.now a.args.went (went_well e.before))
 
 leave_requires : tie.Need-leave-requires
 leave_requires c κs = search rules
 
-same_length : tie.Need-same-length
+same_length : tie.Need-shape_of-name
 same_length c = search rules
 
-same_length_2 : tie.Need-same-length-2
+same_length_2 : tie.Need-shape_of-rec
 same_length_2 c = search rules
 
-returns_4 : tie.Need-returns-4
+returns_4 : tie.Need-returns
 returns_4 c =
     let l = c.before.before.before.before in
     let t = l.before.before.before.before in
@@ -80,7 +80,7 @@ returns_4 c =
     let a = entry e.before.before in
     same_verdict
     (end_given a.args.line.now (head a) (so_far a) a.args.name.now a.args.rec.now (plain_last e)
-    t.if3.false
+    (ap not t.if-missing.false)
     ∙ keys_taken a.args.line.now (head a) a.args.words.now a.args.given.now a.args.name.now
     a.args.rec.now a.args.went (went_well e.before))
     l.leave.ensures

@@ -8,35 +8,31 @@ use Rattle.line_write.proofs.is_settled.Tie as tie
 word_requires : tie.Need-word-requires
 word_requires c κs = search rules
 
-is_polarity_requires : tie.Need-is-polarity-requires
+is_polarity_requires : tie.Need-is_polarity-requires
 is_polarity_requires c κs = search rules
 
-word_requires_2 : tie.Need-word-requires-2
+word_requires_2 : tie.Need-word-requires-then-is_polarity
 word_requires_2 c κs = search rules
 
-add_word : tie.Need-overflow-add-word
+add_word : tie.Need-overflow_add-word
 add_word c = search rules
 
-word_requires_3 : tie.Need-word-requires-3
+word_requires_3 : tie.Need-word-requires-then-word-eq0
 word_requires_3 c κs = search rules
 
-returns : tie.Need-returns
+returns : tie.Need-returns-then-word-eq0
 returns c =
-    let t = c.before.before.before in
-    let p = t.before in
-    second_spare _ (sym t.if1.true ∙ p.is-polarity.ensures) p.before.word.ensures
-    c.before.before.word2.ensures (search rules) c.word3.ensures
+    second_spare _ (sym c.if-is_polarity.true ∙ c.is_polarity.ensures) c.word.ensures
+    c.word-then-is_polarity.ensures (search rules) c.word-then-word-eq0.ensures
 
-returns_2 : tie.Need-returns-2
+returns_2 : tie.Need-returns-else-word-eq0
 returns_2 c =
-    let t = c.before.before in
-    let p = t.before in
-    first_spare _ (sym t.if1.true ∙ p.is-polarity.ensures) p.before.word.ensures
-    c.before.word2.ensures (search rules)
+    first_spare _ (sym c.if-is_polarity.true ∙ c.is_polarity.ensures) c.word.ensures
+    c.word-then-is_polarity.ensures (search rules)
 
-returns_3 : tie.Need-returns-3
+returns_3 : tie.Need-returns-else-is_polarity
 returns_3 c =
-    not_signed _ (sym c.if1.false ∙ c.before.is-polarity.ensures) c.before.before.word.ensures
+    not_signed _ (sym c.if-is_polarity.false ∙ c.is_polarity.ensures) c.word.ensures
 
 pub is_settled_spec : {M : Type 1} → statement M
 is_settled_spec =

@@ -7,53 +7,45 @@ use Rattle.line_write.proofs.Lines.{refused_leaves, same_verdict, good_text_lem,
 use Rattle.line_write.proofs.write_good.Statement.{statement}
 use Rattle.line_write.proofs.write_good.Tie as tie
 
-word_requires : tie.Need-word-requires
+word_requires : tie.Need-word-sign-requires
 word_requires c κs = search rules
 
-put_head_requires : tie.Need-put-head-requires
+put_head_requires : tie.Need-put_head-at-requires
 put_head_requires c κs = search rules
 
-put_keys_requires : tie.Need-put-keys-requires
+put_keys_requires : tie.Need-put_keys-requires
 put_keys_requires c κs = search rules
 
-enum_known_n : tie.Need-enum-known-n
+enum_known_n : tie.Need-enum_known-n
 enum_known_n c = search rules
 
 leave_requires : tie.Need-leave-requires
 leave_requires c κs =
-    let k = c.before.before.before.before.before in
-    let v : KeysPut _ _ _ _ key_count _ = rw c.before.before.before.n.given.1 at k.put-keys.ensures in
+    let v : KeysPut _ _ _ _ key_count _ = rw c.in-To.is at c.put_keys.ensures in
     let m = v.most in
     let e = v.added.kept in
-    let h = k.before.before.put-head.ensures in
+    let h = c.put_head-at.ensures in
     let f = h.1.kept in (search rules, omega arith)
 
-enum_told : tie.Need-enum-told
+enum_told : tie.Need-enum_told-1
 enum_told c = search rules
 
-same_length : tie.Need-same-length
+same_length : tie.Need-shape_of-line
 same_length c = search rules
 
-returns : tie.Need-returns
+returns : tie.Need-returns-in-To
 returns c =
-    let l = c.before.before in
-    let n = l.before.before.before.before in
-    let k = n.before.before in
-    let h = k.before.before in
-    let w = h.before.before in
-    let a = w.before.before.before.before.args in
-    let v : KeysPut _ _ _ _ key_count _ = rw n.n.given.1 at k.put-keys.ensures in
+    let a = c.args in
+    let v : KeysPut _ _ _ _ key_count _ = rw c.in-To.is at c.put_keys.ensures in
     same_verdict (good_text_lem a.name.now a.rec.now a.line.now
-    (whole_line a.name.now a.rec.now w.word.ensures h.put-head.ensures.1 v) v.forms)
-    l.leave.ensures
+    (whole_line a.name.now a.rec.now c.word-sign.ensures c.put_head-at.ensures.1 v) v.forms)
+    c.leave.ensures
 
-returns_2 : tie.Need-returns-2
+returns_2 : tie.Need-returns-in-Nothing
 returns_2 c =
-    let k = c.before.before in
-    let w = k.before.before.before.before in
-    let a = w.before.before.before.before.args in
+    let a = c.args in
     refused_leaves _ (good_refused a.name.now a.rec.now a.line.now
-    (rw c.enum_told.given.1 at k.put-keys.ensures))
+    (rw c.in-Nothing.is at c.put_keys.ensures))
 
 pub write_good_spec : {M : Type 1} → statement M
 write_good_spec =

@@ -8,21 +8,21 @@ use Rattle.listed.specs.Listed.{listed_mask}
 use Rattle.listed.proofs.listed_mask.Tie as tie
 use Rattle.listed.proofs.listed_mask.Statement.{statement}
 
-returns : tie.Need-returns
+returns : tie.Need-returns-in_default
 returns c =
-    let n = c.before.before.args.number in
-    simp (under 6 n 10 (omega arith), ne_eqb n 19 c.before.match.rest.1)
+    let n = c.args.number in
+    simp (under 6 n 10 (omega arith), ne_eqb n 19 c.in_default.in_default-own.rest.1)
 
-returns_2 : tie.Need-returns-2
+returns_2 : tie.Need-returns-in_default-2
 returns_2 c =
-    let n = c.before.before.before.args.number in
-    simp (above 6 n 10 (omega arith), ne_eqb n 19 c.before.before.match.rest.1)
+    let n = c.args.number in
+    simp (above 6 n 10 (omega arith), ne_eqb n 19 c.in_default.in_default-own.rest.1)
 
-returns_3 : tie.Need-returns-3
-returns_3 c = sym (ap (λ (n : ℕ). listed_mask n c.before.args.mask) c.match.keys1)
+returns_3 : tie.Need-returns-in-6-to-10
+returns_3 c = sym (ap (λ (n : ℕ). listed_mask n c.args.mask) c.in-6-to-10.in-6-to-10-own.keys1)
 
-returns_4 : tie.Need-returns-4
-returns_4 c = simp (within 6 c.before.before.before.args.number 10 (omega arith) (omega arith))
+returns_4 : tie.Need-returns-in-6-to-10-2
+returns_4 c = simp (within 6 c.args.number 10 (omega arith) (omega arith))
 
 pub listed_mask_spec : {M : Type 1} → statement M
 listed_mask_spec = tie.close (tie.spec returns returns_2 returns_3 returns_4)

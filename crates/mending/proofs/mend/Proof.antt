@@ -11,86 +11,63 @@ use Rattle.mending.proofs.Outcomes.{mend_refused, mend_short, wide_enough, set_f
 use Rattle.mending.proofs.mend.Statement.{statement}
 use Rattle.mending.proofs.mend.Tie as tie
 
-abbrev start : tie.After-cards → tie.Start
-start c = c.before.before.before.before.before
+returns : tie.Need-returns-then-output-library
+returns c = mend_short _ _ (inspected _ (sym c.inspect.ensures ∙ ap found c.in-Numbers.is)) c.if-output-library.true
 
--- in this arm the library is sound
-seen : (c : tie.After-cards)
-    → Inspected (start c).args.library.now c.cards.given.0.0 c.cards.given.0.1.0
-seen c = inspected _ (sym c.before.before.inspect.ensures ∙ ap found c.cards.given.1)
+mul_e : tie.Need-overflow_mul-e
+mul_e c = omega (arith, inspected _ (sym c.inspect.ensures ∙ ap found c.in-Numbers.is))
 
-returns : tie.Need-returns
-returns c = mend_short _ _ (seen c.before.before) c.if1.true
+add_e : tie.Need-overflow_add-e
+add_e c = omega (arith, inspected _ (sym c.inspect.ensures ∙ ap found c.in-Numbers.is))
 
-mul_e : tie.Need-overflow-mul-e
-mul_e c = omega (arith, seen c.before.before)
-
-add_e : tie.Need-overflow-add-e
-add_e c = omega (arith, seen c.before.before)
-
-mul_size : tie.Need-overflow-mul-size
-mul_size c = omega (arith, seen c.before.before)
+mul_size : tie.Need-overflow_mul-size
+mul_size c = omega (arith, inspected _ (sym c.inspect.ensures ∙ ap found c.in-Numbers.is))
 
 -- the header and the names are there
-slice_aggregate_copy : tie.Need-slice-aggregate-copy
+slice_aggregate_copy : tie.Need-slice_bounds-copy-end
 slice_aggregate_copy c =
-    let d = c.before.before.before in
-    sym (length-take-le _ (start d).args.library.now (omega (arith, seen d)))
+    sym (length-take-le _ c.args.library.now (omega (arith, inspected _ (sym c.inspect.ensures ∙ ap found c.in-Numbers.is))))
 
 copy_requires : tie.Need-copy-requires
 copy_requires c κs =
-    rw length-take (omega (arith, c.before.before.if1.false))
+    rw length-take (omega (arith, c.if-output-library.false))
 
--- before the records are put, the place where the copy was made, and where the cards were told
-abbrev copied : tie.After-slice-known2 → tie.After-copy
-copied c = c.before.before
+sub_put_records : tie.Need-slice_bounds-put_records-count
+sub_put_records c = omega (arith, inspected _ (sym c.inspect.ensures ∙ ap found c.in-Numbers.is))
 
-abbrev counted : tie.After-copy → tie.After-cards
-counted c = c.before.before.before.before.before
+part_put_records_start : tie.Need-slice_bounds-put_records-start
+part_put_records_start c = omega (arith, inspected _ (sym c.inspect.ensures ∙ ap found c.in-Numbers.is))
 
-sub_put_records : tie.Need-overflow-sub-put-records
-sub_put_records c = omega (arith, seen (counted (copied c)))
-
-part_put_records_start : tie.Need-slice-bounds-put-records-start
-part_put_records_start c = omega (arith, seen (counted (copied c)))
-
-sub_put_records_2 : tie.Need-overflow-sub-put-records-2
+sub_put_records_2 : tie.Need-slice_bounds-put_records-count-in-Numbers
 sub_put_records_2 c =
-    let a = copied c.before in
-    omega (arith, seen (counted a), a.copy.kept.1.0, a.before.before.before.if1.left)
+    omega (arith, inspected _ (sym c.inspect.ensures ∙ ap found c.in-Numbers.is), c.copy.auto.dst, c.if-output-library.false)
 
-part_put_records_start_2 : tie.Need-slice-bounds-put-records-start-2
+part_put_records_start_2 : tie.Need-slice_bounds-put_records-start-in-Numbers
 part_put_records_start_2 c =
-    let a = copied c.before in
-    omega (arith, seen (counted a), a.copy.kept.1.0, a.before.before.before.if1.left)
+    omega (arith, inspected _ (sym c.inspect.ensures ∙ ap found c.in-Numbers.is), c.copy.auto.dst, c.if-output-library.false)
 
-put_records_requires : tie.Need-put-records-requires
-put_records_requires c κs =
-    let a = copied c.before.before in (
-      omega (arith, wide_enough (seen (counted a))),
-      rw (rest, length-drop) (omega (arith, a.copy.kept.1.0, a.before.before.before.if1.left)),
-    )
+put_records_requires : tie.Need-put_records-n-requires
+put_records_requires c κs = (
+  omega (arith, wide_enough (inspected _ (sym c.inspect.ensures ∙ ap found c.in-Numbers.is))),
+  rw (rest, length-drop) (omega (arith, c.copy.auto.dst, c.if-output-library.false)),
+)
 
-abbrev put : tie.After-slice-known3 → tie.After-put-records
-put c = c.before.before
-
-cast_set : tie.Need-overflow-cast-set
+cast_set : tie.Need-overflow_cast-set
 cast_set c =
-    let p = put c in
-    let v = seen (counted (copied p.before.before.before)) in
-    omega (arith, v, set_few v p.put-records.ensures.0.1)
+    let v : Inspected c.args.library.now c.in-Numbers.cards c.in-Numbers.words =
+    inspected _ (sym c.inspect.ensures ∙ ap found c.in-Numbers.is) in
+    omega (arith, v, set_few v c.put_records-n.ensures.0.1)
 
-returns_2 : tie.Need-returns-2
+returns_2 : tie.Need-returns-in-Refused
 returns_2 c =
-    mend_refused _ _ (sym c.before.before.before.inspect.ensures ∙ ap found c.before.f.given.1)
+    mend_refused _ _ (sym c.inspect.ensures ∙ ap found c.in-Refused.is)
 
-returns_3 : tie.Need-returns-3
+returns_3 : tie.Need-returns-else-output-library
 returns_3 c =
-    let p = put c in
-    let a = copied p.before.before.before in
-    let v = seen (counted a) in
-    mend_set _ _ v a.before.before.before.if1.left _ a.copy.ensures _ p.put-records.ensures.1
-    p.put-records.ensures.0.0
+    let v : Inspected c.args.library.now c.in-Numbers.cards c.in-Numbers.words =
+    inspected _ (sym c.inspect.ensures ∙ ap found c.in-Numbers.is) in
+    mend_set _ _ v c.if-output-library.false _ c.copy.ensures _ c.put_records-n.ensures.1
+    c.put_records-n.ensures.0.0
 
 pub mend_spec : {M : Type 1} → statement M
 mend_spec =

@@ -4,4 +4,4 @@ use Rattle.missing.proofs.filled.Statement.{statement}
 use Rattle.missing.proofs.filled.Tie as tie
 
 pub filled_spec : {M : Type 1} → statement M
-filled_spec = tie.close (tie.spec (λ c. rw c.if1.true) (λ c. search rules) (λ c. rw c.if1.false))
+filled_spec = tie.close (tie.spec (λ c. rw c.if-wide.true) (λ c. search rules) (λ c. rw c.if-wide.false))

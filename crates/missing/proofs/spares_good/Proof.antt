@@ -4,11 +4,11 @@ use borrow.Author.Tests.{ne_eqb}
 use Rattle.missing.proofs.spares_good.Statement.{statement}
 use Rattle.missing.proofs.spares_good.Tie as tie
 
-returns : tie.Need-returns
-returns c = rw (← c.before.before.word_at_lem.ensures, c.if1.true, ← c.before.word-at2.ensures)
+returns : tie.Need-returns-then-first-eq0
+returns c = rw (← c.word_at-first.ensures, c.if-first-eq0.true, ← c.word_at-second.ensures)
 
-returns_2 : tie.Need-returns-2
-returns_2 c = rw (← c.before.before.word_at_lem.ensures, ne_eqb _ _ c.if1.false)
+returns_2 : tie.Need-returns-else-first-eq0
+returns_2 c = rw (← c.word_at-first.ensures, ne_eqb _ _ c.if-first-eq0.false)
 
 pub spares_good_spec : {M : Type 1} → statement M
 spares_good_spec =

@@ -5,34 +5,34 @@ use borrow.Author.Rules.{rules}
 use Rattle.name.proofs.is_well_formed.Statement.{statement}
 use Rattle.name.proofs.is_well_formed.Tie as tie
 
-returns : tie.Need-returns
-returns c = not_sixteen c.before.before.args.s.now c.if1.true
+returns : tie.Need-returns-then-s-ne-LENGTH
+returns c = not_sixteen c.args.s.now c.if-s-ne-LENGTH.true
 
-leading_requires : tie.Need-leading-requires
+leading_requires : tie.Need-leading-k-requires
 leading_requires c κs = search rules
 
-returns_2 : tie.Need-returns-2
+returns_2 : tie.Need-returns-then-k-eq0
 returns_2 c =
-    no_mark c.before.before.before.before.args.s.now c.before.before.if1.false
-    c.before.leading.ensures c.if2.true
+    no_mark c.args.s.now c.if-s-ne-LENGTH.false
+    c.leading-k.ensures c.if-k-eq0.true
 
-sub_blank : tie.Need-overflow-sub-blank
-sub_blank c = omega (arith, run_within c.before.before.before.before.args.s.now)
+sub_blank : tie.Need-slice_bounds-blank-count
+sub_blank c = omega (arith, run_within c.args.s.now)
 
-part_blank_start : tie.Need-slice-bounds-blank-start
-part_blank_start c = omega (arith, run_within c.before.before.before.before.args.s.now)
+part_blank_start : tie.Need-slice_bounds-blank-start
+part_blank_start c = omega (arith, run_within c.args.s.now)
 
-part_blank_end : tie.Need-slice-bounds-blank-end
+part_blank_end : tie.Need-slice_bounds-blank-end
 part_blank_end c = search rules
 
 blank_requires : tie.Need-blank-requires
 blank_requires c κs = search rules
 
-returns_3 : tie.Need-returns-3
+returns_3 : tie.Need-returns
 returns_3 c =
-    then_zeros c.before.before.before.before.before.before.args.s.now
-    c.before.before.before.before.if1.false c.before.before.before.leading.ensures
-    c.before.before.if2.false _ c.blank.ensures
+    then_zeros c.args.s.now
+    c.if-s-ne-LENGTH.false c.leading-k.ensures
+    c.if-k-eq0.false _ c.blank.ensures
 
 pub is_well_formed_spec : {M : Type 1} → statement M
 is_well_formed_spec =

@@ -8,39 +8,39 @@ use borrow.Author.Rules.{rules}
 use Rattle.name.proofs.leading.Statement.{statement}
 use Rattle.name.proofs.leading.Tie as tie
 
-abbrev invariant_loop : tie.invariant-loop
+abbrev invariant_loop : tie.invariant-loop-i
 invariant_loop s i₀ i = Ran s i
 
-abbrev decreases_loop : tie.decreases-loop
+abbrev decreases_loop : tie.decreases-loop-i
 decreases_loop s i₀ i = length s - i
 
-loop_holds : tie.Need-loop-init invariant_loop decreases_loop
+loop_holds : tie.Need-loop-i-init invariant_loop decreases_loop
 loop_holds c = record { within = search rules; so_far = omega arith }
 
-shared_slice_read_marks : tie.Need-shared-slice-read-marks invariant_loop decreases_loop
+shared_slice_read_marks : tie.Need-bounds-s-i invariant_loop decreases_loop
 shared_slice_read_marks c = search rules
 
 marks_requires : tie.Need-marks-requires invariant_loop decreases_loop
 marks_requires c κs = search rules
 
-add_i : tie.Need-overflow-add-i invariant_loop decreases_loop
+add_i : tie.Need-overflow_add-i invariant_loop decreases_loop
 add_i c = search rules
 
-loop_less : tie.Need-loop-smaller invariant_loop decreases_loop
+loop_less : tie.Need-loop-i-smaller invariant_loop decreases_loop
 loop_less c = search rules
 
-loop_again : tie.Need-loop-preserved invariant_loop decreases_loop
+loop_again : tie.Need-loop-i-preserved invariant_loop decreases_loop
 loop_again c =
-    run_on c.before.before.before.before.loop.invariant c.before.before.before.loop-test.true
-    (sym c.before.marks.ensures ∙ c.if1.true)
+    run_on c.loop-i.invariant c.loop-i-test.true
+    (sym c.marks.ensures ∙ c.if-marks.true)
 
-returns : tie.Need-returns invariant_loop decreases_loop
+returns : tie.Need-returns-else-marks invariant_loop decreases_loop
 returns c =
-    run_ends c.before.before.before.before.loop.invariant c.before.before.before.loop-test.true
-    (sym c.before.marks.ensures ∙ c.if1.false)
+    run_ends c.loop-i.invariant c.loop-i-test.true
+    (sym c.marks.ensures ∙ c.if-marks.false)
 
-returns_2 : tie.Need-returns-2 invariant_loop decreases_loop
-returns_2 c = run_all c.before.loop.invariant c.loop-test.false
+returns_2 : tie.Need-returns invariant_loop decreases_loop
+returns_2 c = run_all c.loop-i.invariant c.loop-i-test.false
 
 pub leading_spec : {M : Type 1} → statement M
 leading_spec =

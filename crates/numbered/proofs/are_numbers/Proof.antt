@@ -11,33 +11,33 @@ use Rattle.numbered.proofs.Numbered.{Still, still_on, still_not, still_all}
 use Rattle.numbered.proofs.are_numbers.Tie as tie
 use Rattle.numbered.proofs.are_numbers.Statement.{statement}
 
-abbrev invariant_loop : tie.invariant-loop
+abbrev invariant_loop : tie.invariant-loop-k
 invariant_loop line words n k₀ k = Still line words n k
 
-abbrev decreases_loop : tie.decreases-loop
+abbrev decreases_loop : tie.decreases-loop-k
 decreases_loop line words n k₀ k = n - k
 
 abbrev number : List ℕ → Bool
 number w = is_number (parsed_of w)
 
-abbrev at_test : tie.After-is-number invariant_loop decreases_loop → tie.In-loop invariant_loop decreases_loop
+abbrev at_test : tie.After-is_number invariant_loop decreases_loop → tie.In-loop-k invariant_loop decreases_loop
 at_test c = c.before.before
 
-abbrev at_loop : tie.After-is-number invariant_loop decreases_loop → tie.At-loop invariant_loop decreases_loop
+abbrev at_loop : tie.After-is_number invariant_loop decreases_loop → tie.At-loop-k invariant_loop decreases_loop
 at_loop c = c.before.before.before
 
-loop_again : tie.Need-loop-preserved invariant_loop decreases_loop
+loop_again : tie.Need-loop-k-preserved invariant_loop decreases_loop
 loop_again c =
-    still_on (at_loop c.before).loop.inv (at_test c.before).loop-test.taken
-    (sym c.if1.true ∙ c.before.is_number.ensures ∙ ap number c.before.before.word.ensures)
+    still_on (at_loop c.before).loop-k.invariant (at_test c.before).loop-k-test.true
+    (sym c.if-is_number.true ∙ c.is_number.ensures ∙ ap number c.word.ensures)
 
-returns : tie.Need-returns invariant_loop decreases_loop
+returns : tie.Need-returns-else-is_number invariant_loop decreases_loop
 returns c =
-    still_not (at_loop c.before).loop.inv (at_test c.before).loop-test.taken
-    (sym c.if1.false ∙ c.before.is_number.ensures ∙ ap number c.before.before.word.ensures)
+    still_not (at_loop c.before).loop-k.invariant (at_test c.before).loop-k-test.true
+    (sym c.if-is_number.false ∙ c.is_number.ensures ∙ ap number c.word.ensures)
 
-returns_2 : tie.Need-returns-2 invariant_loop decreases_loop
-returns_2 c = still_all c.before.loop.invariant c.loop-test.false
+returns_2 : tie.Need-returns invariant_loop decreases_loop
+returns_2 c = still_all c.loop-k.invariant c.loop-k-test.false
 
 pub are_numbers_spec : {M : Type 1} → statement M
 are_numbers_spec =

@@ -7,13 +7,13 @@ use Rattle.numbered.specs.Numbers.{value_of}
 use Rattle.numbered.proofs.value.Tie as tie
 use Rattle.numbered.proofs.value.Statement.{statement}
 
-returns : tie.Need-returns
+returns : tie.Need-returns-in-Number
 returns c =
     to_z-of_z w64 _ (search rules)
-    ∙ sym (ap value_of (sym c.before.before.before.number.ensures ∙ c.before.x.given.1))
+    ∙ sym (ap value_of (sym c.number.ensures ∙ c.in-Number.is))
 
-returns_2 : tie.Need-returns-2
-returns_2 c = sym (ap value_of (sym c.before.before.number.ensures ∙ c.enum_told.given.1))
+returns_2 : tie.Need-returns-in-Nothing
+returns_2 c = sym (ap value_of (sym c.number.ensures ∙ c.in-Nothing.is))
 
 pub value_spec : {M : Type 1} → statement M
 value_spec = tie.close (tie.spec (λ c κs. search rules) (λ c. search rules) (λ c. search rules) returns returns_2)

@@ -4,10 +4,10 @@ use borrow.Author.Rules.{rules}
 use Rattle.octave.proofs.entry.Statement.{statement}
 use Rattle.octave.proofs.entry.Tie as tie
 
-mul_wide : tie.Need-overflow-mul-wide
+mul_wide : tie.Need-offset_bounds-t-j
 mul_wide c = search rules
 
-element_copy_out_wide : tie.Need-element-copy-out-wide
+element_copy_out_wide : tie.Need-bounds-t-j
 element_copy_out_wide c = search rules
 
 wide_requires : tie.Need-wide-requires

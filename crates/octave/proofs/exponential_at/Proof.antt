@@ -10,7 +10,7 @@ use Rattle.octave.proofs.exponential_at.Tie as tie
 returns : tie.Need-returns
 returns c =
     let s = c.before.before in
-    let p = c.before.place.ensures in
+    let p = c.place-p.ensures in
     ap₂ (λ (x y : ℕ). record { m = x; n = y / parts })
     (c.mantissa.ensures ∙ ap (λ (q : ℕ). mantissa_of (q % parts)) p) p
     ∙ sym (exponential_raised s.args.u s.args.o.w s.requires.reciprocal.range.least)

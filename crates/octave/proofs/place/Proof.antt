@@ -6,7 +6,7 @@ use Rattle.octave.proofs.place.Statement.{statement}
 use Rattle.octave.proofs.place.Tie as tie
 
 -- the function's start, from its last place
-abbrev start : tie.After-struct-known4 → tie.Start
+abbrev start : tie.After-struct_known-4-1 → tie.Start
 start c = c.before.before.before.before
 
 pub place_spec : {M : Type 1} → statement M
@@ -14,11 +14,11 @@ place_spec =
     tie.close
     (tie.spec
     (λ c. search rules)
-    (λ c. omega (arith, room c.before.requires))
-    (λ c. omega (arith, room c.before.before.requires))
+    (λ c. omega (arith, room c.requires))
+    (λ c. omega (arith, room c.requires))
     (λ c. search rules)
-    (λ c. omega (arith, room c.before.before.before.requires))
-    (λ c. omega (arith, room c.before.before.before.requires))
+    (λ c. omega (arith, room c.requires))
+    (λ c. omega (arith, room c.requires))
     (λ c. search rules)
     (λ c. omega (arith, room (start c).requires))
     (λ c. fields_place (start c).requires))

@@ -8,15 +8,15 @@ use borrow.Author.Rules.{rules}
 use Rattle.octave.proofs.reciprocal_of.Statement.{statement}
 use Rattle.octave.proofs.reciprocal_of.Tie as tie
 
-abbrev start : tie.After-shifted-quotient2 → tie.Start
+abbrev start : tie.After-shifted_quotient-rest → tie.Start
 start c = c.before.before
 
-base_fits : tie.Need-overflow-cast-t11
+base_fits : tie.Need-overflow_cast-result-4
 base_fits c = omega (arith, all_small (start c).args.w (start c).requires)
 
-add_fits : tie.Need-overflow-add-t12
+add_fits : tie.Need-overflow_add-result
 add_fits c =
-    let r = rest_held _ (start c).requires _ c.shifted-quotient2.ensures in
+    let r = rest_held _ (start c).requires _ c.shifted_quotient-rest.ensures in
     omega (arith, all_small (start c).args.w (start c).requires)
 
 returns : tie.Need-returns
@@ -26,8 +26,8 @@ returns c =
     ap₂
     (λ (s t : ℕ).
     record { w = w; high = s / 2 ^ half_places; low = s % 2 ^ half_places; base = offset_of w / w; add = t + slack })
-    (scale_held w (start c).requires _ c.before.shifted-quotient.ensures)
-    (rest_held w (start c).requires _ c.shifted-quotient2.ensures)
+    (scale_held w (start c).requires _ c.shifted_quotient-scale.ensures)
+    (rest_held w (start c).requires _ c.shifted_quotient-rest.ensures)
 
 pub reciprocal_of_spec : {M : Type 1} → statement M
 reciprocal_of_spec =

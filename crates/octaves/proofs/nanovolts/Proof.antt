@@ -19,5 +19,5 @@ nanovolts_spec =
     tie.close
     (tie.spec
     (λ c κs. can_cut _ (least c) (most c))
-    (λ c. omega (arith, c.truncating-f64-to-u64.ensures, octave_most_lem _ (least c.before) (most c.before)))
+    (λ c. omega (arith, c.truncating_f64_to_u64.ensures, octave_most_lem _ (least c.before) (most c.before)))
     (λ c. search rules))

@@ -8,5 +8,5 @@ pub hold_spec : {M : Type 1} → statement M
 hold_spec =
     tie.close
     (tie.spec
-    (λ c. sym (reaches c.before.args.over c.before.args.t c.if1.true))
-    (λ c. sym (stays_below c.before.args.over c.before.args.t c.if1.false)))
+    (λ c. sym (reaches c.args.over c.args.t c.if-over-t.true))
+    (λ c. sym (stays_below c.args.over c.args.t c.if-over-t.false)))

@@ -10,13 +10,13 @@ use borrow.Author.Rules.{rules}
 use Rattle.quotients.proofs.minus.Statement.{statement}
 use Rattle.quotients.proofs.minus.Tie as tie
 
-returns_2 : tie.Need-returns-2
+returns_2 : tie.Need-returns-else-n-eq0
 returns_2 c =
-    let n = c.before.before.args.n in
+    let n = c.args.n in
     let h : 0 < n = omega arith in
     to_z-of_z w64 c.close.result (search rules) ∙ c.close.ensures ∙ sym (sub_from_zero n ∙ turned n h)
 
 pub minus_spec : {M : Type 1} → statement M
 minus_spec =
     tie.close
-    (tie.spec (λ c. search rules) (λ c κs. search rules) (λ c. ap (sub_ℕ 0) (sym c.if1.true)) returns_2)
+    (tie.spec (λ c. search rules) (λ c κs. search rules) (λ c. ap (sub_ℕ 0) (sym c.if-n-eq0.true)) returns_2)

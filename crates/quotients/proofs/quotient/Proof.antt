@@ -15,32 +15,32 @@ use Rattle.quotients.proofs.quotient.Tie as tie
 
 minus_requires : tie.Need-minus-requires
 minus_requires c κs =
-    let l : c.shifted-quotient.result ≤ c.before.before.args.over =
-    rw c.shifted-quotient.ensures (held_within _ _) in
+    let l : c.shifted_quotient.result ≤ c.args.over =
+    rw c.shifted_quotient.ensures (held_within _ _) in
     omega arith
 
 close_requires : tie.Need-close-requires
 close_requires c κs =
-    let l : c.shifted-quotient2.result ≤ c.before.before.args.over =
-    rw c.shifted-quotient2.ensures (held_within _ _) in
+    let l : c.shifted_quotient-else-a-b.result ≤ c.args.over =
+    rw c.shifted_quotient-else-a-b.ensures (held_within _ _) in
     record { magnitude_small = omega arith }
 
-returns : tie.Need-returns
+returns : tie.Need-returns-then-a-b
 returns c =
-    let a = c.before.before.before.args in
+    let a = c.args in
     to_z-of_z w64 c.minus.result (search rules) ∙ c.minus.ensures
-    ∙ ap (sub_ℕ 0) c.before.shifted-quotient.ensures
+    ∙ ap (sub_ℕ 0) c.shifted_quotient.ensures
     ∙ sub_from_zero (held_at a.over (shifted_quotient (a.b - a.a) a.s a.d))
     ∙ sym (held_size_down a.over (shifted_quotient (a.b - a.a) a.s a.d))
-    ∙ ap (held_size a.over) (sym (quotient_down a.a a.b a.s a.d c.before.before.if1.true))
+    ∙ ap (held_size a.over) (sym (quotient_down a.a a.b a.s a.d c.if-a-b.true))
 
-returns_2 : tie.Need-returns-2
+returns_2 : tie.Need-returns-else-a-b
 returns_2 c =
-    let a = c.before.before.before.args in
+    let a = c.args in
     to_z-of_z w64 c.close.result (search rules) ∙ c.close.ensures
-    ∙ ap pos c.before.shifted-quotient2.ensures
+    ∙ ap pos c.shifted_quotient-else-a-b.ensures
     ∙ sym (held_size_up a.over (shifted_quotient (a.a - a.b) a.s a.d))
-    ∙ ap (held_size a.over) (sym (quotient_up a.a a.b a.s a.d c.before.before.if1.false))
+    ∙ ap (held_size a.over) (sym (quotient_up a.a a.b a.s a.d c.if-a-b.false))
 
 pub quotient_spec : {M : Type 1} → statement M
 quotient_spec =

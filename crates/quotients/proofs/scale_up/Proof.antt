@@ -10,10 +10,10 @@ pub scale_up_spec : {M : Type 1} → statement M
 scale_up_spec =
     tie.close
     (tie.spec
-    (λ c. up_none c.before.args.x c.before.args.s c.before.args.over c.if1.true)
+    (λ c. up_none c.args.x c.args.s c.args.over c.if-x-eq0.true)
     (λ c. search rules)
     (λ c. search rules)
     (λ c κs. search rules)
-    (λ c. c.hold.ensures ∙ up_fits _ _ _ c.before.if3.true)
-    (λ c. up_over _ _ _ (omega arith) c.if3.false)
-    (λ c. up_far _ _ _ (omega arith) (omega arith) c.if2.false))
+    (λ c. c.hold.ensures ∙ up_fits _ _ _ c.if-x-s.true)
+    (λ c. up_over _ _ _ (omega arith) c.if-x-s.false)
+    (λ c. up_far _ _ _ (omega arith) (omega arith) c.if-s-lt-PLACES.false))

@@ -6,24 +6,24 @@ use borrow.Author.Rules.{rules}
 use Rattle.quotients.proofs.shifted_quotient.Statement.{statement}
 use Rattle.quotients.proofs.shifted_quotient.Tie as tie
 
-returns : tie.Need-returns
-returns c = let s = c.before.before in c.hold.ensures ∙ at_once _ _ _ _ s.requires c.before.if1.true
+returns : tie.Need-returns-then-n-lt-DIVISOR_MOST
+returns c = let s = c.before.before in c.hold.ensures ∙ at_once _ _ _ _ s.requires c.if-n-lt-DIVISOR_MOST.true
 
-returns_2 : tie.Need-returns-2
-returns_2 c = let s = c.before.before in beyond _ _ _ _ s.requires c.if2.true
+returns_2 : tie.Need-returns-then-over-s
+returns_2 c = let s = c.before.before in beyond _ _ _ _ s.requires c.if-over-s.true
 
-sub_if3 : tie.Need-overflow-sub-if3
-sub_if3 c = let s = c.before.before in base_within _ _ _ _ s.requires (omega arith) c.if2.false
+sub_if3 : tie.Need-overflow_sub-over
+sub_if3 c = let s = c.before.before in base_within _ _ _ _ s.requires (omega arith) c.if-over-s.false
 
-returns_3 : tie.Need-returns-3
+returns_3 : tie.Need-returns-then-over-base
 returns_3 c =
     let s = c.before.before.before in
-    at_limit _ _ _ _ s.requires (omega arith) c.before.if2.false c.if3.true
+    at_limit _ _ _ _ s.requires (omega arith) c.if-over-s.false c.if-over-base.true
 
-returns_4 : tie.Need-returns-4
+returns_4 : tie.Need-returns-else-over-base
 returns_4 c =
     let s = c.before.before.before in
-    in_limit _ _ _ _ s.requires (omega arith) c.before.if2.false c.if3.false
+    in_limit _ _ _ _ s.requires (omega arith) c.if-over-s.false c.if-over-base.false
 
 pub shifted_quotient_spec : {M : Type 1} → statement M
 shifted_quotient_spec =

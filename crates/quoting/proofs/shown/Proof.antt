@@ -9,9 +9,9 @@ use borrow.Author.Rules.{rules}
 use Rattle.quoting.proofs.shown.Tie as tie
 use Rattle.quoting.proofs.shown.Statement.{statement}
 
-returns : tie.Need-returns
+returns : tie.Need-returns-then-first-lt-SHOWN_BYTES
 returns c =
-    let h : length c.before.args.first.now ≤ shown_bytes = omega arith in sym (take_all shown_bytes _ h)
+    let h : length c.args.first.now ≤ shown_bytes = omega arith in sym (take_all shown_bytes _ h)
 
 pub shown_spec : {M : Type 1} → statement M
 shown_spec =

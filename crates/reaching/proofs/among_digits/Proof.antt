@@ -4,23 +4,23 @@ use lib.Ieee.{of_bits, neg}
 use Rattle.reaching.proofs.among_digits.Statement.{statement}
 use Rattle.reaching.proofs.among_digits.Tie as tie
 
-truncating_f64_to_u64_requires : tie.Need-truncating-f64-to-u64-requires
+truncating_f64_to_u64_requires : tie.Need-truncating_f64_to_u64-n-requires
 unfolding of_bits neg
-truncating_f64_to_u64_requires c κs = (subst T (sym c.before.if1.true) tt, subst T (sym c.if2.true) tt)
+truncating_f64_to_u64_requires c κs = (subst T (sym c.if-x.true) tt, subst T (sym c.if-x-2.true) tt)
 
-returns : tie.Need-returns
+returns : tie.Need-returns-then-n-lt1
 returns c = search rules
 
-returns_2 : tie.Need-returns-2
+returns_2 : tie.Need-returns-then-n-lt-DIGITS_END
 returns_2 c = search rules
 
-returns_3 : tie.Need-returns-3
+returns_3 : tie.Need-returns-else-n-lt-DIGITS_END
 returns_3 c = search rules
 
-returns_4 : tie.Need-returns-4
+returns_4 : tie.Need-returns-else-x-2
 returns_4 c = search rules
 
-returns_5 : tie.Need-returns-5
+returns_5 : tie.Need-returns
 returns_5 c = search rules
 
 pub among_digits_spec : {M : Type 1} → statement M

@@ -5,33 +5,33 @@ use Rattle.reverse.specs.inner.Pairs.{pair_of}
 use Rattle.reverse.proofs.over_sum.Statement.{statement}
 use Rattle.reverse.proofs.over_sum.Tie as tie
 
-returns : tie.Need-returns
+returns : tie.Need-returns-then-plus-gt-TICKS_MOST
 unfolding pair_of
-returns c = rw (lt-ltb _ _ c.if1.true)
+returns c = rw (lt-ltb _ _ c.if-plus-gt-TICKS_MOST.true)
 
-returns_2 : tie.Need-returns-2
+returns_2 : tie.Need-returns-then-minus-gt-TICKS_MOST
 unfolding pair_of
-returns_2 c = rw (le-ltb _ _ c.before.if1.false, lt-ltb _ _ c.if2.true)
+returns_2 c = rw (le-ltb _ _ c.if-plus-gt-TICKS_MOST.false, lt-ltb _ _ c.if-minus-gt-TICKS_MOST.true)
 
-returns_3 : tie.Need-returns-3
+returns_3 : tie.Need-returns-then-sum-eq0
 unfolding pair_of
 returns_3 c =
     let b = c.before in
-    rw (le-ltb _ _ b.before.if1.false, le-ltb _ _ b.if2.false, eq-eqb _ _ c.if3.true)
+    rw (le-ltb _ _ b.if-plus-gt-TICKS_MOST.false, le-ltb _ _ b.if-minus-gt-TICKS_MOST.false, eq-eqb _ _ c.if-sum-eq0.true)
 
-returns_4 : tie.Need-returns-4
+returns_4 : tie.Need-returns-then-sum-gt-SUM_MOST
 unfolding pair_of
 returns_4 c =
     let b = c.before in
     let a = b.before in
     rw (
-      le-ltb _ _ a.before.if1.false,
-      le-ltb _ _ a.if2.false,
-      ne_eqb _ _ b.if3.false,
-      lt-ltb _ _ c.if4.true,
+      le-ltb _ _ a.if-plus-gt-TICKS_MOST.false,
+      le-ltb _ _ a.if-minus-gt-TICKS_MOST.false,
+      ne_eqb _ _ b.if-sum-eq0.false,
+      lt-ltb _ _ c.if-sum-gt-SUM_MOST.true,
     )
 
-returns_5 : tie.Need-returns-5
+returns_5 : tie.Need-returns-then-plus-minus
 unfolding pair_of
 returns_5 c =
     let t = c.before in
@@ -39,15 +39,15 @@ returns_5 c =
     let b = d.before in
     let a = b.before in
     rw (
-      c.shifted-quotient.ensures,
-      le-ltb _ _ a.before.if1.false,
-      le-ltb _ _ a.if2.false,
-      ne_eqb _ _ b.if3.false,
-      le-ltb _ _ d.if4.false,
-      lt-ltb _ _ t.if5.true,
+      c.shifted_quotient-q.ensures,
+      le-ltb _ _ a.if-plus-gt-TICKS_MOST.false,
+      le-ltb _ _ a.if-minus-gt-TICKS_MOST.false,
+      ne_eqb _ _ b.if-sum-eq0.false,
+      le-ltb _ _ d.if-sum-gt-SUM_MOST.false,
+      lt-ltb _ _ t.if-plus-minus.true,
     )
 
-returns_6 : tie.Need-returns-6
+returns_6 : tie.Need-returns-else-plus-minus
 unfolding pair_of
 returns_6 c =
     let t = c.before in
@@ -55,12 +55,12 @@ returns_6 c =
     let b = d.before in
     let a = b.before in
     rw (
-      c.shifted-quotient2.ensures,
-      le-ltb _ _ a.before.if1.false,
-      le-ltb _ _ a.if2.false,
-      ne_eqb _ _ b.if3.false,
-      le-ltb _ _ d.if4.false,
-      le-ltb _ _ t.if5.false,
+      c.shifted_quotient-q-else-plus-minus.ensures,
+      le-ltb _ _ a.if-plus-gt-TICKS_MOST.false,
+      le-ltb _ _ a.if-minus-gt-TICKS_MOST.false,
+      ne_eqb _ _ b.if-sum-eq0.false,
+      le-ltb _ _ d.if-sum-gt-SUM_MOST.false,
+      le-ltb _ _ t.if-plus-minus.false,
     )
 
 pub over_sum_spec : {M : Type 1} → statement M

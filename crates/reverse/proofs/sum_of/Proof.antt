@@ -4,9 +4,9 @@ use Rattle.reverse.proofs.Sums.{sum_turned}
 use Rattle.reverse.proofs.sum_of.Statement.{statement}
 use Rattle.reverse.proofs.sum_of.Tie as tie
 
-returns : tie.Need-returns
+returns : tie.Need-returns-then-g-h
 returns c =
-    let a = c.before.before.before.before.args in rw (sum_turned a.g a.h) c.summed.ensures
+    let a = c.args in rw (sum_turned a.g a.h) c.summed.ensures
 
 pub sum_of_spec : {M : Type 1} → statement M
 sum_of_spec =

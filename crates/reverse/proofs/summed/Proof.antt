@@ -8,29 +8,29 @@ use Rattle.reverse.proofs.summed.Statement.{statement}
 use Rattle.reverse.proofs.summed.Tie as tie
 
 -- earlier places, from where the lower one is shifted
-abbrev below : tie.After-shift-down → tie.Else1
+abbrev below : tie.After-shift_down → tie.Else-high-gt-TOP
 below c = let four = c.before.before in four.before.before.before
 
-abbrev start : tie.After-shift-down → tie.Start
+abbrev start : tie.After-shift_down → tie.Start
 start c = (below c).before.before
 
 -- raised, both are within bounds
-room : (c : tie.After-shift-down) → (start c).args.high.m * 2 ^ 30 + c.shift-down.result ≤ 2 ^ 62
+room : (c : tie.After-shift_down) → (start c).args.high.m * 2 ^ 30 + c.shift_down.result ≤ 2 ^ 62
 room c =
     let p = (start c).requires in
-    let s = sum_small p.0 p.1 p.2 in let e = c.shift-down.ensures in omega arith
+    let s = sum_small p.0 p.1 p.2 in let e = c.shift_down.ensures in omega arith
 
-returns : tie.Need-returns
-returns c = let p = c.before.before.requires in above_top p.0 p.1 p.2 c.if1.true
+returns : tie.Need-returns-then-high-gt-TOP
+returns c = let p = c.requires in above_top p.0 p.1 p.2 c.if-high-gt-TOP.true
 
-returns_2 : tie.Need-returns-2
+returns_2 : tie.Need-returns
 returns_2 c =
     let d = c.before.before in
     let a = start d in
-    let p = a.pre in
-    within_top p.0 p.1 p.2 (below d).if1.false
-    (c.shift-down2.ensures
-    ∙ ap (λ (y : ℕ). (a.args.high.m * 2 ^ 30 + y) / 2 ^ (8232 - a.args.high.n)) d.shift-down.ensures)
+    let p = a.requires in
+    within_top p.0 p.1 p.2 (below d).if-high-gt-TOP.false
+    (c.shift_down-2.ensures
+    ∙ ap (λ (y : ℕ). (a.args.high.m * 2 ^ 30 + y) / 2 ^ (8232 - a.args.high.n)) d.shift_down.ensures)
 
 pub summed_spec : {M : Type 1} → statement M
 summed_spec =

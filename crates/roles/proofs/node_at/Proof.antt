@@ -8,15 +8,15 @@ use borrow.Author.Rules.{rules}
 use Rattle.roles.proofs.node_at.Statement.{statement}
 use Rattle.roles.proofs.node_at.Tie as tie
 
-returns : tie.Need-returns
+returns : tie.Need-returns-then-k-nodes
 returns c =
     let s = c.before.before in
     let z = get_or s.args.nodes.now s.args.k (pos 0) in
     let e : held z ≡ z = search rules in
-    node_there_lem s.args.nodes.now s.args.k c.before.if1.true e
+    node_there_lem s.args.nodes.now s.args.k c.if-k-nodes.true e
 
-returns_2 : tie.Need-returns-2
-returns_2 c = node_off c.before.args.nodes.now c.before.args.k c.if1.false
+returns_2 : tie.Need-returns-else-k-nodes
+returns_2 c = node_off c.args.nodes.now c.args.k c.if-k-nodes.false
 
 pub node_at_spec : {M : Type 1} → statement M
 node_at_spec =

@@ -3,11 +3,11 @@ use Rattle.std.proofs.Common.{refl, rules}
 use Rattle.roll.proofs.again.Statement.{statement}
 use Rattle.roll.proofs.again.Tie as tie
 
-returns : tie.Need-returns
-returns c = rw c.before.if1.true c.holds.ensures
+returns : tie.Need-returns-then-marked
+returns c = rw c.if-marked.true c.holds.ensures
 
-returns_2 : tie.Need-returns-2
-returns_2 c = rw c.if1.false refl
+returns_2 : tie.Need-returns
+returns_2 c = rw c.if-marked.false refl
 
 pub again_spec : {M : Type 1} → statement M
 again_spec = tie.close (tie.spec (λ c κs. search rules) returns returns_2)

@@ -6,38 +6,38 @@ use Rattle.roll.proofs.Names.{or_true, or_false, shorter, Walk, walk_end, walk_h
 use Rattle.roll.proofs.holds.Statement.{statement}
 use Rattle.roll.proofs.holds.Tie as tie
 
-abbrev invariant_loop : tie.invariant-loop
+abbrev invariant_loop : tie.invariant-loop-t
 invariant_loop d low high t₀ t = Walk (among (bytes_of word_bytes low ++ bytes_of word_bytes high)) d t
 
-abbrev decreases_loop : tie.decreases-loop
+abbrev decreases_loop : tie.decreases-loop-t
 decreases_loop d low high t₀ t = length t
 
-loop_holds : tie.Need-loop-init invariant_loop decreases_loop
+loop_holds : tie.Need-loop-t-init invariant_loop decreases_loop
 loop_holds c = record { so_far = refl }
 
-returns : tie.Need-returns invariant_loop decreases_loop
+returns : tie.Need-returns-then-stands_at invariant_loop decreases_loop
 returns c =
     sym
-    (walk_here c.before.before.before.loop.invariant c.before.before.loop-test.true ∙ or_true
-    (sym c.before.stands_at.ensures ∙ c.if1.true) _)
+    (walk_here c.loop-t.invariant c.loop-t-test.true ∙ or_true
+    (sym c.stands_at.ensures ∙ c.if-stands_at.true) _)
 
 -- the name is none of those in a directory that is passed to its end
-none_held : {x d t : List ℕ} → Walk (among x) d t → length t < name_bytes → false ≡ among x (names_in d)
-none_held v h = sym (walk_end v h)
+none_held : (x : List ℕ) {d t : List ℕ} → Walk (among x) d t → length t < name_bytes → false ≡ among x (names_in d)
+none_held x v h = sym (walk_end v h)
 
-returns_2 : tie.Need-returns-2 invariant_loop decreases_loop
+returns_2 : tie.Need-returns invariant_loop decreases_loop
 returns_2 c = search (rules, none_held)
 
-abbrev loop_before_t : tie.After-t invariant_loop decreases_loop → tie.At-loop invariant_loop decreases_loop
+abbrev loop_before_t : tie.After-t-1 invariant_loop decreases_loop → tie.At-loop-t invariant_loop decreases_loop
 loop_before_t c = c.before.before.before.before
 
-loop_less : tie.Need-loop-smaller invariant_loop decreases_loop
-loop_less c = shorter (loop_before_t c).loop.t.now c.before.before.before.loop-test.true
+loop_less : tie.Need-loop-t-smaller invariant_loop decreases_loop
+loop_less c = shorter (loop_before_t c).loop-t.t.now c.loop-t-test.true
 
-loop_again : tie.Need-loop-preserved invariant_loop decreases_loop
+loop_again : tie.Need-loop-t-preserved invariant_loop decreases_loop
 loop_again c =
-    walk_on (loop_before_t c).loop.inv c.before.before.before.loop-test.true
-    (or_false (sym c.before.before.stands_at.ensures ∙ c.before.if1.false))
+    walk_on (loop_before_t c).loop-t.invariant c.loop-t-test.true
+    (or_false (sym c.stands_at.ensures ∙ c.if-stands_at.false))
 
 pub holds_spec : {M : Type 1} → statement M
 holds_spec =

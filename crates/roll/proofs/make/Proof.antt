@@ -7,7 +7,7 @@ use Rattle.roll.proofs.make.Tie as tie
 
 returns : tie.Need-returns
 returns c =
-    let a = c.before.args in
+    let a = c.args in
     ap (λ (x : ℕ). set a.marks.now (a.k / digits) (bit_or (get_or a.marks.now (a.k / digits) 0) x))
     (shl_exact {a = 1} 1 (a.k % digits) 64 (omega arith) (omega arith) ∙ one-mul (2 ^ (a.k % digits)))
 

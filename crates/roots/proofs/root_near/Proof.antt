@@ -7,7 +7,7 @@ use borrow.Author.Rules.{rules}
 use Rattle.roots.proofs.root_near.Statement.{statement}
 use Rattle.roots.proofs.root_near.Tie as tie
 
-square_fits : tie.Need-overflow-mul-q
+square_fits : tie.Need-overflow_mul-q
 square_fits c = let l : c.args.near ≤ 2 ^ 32 - 1 = omega arith in omega (arith, mul-le-mul l l)
 
 pub root_near_spec : {M : Type 1} → statement M
@@ -16,10 +16,10 @@ root_near_spec =
     (tie.spec
     square_fits
     (λ c. search rules)
-    (λ c. at_root _ _ (omega arith) c.before.if1.true c.if2.true)
+    (λ c. at_root _ _ (omega arith) c.if-q-x.true c.if-x-q.true)
     (λ c. search rules)
     (λ c. search rules)
     (λ c. search rules)
-    (λ c. one_above _ _ (omega arith) c.before.if1.false c.if3.true)
+    (λ c. one_above _ _ (omega arith) c.if-q-x.false c.if-q-x-2.true)
     (λ c κs. search rules)
     (λ c. search rules))

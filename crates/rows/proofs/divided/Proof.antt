@@ -8,18 +8,18 @@ use borrow.Author.Rules.{rules}
 use Rattle.rows.proofs.divided.Statement.{statement}
 use Rattle.rows.proofs.divided.Tie as tie
 
-returns : tie.Need-returns
+returns : tie.Need-returns-then-left-gt0
 returns c = to_z-of_z w64 c.over_roots.result (search rules) ∙ c.over_roots.ensures
 
-returns_2 : tie.Need-returns-2
-returns_2 c = to_z-of_z w64 c.over-roots2.result (search rules) ∙ c.over-roots2.ensures
+returns_2 : tie.Need-returns-then-right-gt0
+returns_2 c = to_z-of_z w64 c.over_roots-then-right-gt0.result (search rules) ∙ c.over_roots-then-right-gt0.ensures
 
-returns_3 : tie.Need-returns-3
+returns_3 : tie.Need-returns
 returns_3 c =
-    let a = c.before.before.before.args in
+    let a = c.args in
     to_z-of_z w64 c.difference.result (search rules) ∙ c.difference.ensures
-    ∙ divided_unit a.plus a.minus a.left a.right (omega (arith, c.before.before.if1.false))
-    (omega (arith, c.before.if2.false))
+    ∙ divided_unit a.plus a.minus a.left a.right (omega (arith, c.if-left-gt0.false))
+    (omega (arith, c.if-right-gt0.false))
 
 pub divided_spec : {M : Type 1} → statement M
 divided_spec =

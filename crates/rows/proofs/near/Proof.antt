@@ -6,10 +6,10 @@ use borrow.Author.Rules.{rules}
 use Rattle.rows.proofs.near.Statement.{statement}
 use Rattle.rows.proofs.near.Tie as tie
 
-square_fits : tie.Need-overflow-mul-result-3
+square_fits : tie.Need-overflow_mul-result-3
 square_fits c = let l : c.args.ratio % 16384 ≤ 16383 = omega arith in omega (arith, mul-le-mul l l)
 
-square_less : tie.Need-overflow-sub-result
+square_less : tie.Need-overflow_sub-result
 square_less c =
     let n = c.args.ratio % 16384 in
     let l : n ≤ 16383 = omega arith in

@@ -13,22 +13,22 @@ use borrow.Author.Rules.{rules}
 use Rattle.rows.proofs.over_roots.Statement.{statement}
 use Rattle.rows.proofs.over_roots.Tie as tie
 
-abbrev start : tie.After-root-for2 → tie.Start
+abbrev start : tie.After-root_for-2 → tie.Start
 start c = c.before.before.before
 
-divisor_is : (c : tie.After-root-for2) →
-    c.before.root-for.result + c.root-for2.result ≡ root_for (start c).args.left + root_for (start c).args.right
-divisor_is c = ap₂ ◌+◌ c.before.root-for.ensures c.root-for2.ensures
+divisor_is : (c : tie.After-root_for-2) →
+    c.root_for.result + c.root_for-2.result ≡ root_for (start c).args.left + root_for (start c).args.right
+divisor_is c = ap₂ ◌+◌ c.root_for.ensures c.root_for-2.ensures
 
-returns : tie.Need-returns
-returns c = divided_equal _ _ c.before.args.left c.before.args.right c.if1.true
+returns : tie.Need-returns-then-plus-minus
+returns c = divided_equal _ _ c.args.left c.args.right c.if-plus-minus.true
 
-divisor_sized : (c : tie.After-root-for2) → DivisorSize (c.before.root-for.result + c.root-for2.result)
+divisor_sized : (c : tie.After-root_for-2) → DivisorSize (c.root_for.result + c.root_for-2.result)
 divisor_sized c =
     let p = (start c).requires.1.1 in
     subst DivisorSize (sym (divisor_is c)) (two_roots _ _ p.0 p.1)
 
-add_divisor : tie.Need-overflow-add-divisor
+add_divisor : tie.Need-overflow_add-divisor
 add_divisor c = omega (arith, divisor_sized c)
 
 quotient_requires : tie.Need-quotient-requires
@@ -47,7 +47,7 @@ quotient_requires c κs =
       limit_small = omega arith;
     }
 
-returns_2 : tie.Need-returns-2
+returns_2 : tie.Need-returns
 returns_2 c =
     let r = c.before in
     let a = (start r).args in

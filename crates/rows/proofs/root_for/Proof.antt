@@ -6,14 +6,14 @@ use borrow.Author.Rules.{rules}
 use Rattle.rows.proofs.root_for.Statement.{statement}
 use Rattle.rows.proofs.root_for.Tie as tie
 
-returns : tie.Need-returns
-returns c = rw c.if1.true (sym root_unit)
+returns : tie.Need-returns-then-ratio-eq0
+returns c = rw c.if-ratio-eq0.true (sym root_unit)
 
-returns_2 : tie.Need-returns-2
+returns_2 : tie.Need-returns-then-ratio-lt-NEAR
 unfolding root_for
-returns_2 c = c.root-near.ensures
+returns_2 c = c.root_near.ensures
 
-returns_3 : tie.Need-returns-3
+returns_3 : tie.Need-returns
 unfolding root_for
 returns_3 c = c.root.ensures
 

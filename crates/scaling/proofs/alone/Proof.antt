@@ -6,7 +6,7 @@ use Rattle.scaling.proofs.alone.Statement.{statement}
 use Rattle.scaling.proofs.alone.Tie as tie
 
 returns : tie.Need-returns
-returns c = c.floor-scale.ensures ∙ alone_is c.before.before.before.args.x
+returns c = c.floor_scale.ensures ∙ alone_is c.args.x
 
 pub alone_spec : {M : Type 1} → statement M
 alone_spec = tie.close (tie.spec (λ c. search rules) (λ c. search rules) (λ c κs. search rules) returns)

@@ -6,14 +6,14 @@ use Rattle.scaling.proofs.exponential.Statement.{statement}
 use Rattle.scaling.proofs.exponential.Tie as tie
 
 across_requires : tie.Need-across-requires
-across_requires c κs = near_at c.before.before.requires.near c.before.before.args.q
+across_requires c κs = near_at c.requires.near c.args.q
 
-exponential_at_requires : tie.Need-exponential-at-requires
-exponential_at_requires c κs = junction_asked c.before.before.before.requires c.across.ensures
+exponential_at_requires : tie.Need-exponential_at-requires
+exponential_at_requires c κs = junction_asked c.requires c.across.ensures
 
 returns : tie.Need-returns
-returns c = let s = c.before.before.before.before in junction_is s.requires c.before.across.ensures
-    c.exponential-at.ensures
+returns c = let s = c.before.before.before.before in junction_is s.requires c.across.ensures
+    c.exponential_at.ensures
 
 pub exponential_spec : {M : Type 1} → statement M
 exponential_spec =

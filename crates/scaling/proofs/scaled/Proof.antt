@@ -9,10 +9,10 @@ use Rattle.scaling.proofs.scaled.Tie as tie
 small : (c : tie.Start) → Product (c.args.x.a * c.args.g.m)
 small c = product c.requires.split c.requires.sized
 
-mul_shift_down : tie.Need-overflow-mul-shift-down
+mul_shift_down : tie.Need-overflow_mul-x
 mul_shift_down c = let p = (small c.before.before).small in record { fits = omega arith }
 
-shift_down_requires : tie.Need-shift-down-requires
+shift_down_requires : tie.Need-shift_down-requires
 shift_down_requires c κs = let p = (small c.before.before.before.before).small in omega arith
 
 returns : tie.Need-returns

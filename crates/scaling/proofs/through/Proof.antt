@@ -13,13 +13,13 @@ small : (c : tie.Start) → c.args.x.a * c.args.microvolts ≤ 2147483647 * span
 small c =
     let s = c.requires.split.short in let a : c.args.x.a ≤ 2147483647 = omega arith in mul-le-mul a c.requires.near
 
-mul_floor_scale : tie.Need-overflow-mul-floor-scale
+mul_floor_scale : tie.Need-overflow_mul-x
 mul_floor_scale c = let p = small c.before in record { fits = omega arith }
 
 returns : tie.Need-returns
 returns c =
     let s = c.before.before.before in
-    c.floor-scale.ensures ∙ through_is s.args.x s.args.microvolts
+    c.floor_scale.ensures ∙ through_is s.args.x s.args.microvolts
 
 pub through_spec : {M : Type 1} → statement M
 through_spec =

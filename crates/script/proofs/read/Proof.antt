@@ -7,30 +7,20 @@ use Rattle.script.proofs.Sayings.{says_long, says_nothing, says_row}
 use Rattle.script.proofs.read.Tie as tie
 use Rattle.script.proofs.read.Statement.{statement}
 
-abbrev parted : tie.After-is-passed-over → tie.After-words-of
-parted c = c.before.before
+returns : tie.Need-returns-then-line-gt-LONGEST_LINE
+returns c = says_long c.if-line-gt-LONGEST_LINE.true c.no_words.ensures c.said.ensures
 
-abbrev row : tie.After-said-to → tie.After-named
-row c = c.before.before
-
-returns : tie.Need-returns
-returns c = says_long c.before.before.if1.true c.before.no_words.ensures c.said.ensures
-
-returns_2 : tie.Need-returns-2
+returns_2 : tie.Need-returns-then-is_passed_over
 returns_2 c =
-    let p = c.before.before in
-    says_nothing (parted p).before.if1.false (parted p).words_of.ensures
-    (sym c.before.if2.true ∙ p.is-passed-over.ensures ∙ ap passed_over p.before.word.ensures)
-    c.said2.ensures
+    says_nothing c.if-line-gt-LONGEST_LINE.false c.words_of-words.ensures
+    (sym c.if-is_passed_over.true ∙ c.is_passed_over.ensures ∙ ap passed_over c.word.ensures)
+    c.said-then-is_passed_over.ensures
 
-returns_3 : tie.Need-returns-3
+returns_3 : tie.Need-returns
 returns_3 c =
-    let n = row c in
-    let e = n.before.before in
-    let p = e.before in
-    says_row (parted p).before.if1.left (parted p).words_of.ensures
-    (sym e.if2.left ∙ p.is-passed-over.ensures ∙ ap passed_over p.before.word.ensures)
-    (n.named.ensures ∙ ap row_named n.before.word2.ensures) c.said-to.ensures
+    says_row c.if-line-gt-LONGEST_LINE.false c.words_of-words.ensures
+    (sym c.if-is_passed_over.false ∙ c.is_passed_over.ensures ∙ ap passed_over c.word.ensures)
+    (c.named-row.ensures ∙ ap row_named c.word-2.ensures) c.said_to.ensures
 
 pub read_spec : {M : Type 1} → statement M
 read_spec =

@@ -13,67 +13,43 @@ use Rattle.series.proofs.Going.{Gone, gone_none, further, gone_on, gone_bad, gon
 use Rattle.series.proofs.series_of.Tie as tie
 use Rattle.series.proofs.series_of.Statement.{statement}
 
-abbrev invariant_loop : tie.invariant-loop
+abbrev invariant_loop : tie.invariant-loop-start
 invariant_loop line numbers₀ n₀ start₀ end₀ numbers n start end = Gone line start end n numbers
 
-abbrev decreases_loop : tie.decreases-loop
+abbrev decreases_loop : tie.decreases-loop-start
 decreases_loop line numbers₀ n₀ start₀ end₀ numbers n start end = length line - start
 
-loop_holds : tie.Need-loop-init invariant_loop decreases_loop
-loop_holds c = gone_none _ c.before.next_word.ensures c.next-word2.ensures
+loop_holds : tie.Need-loop-start-init invariant_loop decreases_loop
+loop_holds c = gone_none _ c.next_word-first.ensures c.next_word-second.ensures
 
-part_number_end : tie.Need-slice-bounds-number-end invariant_loop decreases_loop
-part_number_end c = let m = c.before.loop.invariant.most in search rules
+part_number_end : tie.Need-slice_bounds-number-end invariant_loop decreases_loop
+part_number_end c = let m = c.loop-start.invariant.most in search rules
 
--- earlier places, from later ones
-abbrev in_loop : tie.After-number invariant_loop decreases_loop → tie.In-loop invariant_loop decreases_loop
-in_loop c = c.before.before
-
-abbrev at_loop : tie.After-number invariant_loop decreases_loop → tie.At-loop invariant_loop decreases_loop
-at_loop c = (in_loop c).before
-
--- what the word that the loop has come to is parsed as
-parsed_is : (c : tie.After-number invariant_loop decreases_loop) →
-    let l = at_loop c in
-    parsed_in l.before.before.before.before.args.line.now (span l.loop.start l.loop.end)
-    ≡ c.number.result
-parsed_is c =
-    let l = at_loop c in
-    let g = l.loop.inv in
-    sym (ap parsed_of (part_there _ l.loop.start l.loop.end g.order g.most)) ∙ sym c.number.ensures
-
-returns : tie.Need-returns invariant_loop decreases_loop
+returns : tie.Need-returns-in_default invariant_loop decreases_loop
 returns c =
-    let k = c.before.before.before in
-    c.no-series.ensures
-    ∙ gone_bad _ (at_loop k).loop.invariant (in_loop k).loop-test.true (parsed_is k ∙ c.before.enum_told.given.1)
+    c.no_series.ensures
+    ∙ gone_bad _ c.loop-start.invariant c.loop-start-test.true ((let parsed_is_ : parsed_in c.args.line.now (span c.loop-start.start c.loop-start.end) ≡ c.number.result = let g = c.loop-start.invariant in sym (ap parsed_of (part_there _ c.loop-start.start c.loop-start.end g.order g.most)) ∙ sym c.number.ensures in parsed_is_) ∙ c.in_default.is)
 
 -- the word's number
-abbrev numbered : tie.After-with-number invariant_loop decreases_loop → tie.After-number invariant_loop decreases_loop
-numbered c = c.before.before.before.before
-
-add_n : tie.Need-overflow-add-n invariant_loop decreases_loop
+add_n : tie.Need-overflow_add-n invariant_loop decreases_loop
 add_n c =
-    let g = (at_loop (numbered c)).loop.inv in
+    let g = c.loop-start.invariant in
     let f = g.fewer in
     let m = g.most in
     let o = g.order in search rules
 
-loop_less : tie.Need-loop-smaller invariant_loop decreases_loop
+loop_less : tie.Need-loop-start-smaller invariant_loop decreases_loop
 loop_less c =
-    let k = numbered c.before in
-    further _ (at_loop k).loop.inv (in_loop k).loop-test.taken c.next-word3.ensures
+    further _ c.loop-start.invariant c.loop-start-test.true c.next_word-next.ensures
 
-loop_again : tie.Need-loop-preserved invariant_loop decreases_loop
+loop_again : tie.Need-loop-start-preserved invariant_loop decreases_loop
 loop_again c =
-    let w = c.before in
-    let k = numbered w in
-    rw (w.with_number.ensures, to_z-of_z w64 w.before.before.x.given.0.0 (search rules))
-    (gone_on _ (at_loop k).loop.inv (in_loop k).loop-test.taken (parsed_is k ∙ w.before.before.x.given.1)
-    c.next-word3.ensures)
+    rw (c.with_number-more.ensures, to_z-of_z w64 c.in-Number.x (search rules))
+    (gone_on _ c.loop-start.invariant c.loop-start-test.true ((let parsed_is_ : parsed_in c.args.line.now (span c.loop-start.start c.loop-start.end) ≡ c.number.result = let g = c.loop-start.invariant in sym (ap parsed_of (part_there _ c.loop-start.start c.loop-start.end g.order g.most)) ∙ sym c.number.ensures in parsed_is_) ∙ c.in-Number.is)
+    c.next_word-next.ensures)
 
-returns_2 : tie.Need-returns-2 invariant_loop decreases_loop
-returns_2 c = gone_all _ c.before.loop.invariant c.loop-test.false
+returns_2 : tie.Need-returns invariant_loop decreases_loop
+returns_2 c = gone_all _ c.loop-start.invariant c.loop-start-test.false
 
 pub series_of_spec : {M : Type 1} → statement M
 series_of_spec =

@@ -5,7 +5,7 @@ use borrow.Author.Rules.{rules}
 use Rattle.series.proofs.with_number.Statement.{statement}
 use Rattle.series.proofs.with_number.Tie as tie
 
-returns_2 : tie.Need-returns-2
+returns_2 : tie.Need-returns-else-n-lt-ROOM
 returns_2 c = sym (set_out _ _ _ (search rules))
 
 pub with_number_spec : {M : Type 1} → statement M

@@ -5,7 +5,7 @@ use Rattle.sheet.proofs.decimal_digits.Tie as tie
 use Rattle.sheet.proofs.decimal_digits.Statement.{statement}
 
 returns : tie.Need-returns
-returns c = gathered c.before.empty.ensures c.decimal.ensures
+returns c = gathered c.empty.ensures c.decimal.ensures
 
 pub decimal_digits_spec : {M : Type 1} → statement M
 decimal_digits_spec = tie.close (tie.spec (λ c κs. search rules) (λ c κs. search rules) returns)

@@ -8,8 +8,8 @@ use Rattle.sheet.proofs.label_line.Statement.{statement}
 returns : tie.Need-returns
 unfolding numbers_line label_line
 returns c =
-    gathered c.before.before.before.empty.ensures
-    (then c.before.before.append.ensures (then c.before.spaced.ensures c.push.ensures))
+    gathered c.empty.ensures
+    (then c.append-start.ensures (then c.spaced-numbered.ensures c.push.ensures))
 
 pub label_line_spec : {M : Type 1} → statement M
 label_line_spec =

@@ -5,7 +5,7 @@ use Rattle.sheet.proofs.mask_digits.Tie as tie
 use Rattle.sheet.proofs.mask_digits.Statement.{statement}
 
 returns : tie.Need-returns
-returns c = rw (← c.before.mask-width.ensures) (gathered c.before.before.empty.ensures c.hex.ensures)
+returns c = rw (← c.mask_width.ensures) (gathered c.empty.ensures c.hex.ensures)
 
 pub mask_digits_spec : {M : Type 1} → statement M
 mask_digits_spec =

@@ -7,20 +7,20 @@ use Rattle.sheet.proofs.node_line.Tie as tie
 use Rattle.sheet.proofs.node_line.Statement.{statement}
 
 abbrev empty_before_push : tie.After-push → tie.After-empty
-empty_before_push c = c.before.before.before.before
+empty_before_push c = c.before.before.before.before.before
 
 abbrev start_before_push : tie.After-push → tie.Start
-start_before_push c = c.before.before.before.before.before
+start_before_push c = c.before.before.before.before.before.before
 
 returns : tie.Need-returns
 unfolding node_line
 returns c =
     let s = (start_before_push c) in
     gathered (empty_before_push c).empty.ensures
-    (then c.before.before.append.ensures
+    (then c.append-start.ensures
     (then
-    (as_read s.args.microvolts s.fits.microvolts s.args.node s.args.ticks s.fits.ticks
-    c.before.reading.ensures)
+    (as_read s.args.microvolts s.ranges.microvolts s.args.node s.args.ticks s.ranges.ticks
+    c.reading-read.ensures)
     c.push.ensures))
 
 pub node_line_spec : {M : Type 1} → statement M
@@ -28,7 +28,6 @@ node_line_spec =
     tie.close
     (tie.spec
     (λ c κs. search rules)
-    (λ c. search rules)
     (λ c κs. search rules)
     (λ c κs. search rules)
     (λ c κs. search rules)

@@ -5,24 +5,23 @@ use Rattle.sheet.proofs.Texts.{then, gathered}
 use Rattle.sheet.proofs.told_line.Tie as tie
 use Rattle.sheet.proofs.told_line.Statement.{statement}
 
-abbrev numbered : tie.After-push → tie.After-spaced
+abbrev numbered : tie.After-push → tie.After-spaced-numbered
 numbered c = c.before.before.before
 
 returns : tie.Need-returns
 unfolding numbers_line told_line
 returns c =
     let n = numbered c in
-    gathered n.before.before.before.empty.ensures
-    (then n.before.append.ensures
-    (then n.spaced.ensures
-    (then c.before.before.spaced2.ensures (then c.before.spaced3.ensures c.push.ensures))))
+    gathered n.empty.ensures
+    (then n.append-start.ensures
+    (then n.spaced-numbered.ensures
+    (then c.spaced-issued.ensures (then c.spaced-placed.ensures c.push.ensures))))
 
 pub told_line_spec : {M : Type 1} → statement M
 told_line_spec =
     tie.close
     (tie.spec
     (λ c κs. search rules)
-    (λ c. search rules)
     (λ c κs. search rules)
     (λ c κs. search rules)
     (λ c κs. search rules)

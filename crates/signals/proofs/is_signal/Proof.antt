@@ -4,17 +4,17 @@ use Rattle.signals.proofs.Records.{signal_real, signal_none}
 use Rattle.signals.proofs.is_signal.Statement.{statement}
 use Rattle.signals.proofs.is_signal.Tie as tie
 
-returns : tie.Need-returns
+returns : tie.Need-returns-in-Real
 returns c =
-    let told = c.before.before.before in
-    signal_real told.before.before.before.args.bytes.now told.before.u64-at.ensures told.read.ensures
-    c.before.x.given.1
+    let told = c.before in
+    signal_real told.args.bytes.now told.u64_at-word.ensures told.read.ensures
+    c.in-Real.is
 
-returns_2 : tie.Need-returns-2
+returns_2 : tie.Need-returns-in-Nothing
 returns_2 c =
-    let told = c.before.before in
-    signal_none told.before.before.before.args.bytes.now told.before.u64-at.ensures told.read.ensures
-    c.enum_told.given.1
+    let told = c.before in
+    signal_none told.args.bytes.now told.u64_at-word.ensures told.read.ensures
+    c.in-Nothing.is
 
 pub is_signal_spec : {M : Type 1} → statement M
 is_signal_spec =

@@ -7,31 +7,18 @@ use Rattle.signals.proofs.Records.{clears, put_changed, put_as_is}
 use Rattle.signals.proofs.put_record.Statement.{statement}
 use Rattle.signals.proofs.put_record.Tie as tie
 
-abbrev copied : tie.Then1 → tie.After-copy
-copied c = c.before.before.before.before
+copy_requires_2 : tie.Need-copy-requires-then-is_signal
+copy_requires_2 c κs = rw (rest, length-drop) (omega (arith, c.requires.0, c.requires.1, c.copy.auto.dst))
 
-abbrev start : tie.After-copy → tie.Start
-start c = c.before.before.before.before
-
-copy_requires_2 : tie.Need-copy-requires-2
-copy_requires_2 c κs =
-    let a = copied c.before.before in
-    let h = (start a).pre in
-    rw (rest, length-drop) (omega (arith, h.0, h.1, a.copy.kept.1.0))
-
-returns : tie.Need-returns
+returns : tie.Need-returns-then-is_signal
 returns c =
-    let t = c.before.before.before.before.before in
-    let a = copied t in
-    let r = (start a).args.bytes.now in
-    put_changed r (start a).pre.0 (start a).args.dst.now t.before.is-signal.ensures t.if1.true
-    (clears r (start a).pre.0 (start a).args.dst.now _ _ a.copy.ensures c.before.before.copy2.ensures)
+    let r = c.args.bytes.now in
+    put_changed r c.requires.0 c.args.dst.now c.is_signal.ensures c.if-is_signal.true
+    (clears r c.requires.0 c.args.dst.now _ _ c.copy.ensures c.copy-then-is_signal.ensures)
 
-returns_2 : tie.Need-returns-2
+returns_2 : tie.Need-returns
 returns_2 c =
-    let a = c.before.before.before.before in
-    put_as_is (start a).args.bytes.now (start a).args.dst.now c.before.is-signal.ensures c.if1.false
-    a.copy.ensures
+    put_as_is c.args.bytes.now c.args.dst.now c.is_signal.ensures c.if-is_signal.false c.copy.ensures
 
 pub put_record_spec : {M : Type 1} → statement M
 put_record_spec =

@@ -7,7 +7,7 @@ use Rattle.spaced.proofs.currents_line.Statement.{statement}
 
 returns : tie.Need-returns
 unfolding currents_line
-returns c = then c.before.before.put.ensures c.put-ticks.ensures
+returns c = then c.put-start.ensures c.put_ticks.ensures
 
 pub currents_line_spec : {M : Type 1} → statement M
-currents_line_spec = tie.close (tie.spec (λ c. search rules) (λ c κs. search rules) (λ c κs. search rules) returns)
+currents_line_spec = tie.close (tie.spec (λ c κs. search rules) (λ c κs. search rules) returns)

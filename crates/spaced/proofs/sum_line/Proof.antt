@@ -11,12 +11,12 @@ returns c =
     let m = c.before.before.before in
     let n = m.before.before in
     let s = n.before.before in
-    then s.before.before.put.ensures
-    (then s.put-short.ensures
-    (then n.put-short2.ensures (then m.put-number.ensures c.put2.ensures)))
+    then s.put-start.ensures
+    (then s.put_short-standing.ensures
+    (then n.put_short-on.ensures (then m.put_number-ended.ensures c.put.ensures)))
 
 pub sum_line_spec : {M : Type 1} → statement M
 sum_line_spec =
     tie.close
-    (tie.spec (λ c. search rules) (λ c κs. search rules) (λ c κs. search rules) (λ c κs. search rules)
-    (λ c κs. search rules) (λ c. search rules) (λ c κs. search rules) returns)
+    (tie.spec (λ c κs. search rules) (λ c κs. search rules) (λ c κs. search rules)
+    (λ c κs. search rules) (λ c κs. search rules) returns)

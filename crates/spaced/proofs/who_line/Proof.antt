@@ -7,7 +7,7 @@ use Rattle.spaced.proofs.who_line.Statement.{statement}
 
 returns : tie.Need-returns
 unfolding who_line
-returns c = then c.before.before.put.ensures c.put-issues.ensures
+returns c = then c.put-start.ensures c.put_issues.ensures
 
 pub who_line_spec : {M : Type 1} → statement M
-who_line_spec = tie.close (tie.spec (λ c. search rules) (λ c κs. search rules) (λ c κs. search rules) returns)
+who_line_spec = tie.close (tie.spec (λ c κs. search rules) (λ c κs. search rules) returns)

@@ -7,7 +7,7 @@ use Rattle.trimming.proofs.trimmed.Tie as tie
 
 returns : tie.Need-returns
 unfolding trimmed
-returns c = c.to_last.ensures ∙ ap to_last c.before.from_First.ensures
+returns c = c.to_last.ensures ∙ ap to_last c.from_first.ensures
 
 pub trimmed_spec : {M : Type 1} → statement M
 trimmed_spec = tie.close (tie.spec (λ c κs. search rules) (λ c κs. search rules) returns)

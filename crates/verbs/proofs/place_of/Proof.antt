@@ -6,27 +6,27 @@ use Rattle.verbs.proofs.Packs.{Passed, passed_none, passed_here, passed_on, pass
 use Rattle.verbs.proofs.place_of.Tie as tie
 use Rattle.verbs.proofs.place_of.Statement.{statement}
 
-abbrev invariant_loop : tie.invariant-loop
+abbrev invariant_loop : tie.invariant-loop-i
 invariant_loop word x words i₀ i = Passed word i
 
-abbrev decreases_loop : tie.decreases-loop
+abbrev decreases_loop : tie.decreases-loop-i
 decreases_loop word x words i₀ i = rows - i
 
-abbrev packed_number : (c : tie.In-loop invariant_loop decreases_loop) → tie.After-packed invariant_loop decreases_loop
+abbrev packed_number : (c : tie.In-loop-i invariant_loop decreases_loop) → tie.After-packed-x invariant_loop decreases_loop
 packed_number c = c.before.before
 
-returns : tie.Need-returns invariant_loop decreases_loop
+returns : tie.Need-returns-then-x-words invariant_loop decreases_loop
 returns c =
-    passed_here c.before.before.loop.invariant (packed_number c.before).packed.ensures
-    c.before.loop-test.true c.if1.true
+    passed_here c.loop-i.invariant (packed_number c.before).packed-x.ensures
+    c.loop-i-test.true c.if-x-words.true
 
-loop_again : tie.Need-loop-preserved invariant_loop decreases_loop
+loop_again : tie.Need-loop-i-preserved invariant_loop decreases_loop
 loop_again c =
-    passed_on c.before.before.loop.invariant (packed_number c.before).packed.ensures c.before.loop-test.true
-    c.if1.false
+    passed_on c.loop-i.invariant (packed_number c.before).packed-x.ensures c.loop-i-test.true
+    c.if-x-words.false
 
-returns_2 : tie.Need-returns-2 invariant_loop decreases_loop
-returns_2 c = passed_all c.before.loop.invariant c.loop-test.false
+returns_2 : tie.Need-returns invariant_loop decreases_loop
+returns_2 c = passed_all c.loop-i.invariant c.loop-i-test.false
 
 pub place_of_spec : {M : Type 1} → statement M
 place_of_spec =

@@ -14,16 +14,16 @@ use Rattle.whole.proofs.close.Tie as tie
 small : {i j : Int} → magnitude_of i < signed_span → i ≡ j → magnitude_of j < signed_span
 small h e = subst (λ (k : Int). magnitude_of k < signed_span) e h
 
-up : (c : tie.After-known-told) → c.before.i.given.0.0 < signed_span
-up c = small c.before.before.before.requires.magnitude_small c.before.i.given.1
+up : (c : tie.In-Pos) → c.in-Pos.n < signed_span
+up c = small c.requires.magnitude_small c.in-Pos.is
 
-down : (c : tie.After-known-told2) → c.before.i2.given.0.0 < signed_span
-down c = small c.before.before.before.requires.magnitude_small c.before.i2.given.1
+down : (c : tie.In-NegSuc) → c.in-NegSuc.n < signed_span
+down c = small c.requires.magnitude_small c.in-NegSuc.is
 
-returns_2 : tie.Need-returns-2
+returns_2 : tie.Need-returns-in-NegSuc
 returns_2 c =
-    less_back (pos c.before.i2.given.0.0) (record { sfits = down c })
-    ∙ sym (ap signed_of c.before.i2.given.1)
+    less_back (pos c.in-NegSuc.n) (record { sfits = down c })
+    ∙ sym (ap signed_of c.in-NegSuc.is)
 
 pub close_spec : {M : Type 1} → statement M
 close_spec =
@@ -33,6 +33,6 @@ close_spec =
     (λ c. record { sfits = up c })
     (λ c. search rules)
     (λ c. record { sfits = down c })
-    (λ c. less_fits (pos c.before.i2.given.0.0) (record { sfits = down c }))
-    (λ c. to_z_pos w64 c.before.i.given.0.0 (up c) ∙ sym (ap signed_of c.before.i.given.1))
+    (λ c. less_fits (pos c.in-NegSuc.n) (record { sfits = down c }))
+    (λ c. to_z_pos w64 c.in-Pos.n (up c) ∙ sym (ap signed_of c.in-Pos.is))
     returns_2)

@@ -9,17 +9,17 @@ use borrow.Author.Rules.{rules}
 use Rattle.whole.proofs.difference.Statement.{statement}
 use Rattle.whole.proofs.difference.Tie as tie
 
-returns : tie.Need-returns
+returns : tie.Need-returns-then-a-b
 returns c =
-    let a = c.before.before.args in
+    let a = c.args in
     to_z-of_z w64 c.close.result (search rules) ∙ c.close.ensures ∙ ap negsuc (omega arith)
-    ∙ sym (sub_down a.a a.b c.before.if1.true)
+    ∙ sym (sub_down a.a a.b c.if-a-b.true)
 
-returns_2 : tie.Need-returns-2
+returns_2 : tie.Need-returns-else-a-b
 returns_2 c =
-    let a = c.before.before.args in
-    to_z-of_z w64 c.close2.result (search rules) ∙ c.close2.ensures
-    ∙ sym (sub_up a.a a.b c.before.if1.false)
+    let a = c.args in
+    to_z-of_z w64 c.close-else-a-b.result (search rules) ∙ c.close-else-a-b.ensures
+    ∙ sym (sub_up a.a a.b c.if-a-b.false)
 
 pub difference_spec : {M : Type 1} → statement M
 difference_spec =

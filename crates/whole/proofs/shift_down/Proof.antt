@@ -7,19 +7,19 @@ use Rattle.whole.proofs.Shifts.{down_far}
 use Rattle.whole.proofs.shift_down.Statement.{statement}
 use Rattle.whole.proofs.shift_down.Tie as tie
 
-few : (c : tie.Joined1) → c.if1.k < 64
+few : (c : tie.Joined-s-lt-SIGNED_PLACES) → c.if-s-lt-SIGNED_PLACES.k < 64
 few c =
     ⊎_elim
-    (λ w. let e = w.0.taken in let g = w.1 in omega arith)
-    (λ w. let g = w.1 in omega arith)
-    c.if1.branch
+    (λ w. let e = w.if-s-lt-SIGNED_PLACES.true in let g = w.k-is in omega arith)
+    (λ w. let g = w.k-is in omega arith)
+    c.if-s-lt-SIGNED_PLACES.branch-raw
 
-same : (c : tie.Joined1) → c.before.args.x / 2 ^ c.if1.k ≡ c.before.args.x / 2 ^ c.before.args.s
+same : (c : tie.Joined-s-lt-SIGNED_PLACES) → c.args.x / 2 ^ c.if-s-lt-SIGNED_PLACES.k ≡ c.args.x / 2 ^ c.args.s
 same c =
     ⊎_elim
-    (λ w. ap (λ (k : ℕ). c.before.args.x / 2 ^ k) w.1)
-    (λ w. ap (λ (k : ℕ). c.before.args.x / 2 ^ k) w.1 ∙ down_far _ _ c.before.requires w.0.left)
-    c.if1.branch
+    (λ w. ap (λ (k : ℕ). c.args.x / 2 ^ k) w.k-is)
+    (λ w. ap (λ (k : ℕ). c.args.x / 2 ^ k) w.k-is ∙ down_far _ _ c.requires w.if-s-lt-SIGNED_PLACES.false)
+    c.if-s-lt-SIGNED_PLACES.branch-raw
 
 pub shift_down_spec : {M : Type 1} → statement M
 shift_down_spec = tie.close (tie.spec (λ c. few c.before) (λ c. same c.before))

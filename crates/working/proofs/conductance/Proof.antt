@@ -2,11 +2,11 @@
 use Rattle.working.proofs.conductance.Statement.{statement}
 use Rattle.working.proofs.conductance.Tie as tie
 
-returns : tie.Need-returns
-returns c = rw c.if1.true
+returns : tie.Need-returns-then-r
+returns c = rw c.if-r.true
 
-returns_2 : tie.Need-returns-2
-returns_2 c = rw c.if1.false
+returns_2 : tie.Need-returns-else-r
+returns_2 c = rw c.if-r.false
 
 pub conductance_spec : {M : Type 1} → statement M
 conductance_spec = tie.close (tie.spec returns returns_2)

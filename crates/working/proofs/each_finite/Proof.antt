@@ -22,10 +22,10 @@ one_more : (x : List Float) (i : ℕ) → i < length x
     → all finite (drop i x) ≡ finite (get_or x i nan) && all finite (drop (i + 1) x)
 one_more x i h = rw (add-one, drop-cons x i nan)
 
-abbrev invariant_loop : tie.invariant-loop
+abbrev invariant_loop : tie.invariant-loop-i
 invariant_loop x i₀ i = Left x i
 
-abbrev decreases_loop : tie.decreases-loop
+abbrev decreases_loop : tie.decreases-loop-i
 decreases_loop x i₀ i = length x - i
 
 module _ {x : List Float} {i : ℕ} (p : Left x i) (h : i < length x) {b : Bool} (e : b ≡ finite (get_or x i nan)) where
@@ -40,12 +40,6 @@ module _ {x : List Float} {i : ℕ} (p : Left x i) (h : i < length x) {b : Bool}
 end : {x : List Float} {i : ℕ} → Left x i → length x ≤ i → true ≡ all finite x
 end {x} {i} p h = sym (p.same ∙ ap (all finite) (drop_of_length-le x h))
 
-long : (c : tie.Start invariant_loop decreases_loop) → length c.args.t1 ≡ value_count
-long c = search rules
-
-within : (c : tie.In-loop invariant_loop decreases_loop) → c.before.loop.i < length c.before.before.args.t1
-within c = let l = long c.before.before in omega arith
-
 pub each_finite_spec : {M : Type 1} → statement M
 each_finite_spec =
     tie.close
@@ -57,9 +51,9 @@ each_finite_spec =
     (λ c. search rules)
     (λ c κs. search rules)
     (λ c. search rules)
-    (λ c. let h = within c.before.before in omega arith)
-    (λ c. go c.before.before.before.loop.invariant (within c.before.before) c.before.is_finite.ensures
-    c.if1.true)
-    (λ c. stop c.before.before.before.loop.invariant (within c.before.before) c.before.is_finite.ensures
-    c.if1.false)
-    (λ c. end c.before.loop.invariant (let l = long c.before.before in omega arith)))
+    (λ c. let l : length c.args.x ≡ value_count = search rules in omega arith)
+    (λ c. go c.loop-i.invariant (let l : length c.args.x ≡ value_count = search rules in omega arith) c.is_finite.ensures
+    c.if-is_finite.true)
+    (λ c. stop c.loop-i.invariant (let l : length c.args.x ≡ value_count = search rules in omega arith) c.is_finite.ensures
+    c.if-is_finite.false)
+    (λ c. end c.loop-i.invariant (let l : length c.args.x ≡ value_count = search rules in omega arith)))

@@ -7,7 +7,7 @@ use Rattle.answers.proofs.parts.label.Tie as tie
 use Rattle.answers.proofs.parts.label.Statement.{statement}
 
 returns : tie.Need-returns
-returns c = text_written c.before.before.label-line.ensures (label_whole _ _ (omega arith)) c.put-text.ensures
+returns c = text_written c.label_line.ensures (label_whole _ _ (omega arith)) c.put_text.ensures
 
 pub label_spec : {M : Type 1} → statement M
 label_spec =

@@ -7,7 +7,7 @@ use Rattle.answers.proofs.parts.overload.Tie as tie
 use Rattle.answers.proofs.parts.overload.Statement.{statement}
 
 returns : tie.Need-returns
-returns c = text_written c.before.before.told_Line.ensures (told_whole _ (omega arith)) c.put-text.ensures
+returns c = text_written c.told_line.ensures (told_whole _ (omega arith)) c.put_text.ensures
 
 pub overload_spec : {M : Type 1} → statement M
 overload_spec =

@@ -10,9 +10,8 @@ use Rattle.answers.proofs.parts.reading.Statement.{statement}
 
 returns : tie.Need-returns
 returns c =
-    let s = c.before.before.before in
-    as_node _ (to_z-of_z w64 s.args.v s.ranges.v) (to_z-of_z w64 s.args.t s.ranges.t)
-    (text_written c.before.before.node-line.ensures (node_whole _ _ _) c.put-text.ensures)
+    as_node _ (to_z-of_z w64 c.args.v c.ranges.v) (to_z-of_z w64 c.args.t c.ranges.t)
+    (text_written c.node_line.ensures (node_whole _ _ _) c.put_text.ensures)
 
 pub reading_spec : {M : Type 1} → statement M
 reading_spec =

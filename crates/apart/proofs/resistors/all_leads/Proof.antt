@@ -20,11 +20,11 @@ asks : {c : WorkedCard} {v : List ℕ} {g : Split} → Wired c v → IsSplit g �
     → Lead g v p q
 asks w s h k = record { split = s; long = w.long; near = w.near; from = h; to = k }
 
-returns : tie.Need-returns
+returns : tie.Need-returns-then-none_of
 returns c =
-    let a = c.before.before.args.c in
+    let a = c.args.c in
     let e : a.ge.a + a.gbc.a + a.gcc.a + a.gblx.a + a.gbli.a ≡ 0 = eqb-true _ 0
-    (sym c.before.none_of.ensures ∙ c.if1.true) in
+    (sym c.none_of.ensures ∙ c.if-none_of.true) in
     let e9 : a.ge.a ≡ 0 = omega arith in
     let e10 : a.gbc.a ≡ 0 = omega arith in
     let e11 : a.gcc.a ≡ 0 = omega arith in
@@ -38,13 +38,13 @@ returns c =
       thirteenth = (idle_through a.gbli e13 _, idle_through a.gbli e13 _);
     }
 
-returns_2 : tie.Need-returns-2
+returns_2 : tie.Need-returns
 returns_2 c =
-    let a = c.before.before.before.before.lead.ensures in
-    let b = c.before.before.before.lead2.ensures in
-    let d = c.before.before.lead3.ensures in
-    let x = c.before.lead4.ensures in
-    let i = c.lead5.ensures in
+    let a = c.lead.ensures in
+    let b = c.lead-2.ensures in
+    let d = c.lead-3.ensures in
+    let x = c.lead-4.ensures in
+    let i = c.lead-5.ensures in
     record {
       ninth = (a.plus, a.minus);
       tenth = (b.plus, b.minus);
@@ -53,19 +53,16 @@ returns_2 c =
       thirteenth = (i.plus, i.minus);
     }
 
-abbrev start : tie.Else1 → tie.Start
-start c = c.before.before
-
 pub all_leads_spec : {M : Type 1} → statement M
 all_leads_spec =
     tie.close
     (tie.spec
     (λ c κs. search rules)
     returns
-    (λ c κs. let w = (start c).requires in asks w (splits w.worked).ge (lit< tt) (lit< tt))
-    (λ c κs. let w = (start c.before).requires in asks w (splits w.worked).gbc (lit< tt) (lit< tt))
-    (λ c κs. let w = (start c.before.before).requires in asks w (splits w.worked).gcc (lit< tt) (lit< tt))
-    (λ c κs. let w = (start c.before.before.before).requires in asks w (splits w.worked).gblx (lit< tt) (lit< tt))
-    (λ c κs. let w = (start c.before.before.before.before).requires in asks w (splits w.worked).gbli (lit< tt)
+    (λ c κs. let w = c.requires in asks w (splits w.worked).ge (lit< tt) (lit< tt))
+    (λ c κs. let w = c.requires in asks w (splits w.worked).gbc (lit< tt) (lit< tt))
+    (λ c κs. let w = c.requires in asks w (splits w.worked).gcc (lit< tt) (lit< tt))
+    (λ c κs. let w = c.requires in asks w (splits w.worked).gblx (lit< tt) (lit< tt))
+    (λ c κs. let w = c.requires in asks w (splits w.worked).gbli (lit< tt)
     (lit< tt))
     returns_2)

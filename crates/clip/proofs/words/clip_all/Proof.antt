@@ -11,44 +11,34 @@ use Rattle.clip.proofs.Turn.{clipped_is}
 use Rattle.clip.proofs.words.clip_all.Statement.{statement}
 use Rattle.clip.proofs.words.clip_all.Tie as tie
 
-abbrev invariant_loop : tie.invariant-loop
+abbrev invariant_loop : tie.invariant-loop-i
 invariant_loop bytes words numbers₀ mask₀ bit₀ i₀ numbers mask bit i = Passed words bytes numbers mask bit i
 
-abbrev decreases_loop : tie.decreases-loop
+abbrev decreases_loop : tie.decreases-loop-i
 decreases_loop bytes words numbers₀ mask₀ bit₀ i₀ numbers mask bit i = words - i
 
-returns : tie.Need-returns invariant_loop decreases_loop
+returns : tie.Need-returns-in_default invariant_loop decreases_loop
 returns c =
-    let told = c.before in
-    let got = told.before.before.before in
-    let loop = got.before.before in
-    let entry = loop.before.before in
-    let s = entry.args.bytes.now in
-    let none = is_nothing s loop.loop.i _ _ got.u64-at.ensures.value told.before.before.read.ensures
-    told.enum_told.given.1 in
-    let few = not_finite s entry.args.words loop.loop.i got.before.loop-test.true none in
-    subst (λ (r : Clipping). Clips s r) (sym c.refused.ensures) (clips_refused (not_number entry.requires few))
+    let s = c.args.bytes.now in
+    let none = is_nothing s c.loop-i.i _ _ c.u64_at.ensures.value c.read.ensures
+    c.in_default.is in
+    let few = not_finite s c.args.words c.loop-i.i c.loop-i-test.true none in
+    subst (λ (r : Clipping). Clips s r) (sym c.refused.ensures) (clips_refused (not_number c.requires few))
 
--- the turn's own place, behind the weight
-abbrev In-turn : tie.After-weight invariant_loop decreases_loop → tie.In-loop invariant_loop decreases_loop
-In-turn c = c.before.before.before.before.before.before.before.before
-
-add_mask : tie.Need-overflow-add-mask invariant_loop decreases_loop
+add_mask : tie.Need-overflow_add-mask invariant_loop decreases_loop
 add_mask c =
-    let l = (In-turn c).before.loop in
-    omega (arith, at_most l.inv, l.inv.under, small _ _ l.bit _ c.weight.ensures)
+    let l = c.loop-i in
+    omega (arith, at_most l.invariant, l.invariant.under, small _ _ l.bit _ c.weight-mask.ensures)
 
-loop_again : tie.Need-loop-preserved invariant_loop decreases_loop
+loop_again : tie.Need-loop-i-preserved invariant_loop decreases_loop
 loop_again c =
-    let read = c.before.before.before.before.before.before in
-    let in-loop = read.before.before in
-    let l = in-loop.before.loop in
-    let s = in-loop.before.before.before.args.bytes.now in
-    let real = is_real s l.i _ _ read.before.u64-at.ensures.value read.read.ensures _
-    c.before.before.before.before.x.given.1 in
-    let y = clipped_is s l.i _ _ _ c.before.before.rule-of.ensures real.1 c.before.apply.ensures in
-    turn l.invariant in-loop.loop-test.true
-    (record { good = real.0; number = real.1; clipped = y; weight = c.weight.ensures })
+    let l = c.loop-i in
+    let s = c.args.bytes.now in
+    let real = is_real s l.i _ _ c.u64_at.ensures.value c.read.ensures _
+    c.in-Real.is in
+    let y = clipped_is s l.i _ _ _ c.rule_of.ensures real.1 c.apply-y.ensures in
+    turn l.invariant c.loop-i-test.true
+    (record { good = real.0; number = real.1; clipped = y; weight = c.weight-mask.ensures })
 
 pub clip_all_spec : {M : Type 1} → statement M
 clip_all_spec =
@@ -56,7 +46,7 @@ clip_all_spec =
     (tie.spec
     invariant_loop
     decreases_loop
-    (λ c. start c.before.requires)
+    (λ c. start c.requires)
     (λ c. search rules)
     (λ c κs. search rules)
     (λ c κs. search rules)
@@ -70,8 +60,8 @@ clip_all_spec =
     (λ c. search rules)
     (λ c κs. search rules)
     add_mask
-    (λ c. omega (arith, at_most (In-turn c).before.loop.invariant))
+    (λ c. omega (arith, at_most c.loop-i.invariant))
     (λ c. search rules)
     (λ c. search rules)
     loop_again
-    (λ c. finished c.before.before.before.requires c.before.loop.invariant (omega arith)))
+    (λ c. finished c.requires c.loop-i.invariant (omega arith)))

@@ -7,7 +7,10 @@ use Rattle.explaining.proofs.sentences.put_ends.Statement.{statement}
 
 returns : tie.Need-returns
 unfolding ends_of
-returns c = as_bytes c.before.before.line.ensures c.put.ensures
+returns c = as_bytes c.line-ends.ensures c.put.ensures
 
 pub put_ends_spec : {M : Type 1} → statement M
-put_ends_spec = tie.close (tie.spec (λ c. search rules) (λ c κs. search rules) (λ c κs. search rules) returns)
+put_ends_spec = tie.close (tie.spec
+    (λ c κs. search rules)
+    (λ c κs. search rules)
+    returns)

@@ -7,7 +7,10 @@ use Rattle.explaining.proofs.sentences.put_sentence.Statement.{statement}
 
 returns : tie.Need-returns
 unfolding sentence_of
-returns c = as_bytes c.before.before.line.ensures c.put.ensures
+returns c = as_bytes c.line-said.ensures c.put.ensures
 
 pub put_sentence_spec : {M : Type 1} → statement M
-put_sentence_spec = tie.close (tie.spec (λ c. search rules) (λ c κs. search rules) (λ c κs. search rules) returns)
+put_sentence_spec = tie.close (tie.spec
+    (λ c κs. search rules)
+    (λ c κs. search rules)
+    returns)

@@ -7,63 +7,39 @@ use Rattle.hex_bytes.proofs.HexPairs.{Same, after_two, pairs_on, pairs_first, pa
 use Rattle.hex_bytes.proofs.pairs.are_pairs.Tie as tie
 use Rattle.hex_bytes.proofs.pairs.are_pairs.Statement.{statement}
 
-abbrev invariant_loop : tie.invariant-loop
+abbrev invariant_loop : tie.invariant-loop-t
 invariant_loop word t₀ t = Same word t
 
-abbrev decreases_loop : tie.decreases-loop
+abbrev decreases_loop : tie.decreases-loop-t
 decreases_loop word t₀ t = length t
 
-loop_holds : tie.Need-loop-init invariant_loop decreases_loop
+loop_holds : tie.Need-loop-t-init invariant_loop decreases_loop
 loop_holds c = record { so_far = refl }
 
-abbrev then1_before_t : tie.After-t invariant_loop decreases_loop → tie.Then1 invariant_loop decreases_loop
-then1_before_t c = c.before.before.before.before
-
-abbrev is_hex_before_else2 : tie.Else2 invariant_loop decreases_loop → tie.After-is-hex invariant_loop decreases_loop
-is_hex_before_else2 c = c.before.before.before.before
-
-abbrev loop_before_else1 : tie.Else1 invariant_loop decreases_loop → tie.At-loop invariant_loop decreases_loop
-loop_before_else1 c = c.before.before.before.before
-
-abbrev is_hex_before_t : tie.After-t invariant_loop decreases_loop → tie.After-is-hex invariant_loop decreases_loop
-is_hex_before_t c = c.before.before.before.before.before
-
-abbrev in_loop_before_else2 : tie.Else2 invariant_loop decreases_loop → tie.In-loop invariant_loop decreases_loop
-in_loop_before_else2 c = c.before.before.before.before.before.before
-
-abbrev in_loop_before_t : tie.After-t invariant_loop decreases_loop → tie.In-loop invariant_loop decreases_loop
-in_loop_before_t c = c.before.before.before.before.before.before.before
-
-abbrev loop_before_else2 : tie.Else2 invariant_loop decreases_loop → tie.At-loop invariant_loop decreases_loop
-loop_before_else2 c = c.before.before.before.before.before.before.before
-
-abbrev loop_before_t : tie.After-t invariant_loop decreases_loop → tie.At-loop invariant_loop decreases_loop
-loop_before_t c = c.before.before.before.before.before.before.before.before
-
-loop_less : tie.Need-loop-smaller invariant_loop decreases_loop
+loop_less : tie.Need-loop-t-smaller invariant_loop decreases_loop
 loop_less c =
-    rw (after_two (loop_before_t c).loop.t.now) (omega (arith, length-drop 2 (loop_before_t c).loop.t.now))
+    rw (after_two c.loop-t.t.now) (omega (arith, length-drop 2 c.loop-t.t.now))
 
-loop_again : tie.Need-loop-preserved invariant_loop decreases_loop
+loop_again : tie.Need-loop-t-preserved invariant_loop decreases_loop
 loop_again c =
-    rw (after_two (loop_before_t c).loop.t.now)
-    (pairs_on (loop_before_t c).loop.inv (in_loop_before_t c).loop-test.taken
-    (sym (is_hex_before_t c).is_hex_lem.ensures ∙ (then1_before_t c).if1.taken)
-    (sym c.before.before.is-hex2.ensures ∙ c.before.if2.true))
+    rw (after_two c.loop-t.t.now)
+    (pairs_on c.loop-t.invariant c.loop-t-test.true
+    (sym c.is_hex.ensures ∙ c.if-is_hex.true)
+    (sym c.is_hex-then-is_hex.ensures ∙ c.if-is_hex-2.true))
 
-returns : tie.Need-returns invariant_loop decreases_loop
+returns : tie.Need-returns-else-is_hex-2 invariant_loop decreases_loop
 returns c =
-    pairs_second (loop_before_else2 c).loop.inv (in_loop_before_else2 c).loop-test.taken
-    (sym (is_hex_before_else2 c).is_hex_lem.ensures ∙ c.before.before.before.if1.true)
-    (sym c.before.is-hex2.ensures ∙ c.if2.false)
+    pairs_second c.loop-t.invariant c.loop-t-test.true
+    (sym c.is_hex.ensures ∙ c.if-is_hex.true)
+    (sym c.is_hex-then-is_hex.ensures ∙ c.if-is_hex-2.false)
 
-returns_2 : tie.Need-returns-2 invariant_loop decreases_loop
+returns_2 : tie.Need-returns-else-is_hex invariant_loop decreases_loop
 returns_2 c =
-    pairs_first (loop_before_else1 c).loop.inv c.before.before.before.loop-test.true
-    (sym c.before.is_hex_lem.ensures ∙ c.if1.false)
+    pairs_first c.loop-t.invariant c.loop-t-test.true
+    (sym c.is_hex.ensures ∙ c.if-is_hex.false)
 
-returns_3 : tie.Need-returns-3 invariant_loop decreases_loop
-returns_3 c = pairs_end c.before.loop.invariant (omega arith)
+returns_3 : tie.Need-returns invariant_loop decreases_loop
+returns_3 c = pairs_end c.loop-t.invariant (omega arith)
 
 pub are_pairs_spec : {M : Type 1} → statement M
 are_pairs_spec =

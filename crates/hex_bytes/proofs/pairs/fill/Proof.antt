@@ -8,44 +8,38 @@ use Rattle.hex_bytes.proofs.HexPairs.{Spelling, after_two, spell_first, spell_sm
 use Rattle.hex_bytes.proofs.pairs.fill.Tie as tie
 use Rattle.hex_bytes.proofs.pairs.fill.Statement.{statement}
 
-abbrev invariant_loop : tie.invariant-loop
+abbrev invariant_loop : tie.invariant-loop-t
 invariant_loop word out₀ t₀ i₀ out t i = Spelling word out₀ out t i
 
-abbrev decreases_loop : tie.decreases-loop
+abbrev decreases_loop : tie.decreases-loop-t
 decreases_loop word out₀ t₀ i₀ out t i = length t
 
-loop_holds : tie.Need-loop-init invariant_loop decreases_loop
-loop_holds c = spell_first _ c.before.before.requires
+loop_holds : tie.Need-loop-t-init invariant_loop decreases_loop
+loop_holds c = spell_first _ c.requires
 
-abbrev in_loop_before_nibble2 : tie.After-nibble2 invariant_loop decreases_loop → tie.In-loop invariant_loop decreases_loop
-in_loop_before_nibble2 c = c.before.before.before.before
+slice_write_out : tie.Need-bounds-out-i invariant_loop decreases_loop
+slice_write_out c = spell_small c.loop-t.invariant c.loop-t-test.true
 
-abbrev loop_before_nibble2 : tie.After-nibble2 invariant_loop decreases_loop → tie.At-loop invariant_loop decreases_loop
-loop_before_nibble2 c = c.before.before.before.before.before
+add_i : tie.Need-overflow_add-i invariant_loop decreases_loop
+add_i c = omega (arith, spell_small c.loop-t.invariant c.loop-t-test.true)
 
-slice_write_out : tie.Need-slice-write-out invariant_loop decreases_loop
-slice_write_out c = spell_small (loop_before_nibble2 c).loop.inv (in_loop_before_nibble2 c).loop-test.taken
-
-add_i : tie.Need-overflow-add-i invariant_loop decreases_loop
-add_i c = omega (arith, spell_small (loop_before_nibble2 c).loop.inv (in_loop_before_nibble2 c).loop-test.taken)
-
-loop_less : tie.Need-loop-smaller invariant_loop decreases_loop
+loop_less : tie.Need-loop-t-smaller invariant_loop decreases_loop
 loop_less c =
-    rw (after_two (loop_before_nibble2 c.before).loop.t.now)
-    (omega (arith, length-drop 2 (loop_before_nibble2 c.before).loop.t.now))
+    rw (after_two c.loop-t.t.now)
+    (omega (arith, length-drop 2 c.loop-t.t.now))
 
-loop_again : tie.Need-loop-preserved invariant_loop decreases_loop
+loop_again : tie.Need-loop-t-preserved invariant_loop decreases_loop
 loop_again c =
-    rw (after_two (loop_before_nibble2 c.before).loop.t.now)
-    (spell_on (loop_before_nibble2 c.before).loop.inv (in_loop_before_nibble2 c.before).loop-test.taken
+    rw (after_two c.loop-t.t.now)
+    (spell_on c.loop-t.invariant c.loop-t-test.true
     _
-    (ap₂ (λ (a b : ℕ). 16 * a + b) c.before.before.before.nibble.ensures.0 c.before.nibble2.ensures.0))
+    (ap₂ (λ (a b : ℕ). 16 * a + b) c.nibble.ensures.0 c.nibble-in-loop-t.ensures.0))
 
-same_length : tie.Need-same-length invariant_loop decreases_loop
-same_length c = c.before.loop.invariant.filled.kept
+same_length : tie.Need-shape_of-out invariant_loop decreases_loop
+same_length c = c.loop-t.invariant.filled.kept
 
 returns : tie.Need-returns invariant_loop decreases_loop
-returns c = spell_end c.before.loop.invariant (omega arith)
+returns c = spell_end c.loop-t.invariant (omega arith)
 
 pub fill_spec : {M : Type 1} → statement M
 fill_spec =

@@ -3,4 +3,4 @@ use Rattle.octaves.proofs.knee.is_knee.Statement.{statement}
 use Rattle.octaves.proofs.knee.is_knee.Tie as tie
 
 pub is_knee_spec : {M : Type 1} → statement M
-is_knee_spec = tie.close (tie.spec (λ c. rw c.if1.true) (λ c. rw c.if1.false))
+is_knee_spec = tie.close (tie.spec (λ c. rw c.if-x.true) (λ c. rw c.if-x.false))

@@ -3,8 +3,8 @@ use borrow.Author.Rules.{rules}
 use Rattle.script.proofs.saying.are_pairs.Statement.{statement}
 use Rattle.script.proofs.saying.are_pairs.Tie as tie
 
-returns : tie.Need-returns
-returns c = rw c.before.if1.true
+returns : tie.Need-returns-then-list
+returns c = rw c.if-list.true
 
 pub are_pairs_spec : {M : Type 1} → statement M
 are_pairs_spec = tie.close (tie.spec returns (λ c. search rules))

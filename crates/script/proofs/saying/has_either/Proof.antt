@@ -10,5 +10,5 @@ has_either_spec =
     (tie.spec
     (λ c κs. search rules)
     (λ c κs. search rules)
-    (λ c. rw (sym c.before.has-numbers.ensures ∙ c.if1.true))
-    (λ c. rw (sym c.before.before.has-numbers.ensures ∙ c.before.if1.false) c.has-numbers2.ensures))
+    (λ c. rw (sym c.has_numbers.ensures ∙ c.if-has_numbers.true))
+    (λ c. rw (sym c.has_numbers.ensures ∙ c.if-has_numbers.false) c.has_numbers-else-has_numbers.ensures))

@@ -6,7 +6,7 @@ use Rattle.script.proofs.saying.said.Statement.{statement}
 
 returns : tie.Need-returns
 unfolding said
-returns c = rw (c.before.Numbers-of.ensures, c.no-series.ensures)
+returns c = rw (c.numbers_of-numbers.ensures, c.no_series-list.ensures)
 
 pub said_spec : {M : Type 1} → statement M
 said_spec = tie.close (tie.spec (λ c κs. search rules) (λ c κs. search rules) returns)

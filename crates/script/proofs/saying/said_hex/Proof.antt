@@ -4,34 +4,18 @@ use Rattle.script.proofs.Sayings.{said_other, said_bytes, said_bad}
 use Rattle.script.proofs.saying.said_hex.Tie as tie
 use Rattle.script.proofs.saying.said_hex.Statement.{statement}
 
-abbrev three : tie.After-hex-bytes → tie.Else1
-three c = c.before.before.before
+returns : tie.Need-returns-then-words-ne3
+returns c = said_other _ _ c.if-words-ne3.true c.said.ensures
 
-abbrev start : tie.Else1 → tie.Start
-start c = c.before.before.before.before
-
-abbrev spelled : tie.After-n → tie.After-hex-bytes
-spelled c = c.before.before.before.before
-
-abbrev not_spelled : tie.After-enum-told → tie.After-hex-bytes
-not_spelled c = c.before.before.before.before
-
-returns : tie.Need-returns
-returns c = said_other _ _ c.before.if1.true c.said.ensures
-
-returns_2 : tie.Need-returns-2
+returns_2 : tie.Need-returns-in-Bytes
 returns_2 c =
-    let n = c.before.before in
-    let h = spelled n in
-    said_bytes _ _ (three h).if1.left h.before.before.word.ensures (start (three h)).requires
-    h.hex-bytes.ensures n.n.given.1 c.said2.ensures
+    said_bytes _ _ c.if-words-ne3.false c.word.ensures c.requires
+    c.hex_bytes.ensures c.in-Bytes.is c.said-in-Bytes.ensures
 
-returns_3 : tie.Need-returns-3
+returns_3 : tie.Need-returns-in-Bad
 returns_3 c =
-    let t = c.before in
-    let h = not_spelled t in
-    said_bad _ _ (three h).if1.left h.before.before.word.ensures (start (three h)).requires
-    h.hex-bytes.ensures t.enum_told.given.1 c.said3.ensures
+    said_bad _ _ c.if-words-ne3.false c.word.ensures c.requires
+    c.hex_bytes.ensures c.in-Bad.is c.said-in-Bad.ensures
 
 pub said_hex_spec : {M : Type 1} → statement M
 said_hex_spec =

@@ -8,10 +8,10 @@ returns : tie.Need-returns
 unfolding said_pairs
 returns c =
     rw (
-      c.Numbers-of.ensures,
-      c.before.verb-if.ensures,
-      c.before.before.are-pairs.ensures,
-      c.before.before.before.series-of.ensures,
+      c.numbers_of-numbers.ensures,
+      c.verb_if-said.ensures,
+      c.are_pairs.ensures,
+      c.series_of-list.ensures,
     )
 
 pub said_pairs_spec : {M : Type 1} → statement M

@@ -8,13 +8,13 @@ use Rattle.sheet.proofs.Numerals.{amperes_done}
 use Rattle.sheet.proofs.digits.amperes.Tie as tie
 use Rattle.sheet.proofs.digits.amperes.Statement.{statement}
 
-abbrev shows_minus_before_spell : tie.After-spell → tie.After-shows-minus
+abbrev shows_minus_before_spell : tie.After-spell → tie.After-shows_minus
 shows_minus_before_spell c = c.before.before.before.before
 
-abbrev picoamperes_before_spell : tie.After-spell → tie.After-picoamperes
+abbrev picoamperes_before_spell : tie.After-spell → tie.After-picoamperes-p
 picoamperes_before_spell c = c.before.before.before.before.before
 
-abbrev open_before_spell : tie.After-spell → tie.After-open
+abbrev open_before_spell : tie.After-spell → tie.After-open-s
 open_before_spell c = c.before.before.before.before.before.before
 
 abbrev start_before_spell : tie.After-spell → tie.Start
@@ -24,10 +24,10 @@ returns : tie.Need-returns
 returns c =
     let s = (start_before_spell c) in
     amperes_done s.args.ticks
-    ((open_before_spell c).«open».ensures ∙ ap opened_of (back s.args.ticks s.fits.ticks))
-    (picoamperes_before_spell c).picoamperes.ensures (shows_minus_before_spell c).shows-minus.ensures
-    c.before.before.before.sign.ensures
-    (then c.before.before.decimal.ensures (then c.before.push.ensures c.spell.ensures))
+    ((open_before_spell c).open-s.ensures ∙ ap opened_of (back s.args.ticks s.ranges.ticks))
+    (picoamperes_before_spell c).picoamperes-p.ensures (shows_minus_before_spell c).shows_minus.ensures
+    c.sign-signed.ensures
+    (then c.decimal-above.ensures (then c.push-point.ensures c.spell.ensures))
 
 pub amperes_spec : {M : Type 1} → statement M
 amperes_spec =

@@ -4,11 +4,11 @@ use borrow.Author.Rules.{rules}
 use Rattle.sheet.proofs.digits.glyph.Tie as tie
 use Rattle.sheet.proofs.digits.glyph.Statement.{statement}
 
-returns : tie.Need-returns
-returns c = simp (lt-ltb _ _ c.if1.true)
+returns : tie.Need-returns-then-d-lt10
+returns c = simp (lt-ltb _ _ c.if-d-lt10.true)
 
-returns_2 : tie.Need-returns-2
-returns_2 c = simp (le-ltb _ _ c.if1.false)
+returns_2 : tie.Need-returns-else-d-lt10
+returns_2 c = simp (le-ltb _ _ c.if-d-lt10.false)
 
 pub glyph_spec : {M : Type 1} → statement M
 glyph_spec =

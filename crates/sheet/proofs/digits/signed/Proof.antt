@@ -10,8 +10,8 @@ use Rattle.sheet.proofs.digits.signed.Statement.{statement}
 returns : tie.Need-returns
 returns c =
     let s = c.before.before.before in
-    signed_done s.args.v (c.before.before.«open».ensures ∙ ap opened_of (back s.args.v s.ranges.v))
-    c.before.sign.ensures c.decimal.ensures
+    signed_done s.args.v (c.open-s.ensures ∙ ap opened_of (back s.args.v s.ranges.v))
+    c.sign.ensures c.decimal.ensures
 
 pub signed_spec : {M : Type 1} → statement M
 signed_spec = tie.close (tie.spec (λ c κs. search rules) (λ c κs. search rules) (λ c κs. search rules) returns)

@@ -7,21 +7,21 @@ use Rattle.sheet.proofs.gather.append.Tie as tie
 use Rattle.sheet.proofs.gather.append.Statement.{statement}
 use Rattle.sheet.proofs.Texts.{gathered}
 
-abbrev invariant_loop : tie.invariant-loop
+abbrev invariant_loop : tie.invariant-loop-i
 invariant_loop s gathered₀ i₀ gathered i = Left gathered₀ s gathered (drop i s)
 
-abbrev decreases_loop : tie.decreases-loop
+abbrev decreases_loop : tie.decreases-loop-i
 decreases_loop s gathered₀ i₀ gathered i = length s - i
 
-loop_holds : tie.Need-loop-init invariant_loop decreases_loop
+loop_holds : tie.Need-loop-i-init invariant_loop decreases_loop
 loop_holds c = all_left
 
-loop_again : tie.Need-loop-preserved invariant_loop decreases_loop
+loop_again : tie.Need-loop-i-preserved invariant_loop decreases_loop
 loop_again c =
-    append_on _ _ c.before.before.before.loop.invariant c.before.before.loop-test.true c.push.ensures
+    append_on _ _ c.loop-i.invariant c.loop-i-test.true c.push-more.ensures
 
 returns : tie.Need-returns invariant_loop decreases_loop
-returns c = append_end _ _ c.before.loop.invariant c.loop-test.false
+returns c = append_end _ _ c.loop-i.invariant c.loop-i-test.false
 
 pub append_spec : {M : Type 1} → statement M
 append_spec =

@@ -7,18 +7,16 @@ use Rattle.card_laws.specs.laws.Unique.{judged_card, judged_refused}
 use Rattle.sheet.proofs.lines.judged.Tie as tie
 use Rattle.sheet.proofs.lines.judged.Statement.{statement}
 
-returns : tie.Need-returns
+returns : tie.Need-returns-in-Card
 returns c =
-    let o = c.before.before in
-    let v = judge_of o.before.before.args.bytes.now in
-    sym (ap number_told (judged_card v o.judge.ensures c.enum_told.given.1))
+    let o = c.before in
+    let v = judge_of o.args.bytes.now in
+    sym (ap number_told (judged_card v o.judge.ensures c.in-Card.is))
 
-returns_2 : tie.Need-returns-2
+returns_2 : tie.Need-returns-in-Refused
 returns_2 c =
-    let k = c.before.before in
-    let o = k.before.before in
-    let v = judge_of o.before.before.args.bytes.now in
-    c.number.ensures ∙ sym (ap number_told (judged_refused v o.judge.ensures k.f.given.1))
+    let v = judge_of c.args.bytes.now in
+    c.number.ensures ∙ sym (ap number_told (judged_refused v c.judge.ensures c.in-Refused.is))
 
 pub judged_spec : {M : Type 1} → statement M
 judged_spec =

@@ -7,10 +7,10 @@ use Rattle.sheet.proofs.Texts.{then}
 use Rattle.sheet.proofs.lines.reading.Tie as tie
 use Rattle.sheet.proofs.lines.reading.Statement.{statement}
 
-abbrev decimal_before_signed2 : tie.After-signed2 → tie.After-decimal
+abbrev decimal_before_signed2 : tie.After-signed-2 → tie.After-decimal
 decimal_before_signed2 c = c.before.before.before.before
 
-abbrev start_before_signed2 : tie.After-signed2 → tie.Start
+abbrev start_before_signed2 : tie.After-signed-2 → tie.Start
 start_before_signed2 c = c.before.before.before.before.before
 
 returns : tie.Need-returns
@@ -18,10 +18,10 @@ unfolding reading_of
 returns c =
     let s = (start_before_signed2 c) in
     then (decimal_before_signed2 c).decimal.ensures
-    (then c.before.before.before.push.ensures
-    (then (as_given s.args.microvolts s.fits.microvolts signed_digits c.before.before.signed.ensures)
-    (then c.before.push2.ensures
-    (as_given s.args.ticks s.fits.ticks signed_digits c.signed2.ensures))))
+    (then c.push-numbered.ensures
+    (then (as_given s.args.microvolts s.ranges.microvolts signed_digits c.signed.ensures)
+    (then c.push-held.ensures
+    (as_given s.args.ticks s.ranges.ticks signed_digits c.signed-2.ensures))))
 
 pub reading_spec : {M : Type 1} → statement M
 reading_spec =

@@ -9,10 +9,10 @@ use Rattle.spaced.proofs.parts.put_number.Statement.{statement}
 returns : tie.Need-returns
 returns c =
     let d = c.before.before in
-    then d.before.put.ensures
-    (text_written d.decimal-digits.ensures (decimal_whole _) c.put-text.ensures)
+    then d.put-spaced.ensures
+    (text_written d.decimal_digits.ensures (decimal_whole _) c.put_text.ensures)
 
 pub put_number_spec : {M : Type 1} → statement M
 put_number_spec =
     tie.close
-    (tie.spec (λ c. search rules) (λ c κs. search rules) (λ c κs. search rules) (λ c κs. search rules) returns)
+    (tie.spec (λ c κs. search rules) (λ c κs. search rules) (λ c κs. search rules) returns)

@@ -5,14 +5,14 @@ use Rattle.spelling.proofs.Ranges.{within, under, above}
 use Rattle.spelling.proofs.numeral.digit.Tie as tie
 use Rattle.spelling.proofs.numeral.digit.Statement.{statement}
 
-returns : tie.Need-returns
-returns c = (simp (within 48 c.before.before.args.b 57 (omega arith) (omega arith)), omega arith)
+returns : tie.Need-returns-in-48-to-57
+returns c = (simp (within 48 c.args.b 57 (omega arith) (omega arith)), omega arith)
 
-returns_2 : tie.Need-returns-2
-returns_2 c = (simp (under 48 c.before.args.b 57 (omega arith)), omega arith)
+returns_2 : tie.Need-returns-in_default
+returns_2 c = (simp (under 48 c.args.b 57 (omega arith)), omega arith)
 
-returns_3 : tie.Need-returns-3
-returns_3 c = (simp (above 48 c.before.before.args.b 57 (omega arith)), omega arith)
+returns_3 : tie.Need-returns-in_default-2
+returns_3 c = (simp (above 48 c.args.b 57 (omega arith)), omega arith)
 
 pub digit_spec : {M : Type 1} → statement M
 digit_spec = tie.close (tie.spec (λ c. search rules) returns returns_2 returns_3)

@@ -7,27 +7,27 @@ use Rattle.spelling.proofs.Numerals.{near_below, near_past, near_zero, near_insi
 use Rattle.spelling.proofs.numeral.held.Tie as tie
 use Rattle.spelling.proofs.numeral.held.Statement.{statement}
 
-returns : tie.Need-returns
-returns c = rw c.before.if1.true (near_zero _ c.if2.true)
+returns : tie.Need-returns-then-x-eq0
+returns c = rw c.if-below.true (near_zero _ c.if-x-eq0.true)
 
-returns_2 : tie.Need-returns-2
+returns_2 : tie.Need-returns-then-x-gt-BEYOND
 returns_2 c =
-    rw c.before.before.before.if1.true
-    (to_z-of_z w64 c.close.result (search rules) ∙ c.close.ensures ∙ near_past _ c.before.if3.true)
+    rw c.if-below.true
+    (to_z-of_z w64 c.close.result (search rules) ∙ c.close.ensures ∙ near_past _ c.if-x-gt-BEYOND.true)
 
-returns_3 : tie.Need-returns-3
+returns_3 : tie.Need-returns-else-x-gt-BEYOND
 returns_3 c =
-    rw c.before.before.before.if1.true
-    (to_z-of_z w64 c.close2.result (search rules) ∙ c.close2.ensures ∙ near_below _ c.before.if3.false
-    c.before.before.if2.false)
+    rw c.if-below.true
+    (to_z-of_z w64 c.close-else-x-gt-BEYOND.result (search rules) ∙ c.close-else-x-gt-BEYOND.ensures ∙ near_below _ c.if-x-gt-BEYOND.false
+    c.if-x-eq0.false)
 
-returns_4 : tie.Need-returns-4
+returns_4 : tie.Need-returns-then-x-lt-BEYOND
 returns_4 c =
-    rw c.before.before.if1.false
-    (to_z-of_z w64 c.close3.result (search rules) ∙ c.close3.ensures ∙ near_inside _ c.before.if4.true)
+    rw c.if-below.false
+    (to_z-of_z w64 c.close-then-x-lt-BEYOND.result (search rules) ∙ c.close-then-x-lt-BEYOND.ensures ∙ near_inside _ c.if-x-lt-BEYOND.true)
 
-returns_5 : tie.Need-returns-5
-returns_5 c = rw c.before.if1.false (near_end _ c.if4.false)
+returns_5 : tie.Need-returns-else-x-lt-BEYOND
+returns_5 c = rw c.if-below.false (near_end _ c.if-x-lt-BEYOND.false)
 
 pub held_spec : {M : Type 1} → statement M
 held_spec =

@@ -7,25 +7,25 @@ use Rattle.spelling.proofs.ByteLoops.{Value, value_on, value_end}
 use Rattle.spelling.proofs.numeral.value.Tie as tie
 use Rattle.spelling.proofs.numeral.value.Statement.{statement}
 
-abbrev invariant_loop : tie.invariant-loop
+abbrev invariant_loop : tie.invariant-loop-i
 invariant_loop s x₀ i₀ x i = Value s i x
 
-abbrev decreases_loop : tie.decreases-loop
+abbrev decreases_loop : tie.decreases-loop-i
 decreases_loop s x₀ i₀ x i = length s - i
 
-loop_holds : tie.Need-loop-init invariant_loop decreases_loop
+loop_holds : tie.Need-loop-i-init invariant_loop decreases_loop
 loop_holds c = record { within = search rules; so_far = refl; held = search rules }
 
-abbrev loop_before_longer : tie.After-longer invariant_loop decreases_loop → tie.At-loop invariant_loop decreases_loop
+abbrev loop_before_longer : tie.After-longer-x invariant_loop decreases_loop → tie.At-loop-i invariant_loop decreases_loop
 loop_before_longer c = c.before.before.before.before
 
-loop_again : tie.Need-loop-preserved invariant_loop decreases_loop
+loop_again : tie.Need-loop-i-preserved invariant_loop decreases_loop
 loop_again c =
-    value_on (loop_before_longer c).loop.inv c.before.before.before.loop-test.true _ _
-    c.before.digit.ensures.0 c.longer.ensures
+    value_on (loop_before_longer c).loop-i.invariant c.loop-i-test.true _ _
+    c.digit.ensures.0 c.longer-x.ensures
 
 returns : tie.Need-returns invariant_loop decreases_loop
-returns c = value_end c.before.loop.invariant c.loop-test.false
+returns c = value_end c.loop-i.invariant c.loop-i-test.false
 
 pub value_spec : {M : Type 1} → statement M
 value_spec =

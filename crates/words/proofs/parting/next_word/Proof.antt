@@ -4,14 +4,14 @@ use Rattle.words.proofs.Parts.{next_beyond, next_none, next_some}
 use Rattle.words.proofs.parting.next_word.Tie as tie
 use Rattle.words.proofs.parting.next_word.Statement.{statement}
 
-returns : tie.Need-returns
-returns c = next_beyond _ _ c.if1.true
+returns : tie.Need-returns-then-most-at
+returns c = next_beyond _ _ c.if-most-at.true
 
-returns_2 : tie.Need-returns-2
-returns_2 c = next_none c.before.past-spaces.ensures c.if2.true
+returns_2 : tie.Need-returns-then-most-start
+returns_2 c = next_none c.past_spaces-start.ensures c.if-most-start.true
 
-returns_3 : tie.Need-returns-3
-returns_3 c = next_some c.before.before.past-spaces.ensures c.before.if2.false c.past_word.ensures
+returns_3 : tie.Need-returns
+returns_3 c = next_some c.past_spaces-start.ensures c.if-most-start.false c.past_word-end.ensures
 
 pub next_word_spec : {M : Type 1} → statement M
 next_word_spec =

@@ -4,14 +4,14 @@ use Rattle.words.proofs.Parts.{part_there, part_back, part_beyond}
 use Rattle.words.proofs.parting.part.Tie as tie
 use Rattle.words.proofs.parting.part.Statement.{statement}
 
-returns : tie.Need-returns
-returns c = part_back _ _ _ c.before.if1.true
+returns : tie.Need-returns-then-end-start
+returns c = part_back _ _ _ c.if-end-start.true
 
-returns_2 : tie.Need-returns-2
-returns_2 c = part_beyond _ _ _ c.before.before.if1.false c.before.if2.true
+returns_2 : tie.Need-returns-then-line-end
+returns_2 c = part_beyond _ _ _ c.if-end-start.false c.if-line-end.true
 
-returns_3 : tie.Need-returns-3
-returns_3 c = part_there _ _ _ c.before.before.if1.false c.before.if2.false
+returns_3 : tie.Need-returns
+returns_3 c = part_there _ _ _ c.if-end-start.false c.if-line-end.false
 
 pub part_spec : {M : Type 1} → statement M
 part_spec =

@@ -5,13 +5,13 @@ use Rattle.words.specs.Words.{with_word}
 use Rattle.words.proofs.parting.with_word.Tie as tie
 use Rattle.words.proofs.parting.with_word.Statement.{statement}
 
-returns : tie.Need-returns
+returns : tie.Need-returns-then-n-lt-MOST_WORDS
 unfolding with_word
-returns c = simp (lt-ltb _ _ c.if1.true)
+returns c = simp (lt-ltb _ _ c.if-n-lt-MOST_WORDS.true)
 
-returns_2 : tie.Need-returns-2
+returns_2 : tie.Need-returns
 unfolding with_word
-returns_2 c = simp (le-ltb _ _ c.if1.false)
+returns_2 c = simp (le-ltb _ _ c.if-n-lt-MOST_WORDS.false)
 
 pub with_word_spec : {M : Type 1} → statement M
 with_word_spec =
