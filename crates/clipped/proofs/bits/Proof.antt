@@ -13,13 +13,13 @@ valued nan h = absurd h
 valued (inf s) h = tt
 valued (fin s m e) h = tt
 
-returns : tie.Need-returns
+returns : tie.Need-returns-then-x
 unfolding bits_of
-returns c = rw c.if1.true
+returns c = rw c.if-x.true
 
-returns_2 : tie.Need-returns-2
+returns_2 : tie.Need-returns-else-x
 unfolding bits_of
-returns_2 c = rw c.if1.false
+returns_2 c = rw c.if-x.false
 
 pub bits_spec : {M : Type 1} → statement M
-bits_spec = tie.close (tie.spec (λ c. valued _ (subst T (sym c.if1.true) tt)) returns returns_2)
+bits_spec = tie.close (tie.spec (λ c. valued _ (subst T (sym c.if-x.true) tt)) returns returns_2)

@@ -7,26 +7,23 @@ use borrow.Author.Rules.{rules}
 use Rattle.outcome.proofs.all_digits.Statement.{statement}
 use Rattle.outcome.proofs.all_digits.Tie as tie
 
-abbrev invariant_loop : tie.invariant-loop
+abbrev invariant_loop : tie.invariant-loop-k
 invariant_loop a b all₀ k₀ all k = (k ≤ branches) × MostTo a b k all
 
-abbrev decreases_loop : tie.decreases-loop
+abbrev decreases_loop : tie.decreases-loop-k
 decreases_loop a b all₀ k₀ all k = branches - k
 
-loop_holds : tie.Need-loop-init invariant_loop decreases_loop
+loop_holds : tie.Need-loop-k-init invariant_loop decreases_loop
 loop_holds c = (search rules, most_none)
 
-abbrev at_loop : tie.After-digits invariant_loop decreases_loop → tie.At-loop invariant_loop decreases_loop
-at_loop c = c.before.before.before.before
-
-loop_again : tie.Need-loop-preserved invariant_loop decreases_loop
+loop_again : tie.Need-loop-k-preserved invariant_loop decreases_loop
 loop_again c =
-    let m = c.before.digits.ensures in
-    let n = c.digits2.ensures in
-    (omega arith, most_more (at_loop c.before).loop.inv.1 m.0 m.1 n.0 n.1)
+    let m = c.digits-both.ensures in
+    let n = c.digits-all.ensures in
+    (omega arith, most_more c.loop-k.invariant.1 m.0 m.1 n.0 n.1)
 
 returns : tie.Need-returns invariant_loop decreases_loop
-returns c = most_all c.loop-test.false c.before.loop.invariant.1
+returns c = most_all c.loop-k-test.false c.loop-k.invariant.1
 
 pub all_digits_spec : {M : Type 1} → statement M
 all_digits_spec =

@@ -9,27 +9,19 @@ use borrow.Author.Rules.{rules}
 use Rattle.outcome.proofs.outcome.Statement.{statement}
 use Rattle.outcome.proofs.outcome.Tie as tie
 
-abbrev start : tie.After-judged → tie.Start
-start c = c.before
+all_divided_requires : tie.Need-all_divided-ticks-requires
+all_divided_requires c κs = fine _ (let within_ : over_up c.args.x branches 0 ≡ Within = sym c.judged-o.ensures ∙ c.in-Within.is in within_)
 
-within : (c : tie.After-enum-told) → over_up (start c.before.before).args.x branches 0 ≡ Within
-within c = sym c.before.before.judged.ensures ∙ c.enum_told.given.1
+returns : tie.Need-returns-in-Within
+returns c = outcome_within _ (let within_ : over_up c.args.x branches 0 ≡ Within = sym c.judged-o.ensures ∙ c.in-Within.is in within_) c.all_divided-ticks.ensures
 
-all_divided_requires : tie.Need-all-divided-requires
-all_divided_requires c κs = fine _ (within c)
-
-returns : tie.Need-returns
-returns c = outcome_within _ (within c.before) c.all-divided.ensures
-
-returns_2 : tie.Need-returns-2
+returns_2 : tie.Need-returns-in-Ticks
 returns_2 c =
-    let j = c.before.before.before in
-    outcome_ticks (start j).args.x (sym j.judged.ensures ∙ c.before.o.given.1)
+    outcome_ticks c.args.x (sym c.judged-o.ensures ∙ c.in-Ticks.is)
 
-returns_3 : tie.Need-returns-3
+returns_3 : tie.Need-returns-in-Injection
 returns_3 c =
-    let j = c.before.before.before in
-    outcome_injection (start j).args.x (sym j.judged.ensures ∙ c.before.o2.given.1)
+    outcome_injection c.args.x (sym c.judged-o.ensures ∙ c.in-Injection.is)
 
 pub outcome_spec : {M : Type 1} → statement M
 outcome_spec =

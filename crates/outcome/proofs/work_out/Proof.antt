@@ -8,7 +8,7 @@ use Rattle.outcome.proofs.work_out.Tie as tie
 
 returns : tie.Need-returns
 unfolding outcome_across
-returns c = c.outcome.ensures ∙ outcome_is _ _ c.before.all-terms.ensures
+returns c = c.outcome.ensures ∙ outcome_is _ _ c.all_terms-x.ensures
 
 pub work_out_spec : {M : Type 1} → statement M
 work_out_spec =

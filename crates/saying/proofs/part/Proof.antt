@@ -4,14 +4,14 @@ use Rattle.saying.proofs.Parts.{next_beyond, next_short, next_there}
 use Rattle.saying.proofs.part.Tie as tie
 use Rattle.saying.proofs.part.Statement.{statement}
 
-returns : tie.Need-returns
-returns c = next_beyond _ _ _ c.before.if1.true
+returns : tie.Need-returns-then-s-at
+returns c = next_beyond _ _ _ c.if-s-at.true
 
-returns_2 : tie.Need-returns-2
-returns_2 c = next_short _ _ _ c.before.before.if1.false c.before.if2.true
+returns_2 : tie.Need-returns-then-s-at-2
+returns_2 c = next_short _ _ _ c.if-s-at.false c.if-s-at-2.true
 
-returns_3 : tie.Need-returns-3
-returns_3 c = next_there _ _ _ c.before.before.if1.false c.before.if2.false
+returns_3 : tie.Need-returns
+returns_3 c = next_there _ _ _ c.if-s-at.false c.if-s-at-2.false
 
 pub part_spec : {M : Type 1} → statement M
 part_spec =
