@@ -2,11 +2,12 @@
 ghost use Rattle.std.specs.Prelude.{◌≤◌, length};
 
 use filing::{Kind, LINE_ROOM, NAMES_ROOM, RECORDS_ROOM};
-use libc::STDOUT_FILENO;
 use library::Writing;
 use line_read::{Answer, RECORD_BYTES, WORDS};
 use refusal::Refusal;
 use sheet::Text;
+use std::io;
+use std::io::Read;
 
 // How much is read at once.
 const READ: usize = 65536;
@@ -155,29 +156,29 @@ fn feed(
     current
 }
 
-fn put(bytes: &[u8]) {
-    io::write_all(STDOUT_FILENO, bytes);
+fn put(rt: &HostRuntime, bytes: &[u8]) -> io::Result<()> {
+    rt.write_all(bytes)
 }
 
-fn show(t: Text) {
+fn show(rt: &HostRuntime, t: Text) -> io::Result<()> {
     let bytes = t.bytes;
-    put(start(&bytes, t.len));
+    put(rt, start(&bytes, t.len))
 }
 
 // `line`, the number of the line, `refused` and the number of the refusal.
-fn show_refused(p: Progress) {
-    put(b"line ");
-    show(sheet::decimal_digits(p.refused_at));
-    put(b" ");
-    show(sheet::label_line(b"refused", p.refused as u64));
+fn show_refused(rt: &HostRuntime, p: Progress) -> io::Result<()> {
+    put(rt, b"line ")?;
+    show(rt, sheet::decimal_digits(p.refused_at))?;
+    put(rt, b" ")?;
+    show(rt, sheet::label_line(b"refused", p.refused as u64))
 }
 
 // The library of the first n names and records.
-fn show_library(names: &[u8], records: &[u8], n: usize) {
+fn show_library(rt: &HostRuntime, names: &[u8], records: &[u8], n: usize) -> io::Result<()> {
     let mut words = [0u64; WORDS_ROOM];
     let mut library = [0u8; LIBRARY_ROOM];
     if MOST_CARDS < n {
-        return;
+        return Ok(());
     }
     library::load(start(records, RECORD_BYTES * n), &mut words);
     match library::write(
@@ -186,42 +187,50 @@ fn show_library(names: &[u8], records: &[u8], n: usize) {
         &words[0..WORDS * n],
         &mut library,
     ) {
-        Writing::Bytes(k) => put(start(&library, k as usize)),
-        Writing::Refused(f) => show(sheet::label_line(b"refused", refusal::number(f) as u64)),
+        Writing::Bytes(k) => put(rt, start(&library, k as usize)),
+        Writing::Refused(f) => show(rt, sheet::label_line(b"refused", refusal::number(f) as u64)),
     }
 }
 
 // What was read comes to a library, or to the first refusal.
-fn finish(p: Progress, names: &[u8; NAMES_ROOM], records: &[u8; RECORDS_ROOM]) {
+fn finish(
+    rt: &HostRuntime,
+    p: Progress,
+    names: &[u8; NAMES_ROOM],
+    records: &[u8; RECORDS_ROOM],
+) -> io::Result<()> {
     if p.refused == 0 {
-        show_library(names, records, p.cards);
+        show_library(rt, names, records, p.cards)
     } else {
-        show_refused(p);
+        show_refused(rt, p)
     }
 }
 
-fn read(fd: i32, bytes: &mut [u8; READ]) -> isize {
-    libc::read(fd, bytes)
+// One read: how many bytes it got, 0 where the input ends or cannot be read.
+fn read<R: Read>(from: &mut R, bytes: &mut [u8; READ]) -> usize {
+    match from.read(bytes) {
+        Ok(n) => n,
+        Err(_) => 0,
+    }
 }
 
 // What a read got.
-fn taken(got: isize, bytes: &[u8; READ]) -> &[u8] {
-    start(bytes, io::count(got, bytes))
+fn taken(got: usize, bytes: &[u8; READ]) -> &[u8] {
+    start(bytes, got)
 }
 
-// Reads all that can be read. Nothing says that the input ends: the turns are counted down from a number that no run
-// uses up. A line end is put where the input ends, so that a last line that lacks its own is ended.
-pub fn run(fd: i32) {
+// Reads all that can be read. Nothing says that the input ends: the turns are counted to a number that no run uses up.
+// A line end is put where the input ends, so that a last line that lacks its own is ended.
+pub fn run<R: Read>(rt: &HostRuntime, from: &mut R) -> io::Result<()> {
     let mut bytes = [0u8; READ];
     let mut kept = [0u8; LINE_ROOM];
     let mut model = [0u8; LINE_ROOM];
     let mut names = [0u8; NAMES_ROOM];
     let mut records = [0u8; RECORDS_ROOM];
     let mut progress = begun();
-    let mut turns = u64::MAX;
-    while turns > 0 {
-        let got = read(fd, &mut bytes);
-        if got <= 0 {
+    for _ in 0..u64::MAX {
+        let got = read(from, &mut bytes);
+        if got == 0 {
             let last = feed(
                 progress,
                 b"\n",
@@ -231,8 +240,7 @@ pub fn run(fd: i32) {
                 &mut records,
             );
             let done = end_model(last, &model, &mut names, &mut records);
-            finish(done, &names, &records);
-            return;
+            return finish(rt, done, &names, &records);
         }
         let next = feed(
             progress,
@@ -243,6 +251,6 @@ pub fn run(fd: i32) {
             &mut records,
         );
         progress = next;
-        turns -= 1;
     }
+    Ok(())
 }

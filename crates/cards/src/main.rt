@@ -4,38 +4,40 @@
 #![tactic(auto)]
 
 mod gather; // gather.rt: the lines of a file, one by one, and what they come to
+mod input; // input.rt: the arguments, and the files that they name
 
-use libc::STDIN_FILENO;
+use input::PATH_ROOM;
+use std::io;
 
-fn read_file(path: &[u8]) {
-    let fd = os::open_read(path);
-    if fd < 0 {
-        os::fail(path);
-        return;
-    }
-    gather::run(fd);
-    libc::close(fd);
-}
-
-fn read_argument(i: usize) {
-    let mut path = io::buffer();
-    let n = os::arg(i, &mut path);
-    if n == 1 {
-        if path[0] == b'-' {
-            gather::run(STDIN_FILENO);
-            return;
+// Of a file that does not open it is said why, where standard error takes it.
+fn read_file(rt: &HostRuntime, path: &[u8]) -> io::Result<()> {
+    match input::open(rt, path) {
+        Ok(mut file) => gather::run(rt, &mut file),
+        Err(e) => {
+            let _ = input::fail(&mut rt.stderr(), path, e);
+            Ok(())
         }
     }
-    read_file(&path[..n]);
 }
 
-fn main() {
-    let count = os::arg_count();
+fn read_argument(rt: &HostRuntime, i: usize) -> io::Result<()> {
+    let mut path = [0u8; PATH_ROOM];
+    let n = input::arg(rt, i, &mut path);
+    if n == 1 {
+        if path[0] == b'-' {
+            return gather::run(rt, &mut rt.stdin());
+        }
+    }
+    read_file(rt, &path[..n])
+}
+
+fn main(rt: HostRuntime) -> io::Result<()> {
+    let count = input::arg_count(&rt);
     if count < 2 {
-        gather::run(STDIN_FILENO);
-        return;
+        return gather::run(&rt, &mut rt.stdin());
     }
     for i in 1..count {
-        read_argument(i);
+        read_argument(&rt, i)?;
     }
+    Ok(())
 }

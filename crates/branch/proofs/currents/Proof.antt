@@ -9,20 +9,10 @@ use Rattle.branch.proofs.Replying.{replies_refused, replies_card}
 use Rattle.branch.proofs.currents.Statement.{statement}
 use Rattle.branch.proofs.currents.Tie as tie
 
--- the place behind loading
-abbrev judged : tie.After-known-told2 → tie.After-judge
-judged c = c.before.before.before
-
--- loading gives the card
-taken : (c : tie.After-known-told2) →
-    judge_of (judged c).before.before.args.bytes.now ≡ yes c.before.c.given.0.0
-taken c = judged_card _ (judged c).judge.ensures c.before.c.given.1
-
-returns : tie.Need-returns
+returns : tie.Need-returns-in-Refused
 returns c =
-    let told = c.before.before in
-    let no = judged_refused _ told.before.before.judge.ensures told.f.given.1 in
-    replies_refused no c.turned-away.ensures
+    let no = judged_refused _ c.judge.ensures c.in-Refused.is in
+    replies_refused no c.turned_away.ensures
 
 pub currents_spec : {M : Type 1} → statement M
 currents_spec =
@@ -32,6 +22,6 @@ currents_spec =
     (λ c. search rules)
     (λ c κs. search rules)
     (λ c. search rules)
-    (λ c κs. judged_is_worked _ _ (taken c))
+    (λ c κs. judged_is_worked _ _ (let taken_ : judge_of c.args.bytes.now ≡ yes c.in-Card.c = judged_card _ c.judge.ensures c.in-Card.is in taken_))
     returns
-    (λ c. replies_card (taken c.before) c.card-currents.ensures))
+    (λ c. replies_card (let taken_ : judge_of c.args.bytes.now ≡ yes c.in-Card.c = judged_card _ c.judge.ensures c.in-Card.is in taken_) c.card_currents.ensures))

@@ -4,11 +4,11 @@ use borrow.Author.Rules.{rules}
 use Rattle.filing.proofs.filed.Statement.{statement}
 use Rattle.filing.proofs.filed.Tie as tie
 
-returns : tie.Need-returns
-returns c = first_names c.before.before.args.names.now c.before.before.args.n
+returns : tie.Need-returns-then-n-lt-MOST_CARDS
+returns c = first_names c.args.names.now c.args.n
 
-returns_2 : tie.Need-returns-2
-returns_2 c = all_names c.before.args.names.now c.before.args.n (search rules) (search rules)
+returns_2 : tie.Need-returns
+returns_2 c = all_names c.args.names.now c.args.n (search rules) (search rules)
 
 pub filed_spec : {M : Type 1} → statement M
 filed_spec =

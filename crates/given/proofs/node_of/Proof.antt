@@ -10,21 +10,21 @@ use Rattle.given.proofs.node_of.Statement.{statement}
 use Rattle.given.proofs.node_of.Tie as tie
 
 -- the number that `open` gave is the caller's
-is_up : (c : tie.After-known-told) → pos c.before.i.given.0.0 ≡ c.before.before.before.before.args.n
+is_up : (c : tie.In-Pos) → pos c.in-Pos.k ≡ c.args.n
 is_up c =
-    let o = c.before.before.before in
+    let o = c.before in
     let s = o.before in
-    opened (to_z-of_z w64 s.args.n s.ranges.n) o.open.ensures c.before.i.given.1
+    opened (to_z-of_z w64 s.args.n s.ranges.n) o.open-i.ensures c.in-Pos.is
 
-returns_3 : tie.Need-returns-3
+returns_3 : tie.Need-returns-in-NegSuc
 returns_3 c =
-    let o = c.before.before in
+    let o = c.before in
     let s = o.before in
-    node_below _ _ (opened (to_z-of_z w64 s.args.n s.ranges.n) o.open.ensures c.enum_told.given.1)
+    node_below _ _ (opened (to_z-of_z w64 s.args.n s.ranges.n) o.open-i.ensures c.in-NegSuc.is)
 
 pub node_of_spec : {M : Type 1} → statement M
 node_of_spec =
     tie.close
     (tie.spec (λ c κs. search rules) (λ c. search rules) (λ c. search rules) (λ c. search rules) (λ c. search rules)
-    (λ c. search rules) (λ c. node_is _ _ (is_up c.before) c.if1.true)
-    (λ c. node_above _ _ (is_up c.before) c.if1.false) returns_3)
+    (λ c. search rules) (λ c. node_is _ _ (is_up c.before) c.if-k.true)
+    (λ c. node_above _ _ (is_up c.before) c.if-k.false) returns_3)

@@ -6,19 +6,16 @@ use Rattle.shelving.proofs.Cards.{record_said, record_none}
 use Rattle.shelving.proofs.clip.Tie as tie
 use Rattle.shelving.proofs.clip.Statement.{statement}
 
-returns : tie.Need-returns
+returns : tie.Need-returns-in-Record
 unfolding card_clipped
 returns c =
-    let p = c.before.before.before in
-    let g = p.before.before in
-    as_bytes (record_said _ _ g.before.before.locate.ensures g.place.given.1 clip_said p.part.ensures)
-    c.clip-record.ensures
+    as_bytes (record_said _ _ c.locate.ensures c.in-Record.is clip_said c.part.ensures)
+    c.clip_record.ensures
 
-returns_2 : tie.Need-returns-2
+returns_2 : tie.Need-returns-in-Refused
 unfolding card_clipped
 returns_2 c =
-    let g = c.before.before.before.before in
-    as_bytes (record_none _ _ g.before.before.locate.ensures g.f.given.1 clip_said) c.Put-refused.ensures
+    as_bytes (record_none _ _ c.locate.ensures c.in-Refused.is clip_said) c.put_refused.ensures
 
 pub clip_spec : {M : Type 1} → statement M
 clip_spec =

@@ -5,17 +5,14 @@ use Rattle.shelving.proofs.Lines.{clipping_taken, clipping_refused}
 use Rattle.shelving.proofs.clip_record.Tie as tie
 use Rattle.shelving.proofs.clip_record.Statement.{statement}
 
-returns : tie.Need-returns
+returns : tie.Need-returns-in-Taken
 returns c =
-    let w = c.before.before.before in
-    let g = w.before in
-    as_bytes (clipping_taken g.before.before.clip.ensures g.enum_told.given.1 w.is_wide.ensures)
-    c.put-clipping.ensures
+    as_bytes (clipping_taken c.clip-clipping.ensures c.in-Taken.is c.is_wide.ensures)
+    c.put_clipping.ensures
 
-returns_2 : tie.Need-returns-2
+returns_2 : tie.Need-returns-in-Refused
 returns_2 c =
-    let g = c.before.before.before.before in
-    as_bytes (clipping_refused g.before.before.clip.ensures g.answer.given.1) c.Put-refused.ensures
+    as_bytes (clipping_refused c.clip-clipping.ensures c.in-Refused.is) c.put_refused.ensures
 
 pub clip_record_spec : {M : Type 1} → statement M
 clip_record_spec =

@@ -5,15 +5,13 @@ use Rattle.shelving.proofs.Cards.{place_there, place_none}
 use Rattle.shelving.proofs.find.Tie as tie
 use Rattle.shelving.proofs.find.Statement.{statement}
 
-returns : tie.Need-returns
+returns : tie.Need-returns-in-Record
 returns c =
-    let g = c.before.before.before.before in
-    as_bytes (place_there _ _ g.before.before.locate.ensures g.place.given.1) c.put-answer.ensures
+    as_bytes (place_there _ _ c.locate.ensures c.in-Record.is) c.put_answer.ensures
 
-returns_2 : tie.Need-returns-2
+returns_2 : tie.Need-returns-in-Refused
 returns_2 c =
-    let g = c.before.before.before.before in
-    as_bytes (place_none _ _ g.before.before.locate.ensures g.f.given.1) c.Put-refused.ensures
+    as_bytes (place_none _ _ c.locate.ensures c.in-Refused.is) c.put_refused.ensures
 
 pub find_spec : {M : Type 1} → statement M
 find_spec =

@@ -5,7 +5,7 @@ use Rattle.shelving.proofs.held.Tie as tie
 use Rattle.shelving.proofs.held.Statement.{statement}
 
 returns : tie.Need-returns
-returns c = held_part _ c.before.u32-at.ensures c.part.ensures
+returns c = held_part _ c.u32_at.ensures c.part.ensures
 
 pub held_spec : {M : Type 1} → statement M
 held_spec =

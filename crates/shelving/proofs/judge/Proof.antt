@@ -6,7 +6,7 @@ use Rattle.shelving.proofs.judge.Tie as tie
 use Rattle.shelving.proofs.judge.Statement.{statement}
 
 returns : tie.Need-returns
-returns c = judged_told refl refl c.before.before.read.ensures
+returns c = judged_told refl refl c.read.ensures
 
 pub judge_spec : {M : Type 1} → statement M
 judge_spec =

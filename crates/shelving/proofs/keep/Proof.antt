@@ -6,12 +6,12 @@ use Rattle.shelving.proofs.Shelves.{kept_whole}
 use Rattle.shelving.proofs.keep.Tie as tie
 use Rattle.shelving.proofs.keep.Statement.{statement}
 
-returns : tie.Need-returns
+returns : tie.Need-returns-then-bytes-gt-MOST
 unfolding kept_over
 returns c = c.copy.ensures
 
-returns_2 : tie.Need-returns-2
-returns_2 c = c.copy2.ensures ∙ kept_whole _ _ c.before.before.if1.false
+returns_2 : tie.Need-returns-else-bytes-gt-MOST
+returns_2 c = c.copy-else-bytes-gt-MOST.ensures ∙ kept_whole _ _ c.if-bytes-gt-MOST.false
 
 pub keep_spec : {M : Type 1} → statement M
 keep_spec =

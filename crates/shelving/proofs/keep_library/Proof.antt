@@ -4,22 +4,17 @@ use Rattle.shelving.proofs.Shelves.{from_start, library_taken, library_refused}
 use Rattle.shelving.proofs.keep_library.Tie as tie
 use Rattle.shelving.proofs.keep_library.Statement.{statement}
 
-returns : tie.Need-returns
+returns : tie.Need-returns-in-Cards
 returns c =
-    let k = c.before.before.before in
-    let g = k.before.before.before in
-    let j = g.before.before in
-    let s = j.before.before.before.args in
-    library_taken (from_start s.«read».now s.n j.before.part.ensures) j.judge.ensures
-    g.cards.given.1 s.held.now k.keep.ensures c.put-answer.ensures
+    let s = c.args in
+    library_taken (from_start s.«read».now s.n c.part-bytes.ensures) c.judge.ensures
+    c.in-Cards.is s.held.now c.keep.ensures c.put_answer.ensures
 
-returns_2 : tie.Need-returns-2
+returns_2 : tie.Need-returns-in-Refused
 returns_2 c =
-    let g = c.before.before.before.before in
-    let j = g.before.before in
-    let s = j.before.before.before.args in
-    library_refused (from_start s.«read».now s.n j.before.part.ensures) j.judge.ensures g.f.given.1
-    c.Put-refused.ensures
+    let s = c.args in
+    library_refused (from_start s.«read».now s.n c.part-bytes.ensures) c.judge.ensures c.in-Refused.is
+    c.put_refused.ensures
 
 pub keep_library_spec : {M : Type 1} → statement M
 keep_library_spec =

@@ -5,24 +5,16 @@ use Rattle.shelving.proofs.Mended.{mend_taken, mend_refused}
 use Rattle.shelving.proofs.mend.Tie as tie
 use Rattle.shelving.proofs.mend.Statement.{statement}
 
-returns : tie.Need-returns
+returns : tie.Need-returns-in-Set
 returns c =
-    let k = c.before.before.before in
-    let t = k.before.before in
-    let g = t.before.before.before in
-    let m = g.before.before.before in
-    let h = m.before.before in
-    let s = h.before.before.before.args.shelf.now in
-    mend_taken s h.held.ensures refl m.mend.ensures g.n.given.1 t.held2.ensures k.keep.ensures
-    c.put-answer.ensures
+    let s = c.args.shelf.now in
+    mend_taken s c.held.ensures refl c.mend.ensures c.in-Set.is c.held-in-Set.ensures c.keep.ensures
+    c.put_answer.ensures
 
-returns_2 : tie.Need-returns-2
+returns_2 : tie.Need-returns-in-Refused
 returns_2 c =
-    let g = c.before.before.before.before in
-    let m = g.before.before.before in
-    let h = m.before.before in
-    let s = h.before.before.before.args.shelf.now in
-    mend_refused s h.held.ensures refl m.mend.ensures g.f.given.1 c.Put-refused.ensures
+    let s = c.args.shelf.now in
+    mend_refused s c.held.ensures refl c.mend.ensures c.in-Refused.is c.put_refused.ensures
 
 pub mend_spec : {M : Type 1} → statement M
 mend_spec =

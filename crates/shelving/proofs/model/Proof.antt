@@ -6,22 +6,17 @@ use Rattle.shelving.proofs.Cards.{record_said, record_none}
 use Rattle.shelving.proofs.model.Tie as tie
 use Rattle.shelving.proofs.model.Statement.{statement}
 
-returns : tie.Need-returns
+returns : tie.Need-returns-in-Record
 unfolding card_model
 returns c =
-    let p = c.before.before.before in
-    let g = p.before.before in
-    let l = g.before.before in
-    as_bytes (record_said _ _ l.locate.ensures g.place.given.1
-    (model_said l.before.before.before.args.name.now) p.part.ensures) c.write-model.ensures
+    as_bytes (record_said _ _ c.locate.ensures c.in-Record.is
+    (model_said c.args.name.now) c.part.ensures) c.write_model.ensures
 
-returns_2 : tie.Need-returns-2
+returns_2 : tie.Need-returns-in-Refused
 unfolding card_model
 returns_2 c =
-    let g = c.before.before.before.before in
-    let l = g.before.before in
-    as_bytes (record_none _ _ l.locate.ensures g.f.given.1
-    (model_said l.before.before.before.args.name.now)) c.Put-refused.ensures
+    as_bytes (record_none _ _ c.locate.ensures c.in-Refused.is
+    (model_said c.args.name.now)) c.put_refused.ensures
 
 pub model_spec : {M : Type 1} → statement M
 model_spec =

@@ -8,47 +8,40 @@ use Rattle.shelving.specs.Apart.{apart_said, apart_shelf}
 use Rattle.shelving.proofs.obey_apart.Tie as tie
 use Rattle.shelving.proofs.obey_apart.Statement.{statement}
 
-returns : tie.Need-returns
+returns : tie.Need-returns-in-Nothing
 unfolding apart_said apart_shelf
-returns c = rw c.enum_told.given.1 (write_nothing, refl)
+returns c = rw c.in-Nothing.is (write_nothing, refl)
 
-returns_2 : tie.Need-returns-2
+returns_2 : tie.Need-returns-in-TooLong
 unfolding apart_said apart_shelf
-returns_2 c = rw c.before.before.before.enum-told2.given.1 (c.put-answer.ensures, refl)
+returns_2 c = rw c.in-TooLong.is (c.put_answer.ensures, refl)
 
-returns_3 : tie.Need-returns-3
+returns_3 : tie.Need-returns-in-Error
 unfolding apart_said apart_shelf
 returns_3 c =
-    let w = c.before.before.before in
-    rw w.before.enum-told3.given.1 (as_bytes (ap error_line w.word2.ensures) c.put-error.ensures, refl)
+    rw c.in-Error.is (as_bytes (ap error_line c.word.ensures) c.put_error.ensures, refl)
 
-returns_4 : tie.Need-returns-4
+returns_4 : tie.Need-returns-in-Find
 unfolding apart_said apart_shelf
 returns_4 c =
-    let h = c.before.before.before in
-    let t = h.before.before.before in
-    rw t.enum-told4.given.1
-    (as_bytes (ap₂ card_place t.before.before.word.ensures h.held.ensures) c.find.ensures, refl)
+    rw c.in-Find.is
+    (as_bytes (ap₂ card_place c.word-name.ensures c.held.ensures) c.find.ensures, refl)
 
-returns_5 : tie.Need-returns-5
+returns_5 : tie.Need-returns-in-Clip
 unfolding apart_said apart_shelf
 returns_5 c =
-    let h = c.before.before.before in
-    let t = h.before.before.before in
-    rw t.enum-told5.given.1
-    (as_bytes (ap₂ card_clipped t.before.before.word.ensures h.held2.ensures) c.clip.ensures, refl)
+    rw c.in-Clip.is
+    (as_bytes (ap₂ card_clipped c.word-name.ensures c.held-in-Clip.ensures) c.clip.ensures, refl)
 
-returns_6 : tie.Need-returns-6
+returns_6 : tie.Need-returns-in-Mend
 unfolding apart_said apart_shelf
-returns_6 c = rw c.before.before.before.before.enum-told6.given.1 c.mend.ensures
+returns_6 c = rw c.in-Mend.is c.mend.ensures
 
-returns_7 : tie.Need-returns-7
+returns_7 : tie.Need-returns-in-Model
 unfolding apart_said apart_shelf
 returns_7 c =
-    let h = c.before.before.before in
-    let t = h.before.before.before in
-    rw t.enum-told7.given.1
-    (as_bytes (ap₂ card_model t.before.before.word.ensures h.held3.ensures) c.model.ensures, refl)
+    rw c.in-Model.is
+    (as_bytes (ap₂ card_model c.word-name.ensures c.held-in-Model.ensures) c.model.ensures, refl)
 
 pub obey_apart_spec : {M : Type 1} → statement M
 obey_apart_spec =

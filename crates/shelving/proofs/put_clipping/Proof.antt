@@ -10,19 +10,15 @@ use Rattle.shelving.specs.Shelf.{words_if}
 use Rattle.shelving.proofs.put_clipping.Tie as tie
 use Rattle.shelving.proofs.put_clipping.Statement.{statement}
 
-count_is : (c : tie.Joined1) → c.if1.count ≡ words_if c.before.before.args.wide
-count_is c =
-    ⊎_elim (λ w. w.1 ∙ ap words_if (sym w.0.taken)) (λ w. w.1 ∙ ap words_if (sym w.0.left)) c.if1.branch
-
 returns : tie.Need-returns
 returns c =
-    let f = c.before.before.before in
-    let j = f.before.before in
-    let s = j.before.before.args in
+    let s = c.args in
     as_bytes
     (ap (clip_line s.clipping.mask s.wide)
-    (f.firsts.ensures ∙ ap (λ (n : ℕ). take n s.clipping.numbers) (count_is j)))
-    c.clip-line.ensures
+    (c.firsts.ensures ∙ ap (λ (n : ℕ). take n s.clipping.numbers) (let count_is : c.if-wide.count ≡ words_if c.args.wide =
+    ⊎_elim (λ w. w.count-is ∙ ap words_if (sym w.if-wide.true)) (λ w. w.count-is ∙ ap words_if (sym w.if-wide.false))
+    c.if-wide.branch-raw in count_is)))
+    c.clip_line-n.ensures
 
 pub put_clipping_spec : {M : Type 1} → statement M
 put_clipping_spec =

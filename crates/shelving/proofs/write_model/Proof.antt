@@ -6,19 +6,16 @@ use Rattle.shelving.proofs.Lines.{model_taken, model_refused}
 use Rattle.shelving.proofs.write_model.Tie as tie
 use Rattle.shelving.proofs.write_model.Statement.{statement}
 
-returns : tie.Need-returns
+returns : tie.Need-returns-in-Bytes
 unfolding model_said
 returns c =
-    let p = c.before.before.before in
-    let g = p.before.before.before in
-    as_bytes (model_taken g.before.before.before.write-line.ensures g.n.given.1 p.part.ensures)
-    c.put-model.ensures
+    as_bytes (model_taken c.write_line.ensures c.in-Bytes.is c.part.ensures)
+    c.put_model.ensures
 
-returns_2 : tie.Need-returns-2
+returns_2 : tie.Need-returns-in-Refused
 unfolding model_said
 returns_2 c =
-    let g = c.before.before.before.before in
-    as_bytes (model_refused g.before.before.before.write-line.ensures g.f.given.1) c.Put-refused.ensures
+    as_bytes (model_refused c.write_line.ensures c.in-Refused.is) c.put_refused.ensures
 
 pub write_model_spec : {M : Type 1} → statement M
 write_model_spec =

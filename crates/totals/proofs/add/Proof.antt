@@ -7,16 +7,16 @@ use Rattle.totals.proofs.Amounts.{room_add, adds, adds_nothing}
 use Rattle.totals.proofs.add.Statement.{statement}
 use Rattle.totals.proofs.add.Tie as tie
 
-returns : tie.Need-returns
+returns : tie.Need-returns-then-x-eq0
 returns c =
-    let s = c.before in adds_nothing s.args.l.now s.args.n s.args.x s.requires
-    (ap (to_z w64) c.if1.true)
+    adds_nothing c.args.l.now c.args.n c.args.x c.requires
+    (ap (to_z w64) c.if-x-eq0.true)
 
-add_y : tie.Need-overflow-add-y
-add_y c = let s = c.before.before in room_add s.args.l.now s.args.n s.args.x s.requires
+add_y : tie.Need-overflow_add-y
+add_y c = room_add c.args.l.now c.args.n c.args.x c.requires
 
-returns_2 : tie.Need-returns-2
-returns_2 c = let s = c.before.before in adds s.args.l.now s.args.n s.args.x s.requires
+returns_2 : tie.Need-returns
+returns_2 c = adds c.args.l.now c.args.n c.args.x c.requires
 
 pub add_spec : {M : Type 1} → statement M
 add_spec =

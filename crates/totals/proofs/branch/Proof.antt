@@ -4,17 +4,17 @@ use Rattle.totals.proofs.Amounts.{room_from, room_to, branch_gives}
 use Rattle.totals.proofs.branch.Statement.{statement}
 use Rattle.totals.proofs.branch.Tie as tie
 
-add_y : tie.Need-overflow-add-y
+add_y : tie.Need-overflow_add-y
 add_y c =
-    room_from c.before.args.a.now c.before.args.from c.before.args.to c.before.args.x
-    c.before.requires
+    room_from c.args.a.now c.args.from c.args.to c.args.x
+    c.requires
 
-sub_z : tie.Need-overflow-sub-z
-sub_z c = let s = c.before.before in room_to s.args.a.now s.args.from s.args.to s.args.x s.requires
+sub_z : tie.Need-overflow_sub-z
+sub_z c = room_to c.args.a.now c.args.from c.args.to c.args.x c.requires
 
 returns : tie.Need-returns
 returns c =
-    let s = c.before.before in branch_gives s.args.a.now s.args.from s.args.to s.args.x s.requires
+    branch_gives c.args.a.now c.args.from c.args.to c.args.x c.requires
 
 pub branch_spec : {M : Type 1} → statement M
 branch_spec =

@@ -9,31 +9,24 @@ use Rattle.totals.proofs.put.Statement.{statement}
 use Rattle.totals.proofs.put.Tie as tie
 
 -- earlier places, from later ones
-abbrev after_from_roles : tie.After-to → tie.After-from-roles
-after_from_roles c = c.before.before.before.before
-
-abbrev after_to : tie.After-hand-out → tie.After-to
-after_to c = c.before.before.before.before
-
 branches_requires : tie.Need-branches-requires
 branches_requires c κs = (
-  subst (Wired roles) (sym (after_from_roles c).from-roles.ensures) (wired_froms (rows_for false)),
-  subst (Wired roles) (sym c.before.before.before.to-roles.ensures) (wired_tos (rows_for false)),
+  subst (Wired roles) (sym c.from_roles-from.ensures) (wired_froms (rows_for false)),
+  subst (Wired roles) (sym c.to_roles-to.ensures) (wired_tos (rows_for false)),
   room_nothing,
-  (after_from_roles c).before.requires.within,
+  c.requires.within,
 )
 
-hand_out_requires : tie.Need-hand-out-requires
+hand_out_requires : tie.Need-hand_out-requires
 hand_out_requires c κs =
-    let s = (after_from_roles c.before.before.before).before in
-    (s.pre.wired, s.pre.room, amounts_within _ _ _ _ c.before.before.branches.ensures s.pre.within)
+    (c.requires.wired, c.requires.room, amounts_within _ _ _ _ c.branches.ensures c.requires.within)
 
 returns : tie.Need-returns
 returns c =
     amounts_out _ _ _ _
-    (rw ((after_from_roles (after_to c)).from-roles.ensures, (after_to c).before.before.before.to-roles.ensures)
-    at c.before.before.before.branches.ensures)
-    _ c.hand-out.ensures
+    (rw (c.from_roles-from.ensures, c.to_roles-to.ensures)
+    at c.branches.ensures)
+    _ c.hand_out.ensures
 
 pub put_spec : {M : Type 1} → statement M
 put_spec =

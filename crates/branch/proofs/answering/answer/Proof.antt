@@ -13,38 +13,22 @@ use Rattle.branch.proofs.answering.answer.Statement.{statement}
 use Rattle.branch.proofs.answering.answer.Tie as tie
 
 -- the entry, behind the card made ready
-abbrev start : tie.After-prepare → tie.Start
-start c = c.before.before.before
-
-work_out_requires : tie.Need-work-out-requires
+work_out_requires : tie.Need-work_out-x-requires
 work_out_requires c κs =
-    let ready = c.before in
-    let s = start ready in
     record {
       table_is = search rules;
-      ready = subst IsReady (sym ready.prepare.ensures) (ready_made s.args.c s.pre.0);
+      ready = subst IsReady (sym c.prepare.ensures) (ready_made c.args.c c.requires.0);
       long = search rules;
-      near = s.pre.1;
+      near = c.requires.1;
     }
 
-worked : (c : tie.After-work-out) →
-    c.work-out.result
-    ≡ outcome_of (start c.before.before).args.c (map given_back (start c.before.before).args.t2)
-worked c =
-    let ready = c.before.before in
-    let s = start ready in
-    let same = ap (λ (r : Ready). r.card) ready.prepare.ensures ∙ ready_card s.args.c in
-    c.work-out.ensures ∙ ap (λ (x : WorkedCard). outcome_of x (map given_back s.args.t2)) same
-
-returns_2 : tie.Need-returns-2
+returns_2 : tie.Need-returns-in-Ticks
 returns_2 c =
-    let ticks = c.before.before in
-    reply_over (worked ticks.before.before) ticks.o.given.1 refl c.turned-away.ensures
+    reply_over (let worked_ : c.work_out-x.result ≡ outcome_of c.args.c (map given_back c.args.v) = let same = ap (λ (r : Ready). r.card) c.prepare.ensures ∙ ready_card c.args.c in c.work_out-x.ensures ∙ ap (λ (x : WorkedCard). outcome_of x (map given_back c.args.v)) same in worked_) c.in-Ticks.is refl c.turned_away.ensures
 
-returns_3 : tie.Need-returns-3
+returns_3 : tie.Need-returns-in-Injection
 returns_3 c =
-    let injection = c.before.before in
-    reply_over (worked injection.before.before) injection.o2.given.1 refl c.turned-away2.ensures
+    reply_over (let worked_ : c.work_out-x.result ≡ outcome_of c.args.c (map given_back c.args.v) = let same = ap (λ (r : Ready). r.card) c.prepare.ensures ∙ ready_card c.args.c in c.work_out-x.ensures ∙ ap (λ (x : WorkedCard). outcome_of x (map given_back c.args.v)) same in worked_) c.in-Injection.is refl c.turned_away-in-Injection.ensures
 
 pub answer_spec : {M : Type 1} → statement M
 answer_spec =
@@ -58,6 +42,6 @@ answer_spec =
     (λ c κs. search rules)
     (λ c. search rules)
     (λ c κs. search rules)
-    (λ c. reply_given (worked c.before.before.before) c.before.enum_told.given.1)
+    (λ c. reply_given (let worked_ : c.work_out-x.result ≡ outcome_of c.args.c (map given_back c.args.v) = let same = ap (λ (r : Ready). r.card) c.prepare.ensures ∙ ready_card c.args.c in c.work_out-x.ensures ∙ ap (λ (x : WorkedCard). outcome_of x (map given_back c.args.v)) same in worked_) c.in-Within.is)
     returns_2
     returns_3)

@@ -11,30 +11,18 @@ use Rattle.branch.proofs.answering.card_currents.Statement.{statement}
 use Rattle.branch.proofs.answering.card_currents.Tie as tie
 
 -- what is kept of the voltages that the card looks at
-abbrev start : tie.After-keep-all → tie.Start
-start c = c.before.before.before
-
 answer_requires : tie.Need-answer-requires
 answer_requires c κs =
-    let k = c.before.before in ((start k).requires, within_near k.keep_all.ensures c.before.if1.true)
+    (c.requires, within_near c.keep_all-k.ensures c.if-k.true)
 
--- those are the definition's
-seen : (c : tie.After-looked-at) →
-    reply_of (at_seen c.before.before.args.c c.looked-at.result)
-    ≡ reply_of (at_volts c.before.before.args.c c.before.before.args.volts.now)
-seen c = ap (λ (l : List ℤ). reply_of (at_seen c.before.before.args.c l)) c.looked-at.ensures
-
-returns : tie.Need-returns
+returns : tie.Need-returns-then-k
 returns c =
-    let taken = c.before.before in
-    let k = taken.before in
-    reply_within (start k).args.c k.keep_all.ensures taken.if1.true c.answer.ensures ∙ seen k.before
+    reply_within c.args.c c.keep_all-k.ensures c.if-k.true c.answer.ensures ∙ (let seen_ : reply_of (at_seen c.args.c c.looked_at-seen.result) ≡ reply_of (at_volts c.args.c c.args.volts.now) = ap (λ (l : List ℤ). reply_of (at_seen c.args.c l)) c.looked_at-seen.ensures in seen_)
 
-returns_2 : tie.Need-returns-2
+returns_2 : tie.Need-returns
 returns_2 c =
-    let k = c.before.before in
-    reply_outside (start k).args.c k.keep_all.ensures c.before.if1.false c.turned-away.ensures
-    ∙ seen k.before
+    reply_outside c.args.c c.keep_all-k.ensures c.if-k.false c.turned_away.ensures
+    ∙ (let seen_ : reply_of (at_seen c.args.c c.looked_at-seen.result) ≡ reply_of (at_volts c.args.c c.args.volts.now) = ap (λ (l : List ℤ). reply_of (at_seen c.args.c l)) c.looked_at-seen.ensures in seen_)
 
 pub card_currents_spec : {M : Type 1} → statement M
 card_currents_spec =

@@ -13,38 +13,38 @@ use Rattle.branch.proofs.Kept.{KeptUp, kept_none, kept_more, keeps_all, keeps_no
 use Rattle.branch.proofs.answering.keep_all.Statement.{statement}
 use Rattle.branch.proofs.answering.keep_all.Tie as tie
 
-abbrev invariant_loop : tie.invariant-loop
+abbrev invariant_loop : tie.invariant-loop-k
 invariant_loop volts kept₀ k₀ kept k = KeptUp volts k kept
 
-abbrev decreases_loop : tie.decreases-loop
+abbrev decreases_loop : tie.decreases-loop-k
 decreases_loop volts kept₀ k₀ kept k = roles - k
 
 -- as many voltages as roles
-long : (c : tie.Start invariant_loop decreases_loop) → length c.args.t1 ≡ roles
+long : (c : tie.Start invariant_loop decreases_loop) → length c.args.volts ≡ roles
 long c = search rules
 
 -- the turn's own place, behind the call
-abbrev in_turn : tie.After-keep invariant_loop decreases_loop → tie.In-loop invariant_loop decreases_loop
+abbrev in_turn : tie.After-keep invariant_loop decreases_loop → tie.In-loop-k invariant_loop decreases_loop
 in_turn c = c.before.before
 
 -- the voltage of the turn
 abbrev voltage : tie.After-keep invariant_loop decreases_loop → ℤ
-voltage c = get_or (in_turn c).before.before.args.t1 (in_turn c).before.loop.k (pos 0)
+voltage c = get_or (in_turn c).args.volts (in_turn c).loop-k.k (pos 0)
 
 found : (c : tie.After-keep invariant_loop decreases_loop) → c.keep.result ≡ keeping (voltage c)
 found c = c.keep.ensures ∙ ap keeping (to_z-of_z w64 (voltage c) (search rules))
 
-returns : tie.Need-returns invariant_loop decreases_loop
+returns : tie.Need-returns-in_default invariant_loop decreases_loop
 returns c =
-    let turn = c.before.before in
-    let off = outside_is {v = voltage turn} refl (found turn) c.enum_told.given.1 in
-    keeps_none (long (in_turn turn).before.before) (in_turn turn).loop-test.true off
+    let turn = c.before in
+    let off = outside_is {v = voltage turn} refl (found turn) c.in_default.is in
+    keeps_none (long (in_turn turn).before.before) (in_turn turn).loop-k-test.true off
 
-loop_again : tie.Need-loop-preserved invariant_loop decreases_loop
+loop_again : tie.Need-loop-k-preserved invariant_loop decreases_loop
 loop_again c =
-    let turn = c.before.before.before in
-    let is = kept_is {v = voltage turn} refl (found turn) c.before.x.given.1 in
-    kept_more (in_turn turn).loop-test.true is (in_turn turn).before.loop.invariant
+    let turn = c.before in
+    let is = kept_is {v = voltage turn} refl (found turn) c.in-Kept.is in
+    kept_more (in_turn turn).loop-k-test.true is (in_turn turn).loop-k.invariant
 
 pub keep_all_spec : {M : Type 1} → statement M
 keep_all_spec =
@@ -64,4 +64,4 @@ keep_all_spec =
     (λ c. search rules)
     (λ c. search rules)
     loop_again
-    (λ c. keeps_all (long c.before.before) c.loop-test.false c.before.loop.invariant))
+    (λ c. keeps_all (long c.before.before) c.loop-k-test.false c.loop-k.invariant))

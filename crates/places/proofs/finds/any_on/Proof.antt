@@ -13,45 +13,45 @@ use Rattle.places.proofs.Scans.{Passed, at_start, goes_on, any_here, any_nowhere
 use Rattle.places.proofs.finds.any_on.Statement.{statement}
 use Rattle.places.proofs.finds.any_on.Tie as tie
 
-abbrev invariant_loop : tie.invariant-loop
+abbrev invariant_loop : tie.invariant-loop-i
 invariant_loop issues cards n i₀ i = (i ≤ transistors_most) × Passed (stands_on_at n issues cards) (below transistors_most) i
 
-abbrev decreases_loop : tie.decreases-loop
+abbrev decreases_loop : tie.decreases-loop-i
 decreases_loop issues cards n i₀ i = transistors_most - i
 
 -- earlier places, from later ones
-abbrev at_loop : tie.After-is-on invariant_loop decreases_loop → tie.At-loop invariant_loop decreases_loop
-at_loop c = c.before.before.before.before
+abbrev at_loop : tie.After-is_on invariant_loop decreases_loop → tie.At-loop-i invariant_loop decreases_loop
+at_loop c = c.before.before.before.before.before.before
 
 long : length (below transistors_most) ≡ transistors_most
 long = length_up (λ (i : ℕ). i) transistors_most 0
 
 -- the test at each place
-abbrev test : tie.At-loop invariant_loop decreases_loop → ℕ → Bool
-test l = stands_on_at l.before.args.n l.before.args.issues.now l.before.args.cards.now
+abbrev test : tie.At-loop-i invariant_loop decreases_loop → ℕ → Bool
+test l = stands_on_at l.args.n l.args.issues.now l.args.cards.now
 
 -- what `is_on` says is the test at the loop's place
-tested : (c : tie.After-is-on invariant_loop decreases_loop) →
-    test (at_loop c) (get_or (below transistors_most) (at_loop c).loop.i 0) ≡ c.is-on.result
+tested : (c : tie.After-is_on invariant_loop decreases_loop) →
+    test (at_loop c) (get_or (below transistors_most) (at_loop c).loop-i.i 0) ≡ c.is_on.result
 tested c =
-    ap (test (at_loop c)) (below_at transistors_most (at_loop c).loop.i (omega arith)) ∙ sym c.is-on.ensures
+    ap (test (at_loop c)) (below_at transistors_most (at_loop c).loop-i.i (omega arith)) ∙ sym c.is_on.ensures
 
-loop_holds : tie.Need-loop-init invariant_loop decreases_loop
+loop_holds : tie.Need-loop-i-init invariant_loop decreases_loop
 loop_holds c = (search rules, at_start)
 
-returns : tie.Need-returns invariant_loop decreases_loop
+returns : tie.Need-returns-then-is_on invariant_loop decreases_loop
 returns c =
     let l = at_loop c.before in
-    let h = long in any_here 0 (omega arith) (tested c.before ∙ c.if1.true) l.loop.inv.1
+    let h = long in any_here 0 (omega arith) (tested c.before ∙ c.if-is_on.true) l.loop-i.invariant.1
 
-loop_again : tie.Need-loop-preserved invariant_loop decreases_loop
+loop_again : tie.Need-loop-i-preserved invariant_loop decreases_loop
 loop_again c =
     let l = at_loop c.before in
     let h = long in
-    (omega arith, goes_on 0 (omega arith) (tested c.before ∙ c.if1.false) l.loop.inv.1)
+    (omega arith, goes_on 0 (omega arith) (tested c.before ∙ c.if-is_on.false) l.loop-i.invariant.1)
 
-returns_2 : tie.Need-returns-2 invariant_loop decreases_loop
-returns_2 c = let h = long in any_nowhere (omega arith) c.before.loop.invariant.1
+returns_2 : tie.Need-returns invariant_loop decreases_loop
+returns_2 c = let h = long in any_nowhere (omega arith) c.loop-i.invariant.1
 
 pub any_on_spec : {M : Type 1} → statement M
 any_on_spec =

@@ -7,14 +7,14 @@ use Rattle.places.proofs.Scans.{first_place, place_is}
 use Rattle.places.proofs.finds.transistor_at.Statement.{statement}
 use Rattle.places.proofs.finds.transistor_at.Tie as tie
 
-returns : tie.Need-returns
-returns c = simp (eq-eqb _ _ c.if1.true)
+returns : tie.Need-returns-then-n-eq0
+returns c = simp (eq-eqb _ _ c.if-n-eq0.true)
 
-returns_2 : tie.Need-returns-2
+returns_2 : tie.Need-returns
 returns_2 c =
-    let a = c.before.before.args in
-    simp (ne_eqb _ _ c.before.if1.false)
-    (c.find-transistor.ensures ∙ place_is transistors_most _ (first_place transistors_most a.n a.issues.now))
+    let a = c.args in
+    simp (ne_eqb _ _ c.if-n-eq0.false)
+    (c.find_transistor.ensures ∙ place_is transistors_most _ (first_place transistors_most a.n a.issues.now))
 
 pub transistor_at_spec : {M : Type 1} → statement M
 transistor_at_spec = tie.close (tie.spec returns (λ c κs. search rules) returns_2)
