@@ -4,17 +4,17 @@ use Rattle.small.proofs.Small.{below_or}
 use Rattle.small.proofs.all_small.Statement.{statement}
 use Rattle.small.proofs.all_small.Tie as tie
 
-returns : tie.Need-returns
+returns : tie.Need-returns-then-few
 returns c = λ e. record {
-  totals_small = c.before.digits_of.ensures (ltb-true _ _ e);
-  near = c.before.before.requires.1 c.if1.true;
+  totals_small = c.digits_of-own.ensures (ltb-true _ _ e);
+  near = c.requires.1 c.if-few.true;
 }
 
-returns_2 : tie.Need-returns-2
+returns_2 : tie.Need-returns
 returns_2 c = λ e.
     let o = c.before.before in
-    let b = below_or o.digits_of.result c.digits-of-both.result (ltb-true _ _ e) in
-    record { totals_small = o.digits_of.ensures b.0; near = c.digits-of-both.ensures b.1 }
+    let b = below_or o.digits_of-own.result c.digits_of_both.result (ltb-true _ _ e) in
+    record { totals_small = o.digits_of-own.ensures b.0; near = c.digits_of_both.ensures b.1 }
 
 pub all_small_spec : {M : Type 1} → statement M
 all_small_spec = tie.close (tie.spec (λ c κs. search rules) returns (λ c κs. search rules) returns_2)

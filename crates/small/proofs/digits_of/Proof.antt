@@ -6,22 +6,22 @@ use Rattle.small.proofs.Small.{SmallTo, small_none, small_more, small_all}
 use Rattle.small.proofs.digits_of.Statement.{statement}
 use Rattle.small.proofs.digits_of.Tie as tie
 
-abbrev invariant_loop : tie.invariant-loop
+abbrev invariant_loop : tie.invariant-loop-k
 invariant_loop numbers digits₀ k₀ digits k = (k ≤ nodes_most) × SmallTo numbers digits k
 
-abbrev decreases_loop : tie.decreases-loop
+abbrev decreases_loop : tie.decreases-loop-k
 decreases_loop numbers digits₀ k₀ digits k = nodes_most - k
 
-loop_again : tie.Need-loop-preserved invariant_loop decreases_loop
+loop_again : tie.Need-loop-k-preserved invariant_loop decreases_loop
 loop_again c =
     let l = c.before.before.before in
-    let s = l.before.args in
-    let t : held (get_or s.numbers.now l.loop.k (pos 0)) ≡ get_or s.numbers.now l.loop.k (pos 0) =
+    let s = l.args in
+    let t : held (get_or s.numbers.now l.loop-k.k (pos 0)) ≡ get_or s.numbers.now l.loop-k.k (pos 0) =
     search rules in
-    (omega arith, small_more t c.around.ensures l.loop.invariant.1)
+    (omega arith, small_more t c.around-digits.ensures l.loop-k.invariant.1)
 
 returns : tie.Need-returns invariant_loop decreases_loop
-returns c = small_all c.loop-test.false c.before.loop.invariant.1
+returns c = small_all c.loop-k-test.false c.loop-k.invariant.1
 
 pub digits_of_spec : {M : Type 1} → statement M
 digits_of_spec =
