@@ -4,14 +4,14 @@ use borrow.Author.Rules.{rules}
 use Rattle.placing.proofs.is_split.Statement.{statement}
 use Rattle.placing.proofs.is_split.Tie as tie
 
-abbrev first : tie.After-parts2 → tie.After-parts
+abbrev first : tie.After-parts-outer → tie.After-parts-inner
 first c = c.before.before.before.before
 
-returns : tie.Need-returns
-returns c = rw (sym (first c.before).parts.ensures ∙ c.if1.true)
+returns : tie.Need-returns-then-inner
+returns c = rw (sym (first c.before).parts-inner.ensures ∙ c.if-inner.true)
 
-returns_2 : tie.Need-returns-2
-returns_2 c = rw (sym (first c.before).parts.ensures ∙ c.if1.false) c.before.parts2.ensures
+returns_2 : tie.Need-returns-else-inner
+returns_2 c = rw (sym (first c.before).parts-inner.ensures ∙ c.if-inner.false) c.parts-outer.ensures
 
 pub is_split_spec : {M : Type 1} → statement M
 is_split_spec =

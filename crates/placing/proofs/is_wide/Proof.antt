@@ -10,18 +10,18 @@ use Rattle.places.specs.laws.Founds.{not_there, is_there}
 use Rattle.placing.proofs.is_wide.Statement.{statement}
 use Rattle.placing.proofs.is_wide.Tie as tie
 
-there : (c : tie.Else1) →
-    number_place cards_most c.before.before.args.n c.before.before.args.held.now
-    ≡ some c.before.card-at.result
+there : (c : tie.Else-i-ge-CARDS) →
+    number_place cards_most c.args.n c.args.held.now
+    ≡ some c.card_at-i.result
 there c =
-    let e = c.before.card-at.ensures in
-    is_there cards_most _ (subst (λ (k : ℕ). k < cards_most) e c.if1.false) ∙ ap some (sym e)
+    let e = c.card_at-i.ensures in
+    is_there cards_most _ (subst (λ (k : ℕ). k < cards_most) e c.if-i-ge-CARDS.false) ∙ ap some (sym e)
 
-returns : tie.Need-returns
+returns : tie.Need-returns-then-i-ge-CARDS
 returns c =
-    let a = c.before.before.args in
+    let a = c.args in
     rw (not_there cards_most (first_at cards_most a.n a.held.now) (eqb a.n 0)
-    (subst (λ (k : ℕ). cards_most ≤ k) c.before.card-at.ensures c.if1.true))
+    (subst (λ (k : ℕ). cards_most ≤ k) c.card_at-i.ensures c.if-i-ge-CARDS.true))
 
 pub is_wide_spec : {M : Type 1} → statement M
 is_wide_spec =
@@ -32,4 +32,4 @@ is_wide_spec =
     (λ c. search rules)
     (λ c. search rules)
     (λ c. search rules)
-    (λ c. rw (there c.before)))
+    (λ c. rw (there c.before.before)))

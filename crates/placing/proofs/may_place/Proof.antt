@@ -16,76 +16,76 @@ use Rattle.placing.proofs.may_place.Statement.{statement}
 use Rattle.placing.proofs.may_place.Tie as tie
 
 -- earlier places, from later ones
-abbrev start : tie.Else1 → tie.Start
+abbrev start : tie.Else-i-ge-CARDS → tie.Start
 start c = c.before.before
 
-abbrev else1 : tie.Else2 → tie.Else1
+abbrev else1 : tie.Else-any_off → tie.Else-i-ge-CARDS
 else1 c = c.before.before.before
 
-abbrev else2 : tie.Else3 → tie.Else2
+abbrev else2 : tie.Else-is_split → tie.Else-any_off
 else2 c = c.before.before
 
-abbrev else3 : tie.Else4 → tie.Else3
+abbrev else3 : tie.Else-free-ge-TRANSISTORS → tie.Else-is_split
 else3 c = c.before.before
 
-there : (c : tie.Else1) →
-    number_place cards_most (start c).args.n (start c).args.held.now ≡ some c.before.card-at.result
+there : (c : tie.Else-i-ge-CARDS) →
+    number_place cards_most (start c).args.n (start c).args.held.now ≡ some c.card_at-i.result
 there c =
-    let e = c.before.card-at.ensures in
-    is_there cards_most _ (subst (λ (k : ℕ). k < cards_most) e c.if1.false) ∙ ap some (sym e)
+    let e = c.card_at-i.ensures in
+    is_there cards_most _ (subst (λ (k : ℕ). k < cards_most) e c.if-i-ge-CARDS.false) ∙ ap some (sym e)
 
-on : (c : tie.Else2) → any_of (leb nodes_most) (start (else1 c)).args.on.now ≡ false
-on c = sym c.before.any-off.ensures ∙ c.if2.false
+on : (c : tie.Else-any_off) → any_of (leb nodes_most) (start (else1 c)).args.on.now ≡ false
+on c = sym c.any_off.ensures ∙ c.if-any_off.false
 
-joined : (c : tie.Else3) →
-    torn_on (ties_at (start (else1 (else2 c))).args.switches.now (else1 (else2 c)).before.card-at.result)
+joined : (c : tie.Else-is_split) →
+    torn_on (ties_at (start (else1 (else2 c))).args.switches.now (else1 (else2 c)).before.card_at-i.result)
     (start (else1 (else2 c))).args.on.now ≡ false
-joined c = sym c.before.is_split.ensures ∙ c.if3.false
+joined c = sym c.is_split.ensures ∙ c.if-is_split.false
 
-returns : tie.Need-returns
+returns : tie.Need-returns-then-i-ge-CARDS
 returns c =
-    let a = c.before.before.args in
+    let a = c.args in
     stop_unknown a.held.now a.switches.now a.issues.now a.next a.n a.on.now
     (not_there cards_most (first_at cards_most a.n a.held.now) (eqb a.n 0)
-    (subst (λ (k : ℕ). cards_most ≤ k) c.before.card-at.ensures c.if1.true))
+    (subst (λ (k : ℕ). cards_most ≤ k) c.card_at-i.ensures c.if-i-ge-CARDS.true))
 
-returns_2 : tie.Need-returns-2
+returns_2 : tie.Need-returns-then-any_off
 returns_2 c =
     let e = c.before.before.before in
     let a = (start e).args in
     stop_off a.held.now a.switches.now a.issues.now a.next a.n a.on.now _ (there e)
-    (sym c.before.any-off.ensures ∙ c.if2.true)
+    (sym c.any_off.ensures ∙ c.if-any_off.true)
 
-returns_3 : tie.Need-returns-3
+returns_3 : tie.Need-returns-then-is_split
 returns_3 c =
     let e = c.before.before in
     let a = (start (else1 e)).args in
     stop_split a.held.now a.switches.now a.issues.now a.next a.n a.on.now _ (there (else1 e))
-    (on e) (sym c.before.is_split.ensures ∙ c.if3.true)
+    (on e) (sym c.is_split.ensures ∙ c.if-is_split.true)
 
-returns_4 : tie.Need-returns-4
+returns_4 : tie.Need-returns-then-free-ge-TRANSISTORS
 returns_4 c =
     let e = else2 c.before.before in
     let a = (start (else1 e)).args in
     stop_full a.held.now a.switches.now a.issues.now a.next a.n a.on.now _ (there (else1 e))
     (on e) (joined c.before.before)
-    (subst (λ (k : ℕ). transistors_most ≤ k) c.before.find-transistor.ensures c.if4.true)
+    (subst (λ (k : ℕ). transistors_most ≤ k) c.find_transistor-free.ensures c.if-free-ge-TRANSISTORS.true)
 
-returns_5 : tie.Need-returns-5
+returns_5 : tie.Need-returns-then-next-gt-ISSUES
 returns_5 c =
     let e = else2 (else3 c.before) in
     let a = (start (else1 e)).args in
     stop_used_up a.held.now a.switches.now a.issues.now a.next a.n a.on.now _ (there (else1 e))
     (on e) (joined (else3 c.before))
-    (subst (λ (k : ℕ). k < transistors_most) c.before.before.find-transistor.ensures c.before.if4.false)
-    c.if5.true
+    (subst (λ (k : ℕ). k < transistors_most) c.find_transistor-free.ensures c.if-free-ge-TRANSISTORS.false)
+    c.if-next-gt-ISSUES.true
 
-returns_6 : tie.Need-returns-6
+returns_6 : tie.Need-returns
 returns_6 c =
     let e = else2 (else3 c.before) in
     let a = (start (else1 e)).args in
     goes a.held.now a.switches.now a.issues.now a.next a.n a.on.now _ (there (else1 e)) (on e)
-    (joined (else3 c.before)) _ c.before.before.find-transistor.ensures c.before.if4.false c.if5.false
+    (joined (else3 c.before)) _ c.find_transistor-free.ensures c.if-free-ge-TRANSISTORS.false c.if-next-gt-ISSUES.false
 
 pub may_place_spec : {M : Type 1} → statement M
 may_place_spec =
