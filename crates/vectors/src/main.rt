@@ -4,8 +4,9 @@
 #![tactic(auto)]
 
 use branch::{Admission, BRANCHES, ROLES};
-use libc::{STDIN_FILENO, STDOUT_FILENO};
 use refusal::Refusal;
+use std::io;
+use std::io::Read;
 
 // Where a row has its record, after how many bytes it has; the most that there are; where after them the row has its
 // voltages, what overloads first and its currents; the row's bytes.
@@ -116,20 +117,20 @@ fn agrees(row: &[u8]) -> bool {
     same_reply(row, &row[RECORD_AT..RECORD_AT + n])
 }
 
-fn report(n: u64, what: &[u8]) {
-    io::print_decimal(STDOUT_FILENO, n);
-    io::write_all(STDOUT_FILENO, what);
+fn report(rt: &HostRuntime, n: u64, what: &str) -> io::Result<()> {
+    println!(rt; "{n} {what}")
 }
 
-fn main() {
+// A row that is cut short, or cannot be read, ends them.
+fn main(rt: HostRuntime) -> io::Result<()> {
+    let mut rows = rt.stdin();
     let mut good: u64 = 0;
     let mut bad: u64 = 0;
     let mut left = ROWS;
     while 0 < left {
         left -= 1;
         let mut row = [0u8; ROW];
-        let n = io::read_full(STDIN_FILENO, &mut row);
-        if n < ROW {
+        if rows.read_exact(&mut row).is_err() {
             left = 0;
         } else if agrees(&row) {
             good = (good + 1) % COUNTED;
@@ -137,6 +138,6 @@ fn main() {
             bad = (bad + 1) % COUNTED;
         }
     }
-    report(good, b" agree\n");
-    report(bad, b" differ\n");
+    report(&rt, good, "agree")?;
+    report(&rt, bad, "differ")
 }

@@ -12,30 +12,18 @@ use Rattle.slices.proofs.Raised.{half_small, lower_half_small}
 use Rattle.judging.proofs.raise.Statement.{statement}
 use Rattle.judging.proofs.raise.Tie as tie
 
-is_up : (c : tie.After-known-told) → pos c.before.i.given.0.0 ≡ c.before.before.before.before.args.v
-is_up c =
-    let o = c.before.before.before in
-    let s = o.before in
-    opened (to_z-of_z w64 s.args.v s.ranges.v) o.«open».ensures c.before.i.given.1
-
-is_down : (c : tie.After-known-told2) → negsuc c.before.i2.given.0.0 ≡ c.before.before.before.before.args.v
-is_down c =
-    let o = c.before.before.before in
-    let s = o.before in
-    opened (to_z-of_z w64 s.args.v s.ranges.v) o.«open».ensures c.before.i2.given.1
-
-add_result : tie.Need-overflow-add-result
+add_result : tie.Need-overflow_add-result
 add_result c =
-    let small = half_small _ (is_up c) c.before.before.before.before.ranges.v in record { fits = omega arith }
+    let small = half_small _ (let is_up_ : pos c.in-Pos.n ≡ c.args.v = opened (to_z-of_z w64 c.args.v c.ranges.v) c.open-i.ensures c.in-Pos.is in is_up_) c.ranges.v in record { fits = omega arith }
 
-sub_result_2 : tie.Need-overflow-sub-result-2
+sub_result_2 : tie.Need-overflow_sub-result-in-NegSuc
 sub_result_2 c =
-    let small = lower_half_small _ (is_down c) c.before.before.before.before.ranges.v in omega arith
+    let small = lower_half_small _ (let is_down_ : negsuc c.in-NegSuc.n ≡ c.args.v = opened (to_z-of_z w64 c.args.v c.ranges.v) c.open-i.ensures c.in-NegSuc.is in is_down_) c.ranges.v in omega arith
 
-returns_2 : tie.Need-returns-2
+returns_2 : tie.Need-returns-in-NegSuc
 returns_2 c =
-    let n = c.before.i2.given.0.0 in
-    let e : signed_span - 1 - n ≡ signed_span - suc n = omega arith in e ∙ ap (raised_by signed_span) (is_down c)
+    let n = c.in-NegSuc.n in
+    let e : signed_span - 1 - n ≡ signed_span - suc n = omega arith in e ∙ ap (raised_by signed_span) (let is_down_ : negsuc c.in-NegSuc.n ≡ c.args.v = opened (to_z-of_z w64 c.args.v c.ranges.v) c.open-i.ensures c.in-NegSuc.is in is_down_)
 
 pub raise_spec : {M : Type 1} → statement M
 raise_spec =
@@ -47,5 +35,5 @@ raise_spec =
     (λ c. search rules)
     (λ c. search rules)
     sub_result_2
-    (λ c. ap (raised_by signed_span) (is_up c))
+    (λ c. ap (raised_by signed_span) (let is_up_ : pos c.in-Pos.n ≡ c.args.v = opened (to_z-of_z w64 c.args.v c.ranges.v) c.open-i.ensures c.in-Pos.is in is_up_))
     returns_2)

@@ -8,54 +8,32 @@ use Rattle.slices.proofs.Raised.{Raised, raised, up_stands, up_leaves, down_stan
 use Rattle.judging.proofs.stand.Statement.{statement}
 use Rattle.judging.proofs.stand.Tie as tie
 
-total_raised : (c : tie.After-raise3) →
-    Raised c.before.before.raise.result c.before.before.before.before.args.total
-total_raised c =
-    let s = c.before.before.before.before in
-    raised (to_z-of_z w64 s.args.total s.ranges.total) s.ranges.total c.before.before.raise.ensures
-
-coming_raised : (c : tie.After-raise3) →
-    Raised c.before.raise2.result c.before.before.before.before.args.coming
-coming_raised c =
-    let s = c.before.before.before.before in
-    raised (to_z-of_z w64 s.args.coming s.ranges.coming) s.ranges.coming c.before.raise2.ensures
-
-going_raised : (c : tie.After-raise3) → Raised c.raise3.result c.before.before.before.before.args.going
-going_raised c =
-    let s = c.before.before.before.before in
-    raised (to_z-of_z w64 s.args.going s.ranges.going) s.ranges.going c.raise3.ensures
-
-returns : tie.Need-returns
+returns : tie.Need-returns-then-coming-going
 returns c =
-    let s = c.before in
-    same_stands s.ranges.total s.ranges.coming
-    (sym (to_z-of_z w64 s.args.coming s.ranges.coming) ∙ ap (to_z w64) c.if1.true
-    ∙ to_z-of_z w64 s.args.going s.ranges.going)
-    (to_z-of_z w64 s.args.total s.ranges.total)
+    same_stands c.ranges.total c.ranges.coming
+    (sym (to_z-of_z w64 c.args.coming c.ranges.coming) ∙ ap (to_z w64) c.if-coming-going.true
+    ∙ to_z-of_z w64 c.args.going c.ranges.going)
+    (to_z-of_z w64 c.args.total c.ranges.total)
 
-returns_2 : tie.Need-returns-2
+returns_2 : tie.Need-returns-then-up-t
 returns_2 c =
-    let r = c.before.before.before in
-    up_stands (total_raised r) (coming_raised r) (going_raised r)
-    c.before.before.if2.true c.before.if3.true
+    up_stands (let total_raised_ : Raised c.raise-t.result c.args.total = raised (to_z-of_z w64 c.args.total c.ranges.total) c.ranges.total c.raise-t.ensures in total_raised_) (let coming_raised_ : Raised c.raise-i.result c.args.coming = raised (to_z-of_z w64 c.args.coming c.ranges.coming) c.ranges.coming c.raise-i.ensures in coming_raised_) (let going_raised_ : Raised c.raise-o.result c.args.going = raised (to_z-of_z w64 c.args.going c.ranges.going) c.ranges.going c.raise-o.ensures in going_raised_)
+    c.if-o-i.true c.if-up-t.true
     (to_z-of_z w64 c.lower.result (search rules) ∙ c.lower.ensures)
 
-returns_3 : tie.Need-returns-3
+returns_3 : tie.Need-returns-else-up-t
 returns_3 c =
-    let r = c.before.before in
-    up_leaves (total_raised r) (coming_raised r) (going_raised r) c.before.if2.true c.if3.false
+    up_leaves (let total_raised_ : Raised c.raise-t.result c.args.total = raised (to_z-of_z w64 c.args.total c.ranges.total) c.ranges.total c.raise-t.ensures in total_raised_) (let coming_raised_ : Raised c.raise-i.result c.args.coming = raised (to_z-of_z w64 c.args.coming c.ranges.coming) c.ranges.coming c.raise-i.ensures in coming_raised_) (let going_raised_ : Raised c.raise-o.result c.args.going = raised (to_z-of_z w64 c.args.going c.ranges.going) c.ranges.going c.raise-o.ensures in going_raised_) c.if-o-i.true c.if-up-t.false
 
-returns_4 : tie.Need-returns-4
+returns_4 : tie.Need-returns-then-down-t
 returns_4 c =
-    let r = c.before.before.before in
-    down_stands (total_raised r) (coming_raised r) (going_raised r)
-    c.before.before.if2.false c.before.if4.true
-    (to_z-of_z w64 c.lower2.result (search rules) ∙ c.lower2.ensures)
+    down_stands (let total_raised_ : Raised c.raise-t.result c.args.total = raised (to_z-of_z w64 c.args.total c.ranges.total) c.ranges.total c.raise-t.ensures in total_raised_) (let coming_raised_ : Raised c.raise-i.result c.args.coming = raised (to_z-of_z w64 c.args.coming c.ranges.coming) c.ranges.coming c.raise-i.ensures in coming_raised_) (let going_raised_ : Raised c.raise-o.result c.args.going = raised (to_z-of_z w64 c.args.going c.ranges.going) c.ranges.going c.raise-o.ensures in going_raised_)
+    c.if-o-i.false c.if-down-t.true
+    (to_z-of_z w64 c.lower-then-down-t.result (search rules) ∙ c.lower-then-down-t.ensures)
 
-returns_5 : tie.Need-returns-5
+returns_5 : tie.Need-returns-else-down-t
 returns_5 c =
-    let r = c.before.before in
-    down_leaves (total_raised r) (coming_raised r) (going_raised r) c.before.if2.false c.if4.false
+    down_leaves (let total_raised_ : Raised c.raise-t.result c.args.total = raised (to_z-of_z w64 c.args.total c.ranges.total) c.ranges.total c.raise-t.ensures in total_raised_) (let coming_raised_ : Raised c.raise-i.result c.args.coming = raised (to_z-of_z w64 c.args.coming c.ranges.coming) c.ranges.coming c.raise-i.ensures in coming_raised_) (let going_raised_ : Raised c.raise-o.result c.args.going = raised (to_z-of_z w64 c.args.going c.ranges.going) c.ranges.going c.raise-o.ensures in going_raised_) c.if-o-i.false c.if-down-t.false
 
 pub stand_spec : {M : Type 1} → statement M
 stand_spec =

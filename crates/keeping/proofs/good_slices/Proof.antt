@@ -7,20 +7,14 @@ use Rattle.slices.proofs.Passing.{wrong_lengths, RightLengths, right_lengths_lem
 use Rattle.keeping.proofs.good_slices.Statement.{statement}
 use Rattle.keeping.proofs.good_slices.Tie as tie
 
-long : (c : tie.Else1) → RightLengths c.before.before.args.volts.now c.before.before.args.totals.now
-long c =
-    right_lengths_lem c.before.before.args.volts.now c.before.before.args.totals.now
-    (sym c.before.right_lengths_lem.ensures ∙ not-false _ c.if1.false)
-
-returns : tie.Need-returns
+returns : tie.Need-returns-then-not-right_lengths
 returns c =
-    let r = c.before in
-    wrong_lengths r.before.args.volts.now r.before.args.totals.now
-    (sym r.right_lengths_lem.ensures ∙ not-true _ c.if1.true)
+    wrong_lengths c.args.volts.now c.args.totals.now
+    (sym c.right_lengths.ensures ∙ c.if-not-right_lengths.true)
 
-returns_2 : tie.Need-returns-2
-returns_2 c = c.in_range.ensures ∙ ap not (long c.before).same
+returns_2 : tie.Need-returns
+returns_2 c = c.in_range.ensures ∙ ap not (let long_ : RightLengths c.args.volts.now c.args.totals.now = right_lengths_lem c.args.volts.now c.args.totals.now (sym c.right_lengths.ensures ∙ c.if-not-right_lengths.false) in long_).same
 
 pub good_slices_spec : {M : Type 1} → statement M
 good_slices_spec =
-    tie.close (tie.spec (λ c κs. search rules) returns (λ c κs. (long c).volts_long) returns_2)
+    tie.close (tie.spec (λ c κs. search rules) returns (λ c κs. (let long_ : RightLengths c.args.volts.now c.args.totals.now = right_lengths_lem c.args.volts.now c.args.totals.now (sym c.right_lengths.ensures ∙ c.if-not-right_lengths.false) in long_).volts_long) returns_2)

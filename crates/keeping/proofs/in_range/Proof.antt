@@ -12,35 +12,35 @@ use Rattle.slices.proofs.Passing.{AllOn, on_none, on_more, off_at, all_on, one_o
 use Rattle.keeping.proofs.in_range.Statement.{statement}
 use Rattle.keeping.proofs.in_range.Tie as tie
 
-abbrev invariant_loop : tie.invariant-loop
+abbrev invariant_loop : tie.invariant-loop-k
 invariant_loop volts k₀ k = (k ≤ nodes_most) × AllOn (off_at volts) k
 
-abbrev decreases_loop : tie.decreases-loop
+abbrev decreases_loop : tie.decreases-loop-k
 decreases_loop volts k₀ k = nodes_most - k
 
 -- what the voltage that the loop has come to is to `keep`
 volts_held : (c : tie.After-keep invariant_loop decreases_loop) →
     let l = c.before.before.before in
-    let z = get_or l.before.args.volts.now l.loop.k (pos 0) in held z ≡ z
+    let z = get_or l.args.volts.now l.loop-k.k (pos 0) in held z ≡ z
 volts_held c = search rules
 
-returns : tie.Need-returns invariant_loop decreases_loop
+returns : tie.Need-returns-in_default invariant_loop decreases_loop
 returns c =
-    let k = c.before.before in
+    let k = c.before in
     let l = k.before.before.before in
     let s = l.before in
-    one_off s.args.volts.now s.requires l.loop.k k.before.before.loop-test.true
-    (outside_is (volts_held k) k.keep.ensures c.enum-told2.given.1)
+    one_off s.args.volts.now s.requires l.loop-k.k k.loop-k-test.true
+    (outside_is (volts_held k) k.keep.ensures c.in_default.is)
 
-loop_again : tie.Need-loop-preserved invariant_loop decreases_loop
+loop_again : tie.Need-loop-k-preserved invariant_loop decreases_loop
 loop_again c =
-    let k = c.before.before in
+    let k = c.before in
     let l = k.before.before.before in
-    (omega arith, on_more (kept_is (volts_held k) k.keep.ensures c.enum_told.given.1).on l.loop.invariant.1)
+    (omega arith, on_more (kept_is (volts_held k) k.keep.ensures c.in-Kept.is).on l.loop-k.invariant.1)
 
-returns_2 : tie.Need-returns-2 invariant_loop decreases_loop
+returns_2 : tie.Need-returns invariant_loop decreases_loop
 returns_2 c =
-    let s = c.before.before in all_on s.args.volts.now s.requires (omega arith) c.before.loop.invariant.1
+    let s = c.before.before in all_on s.args.volts.now s.requires (omega arith) c.loop-k.invariant.1
 
 pub in_range_spec : {M : Type 1} → statement M
 in_range_spec =

@@ -12,40 +12,40 @@ use Rattle.slices.proofs.Passing.{Passing, passing_none, passing_more, off_at, k
 use Rattle.keeping.proofs.keep_slice.Statement.{statement}
 use Rattle.keeping.proofs.keep_slice.Tie as tie
 
-abbrev invariant_loop : tie.invariant-loop
+abbrev invariant_loop : tie.invariant-loop-k
 invariant_loop kept₀ volts k₀ kept k = (k ≤ nodes_most) × Passing 0 nodes_most (off_at volts) (kept_at volts) k kept
 
-abbrev decreases_loop : tie.decreases-loop
+abbrev decreases_loop : tie.decreases-loop-k
 decreases_loop kept₀ volts k₀ kept k = nodes_most - k
 
-loop_holds : tie.Need-loop-init invariant_loop decreases_loop
-loop_holds c = (search rules, passing_none c.has-its-length.ensures)
+loop_holds : tie.Need-loop-k-init invariant_loop decreases_loop
+loop_holds c = (search rules, passing_none c.has_its_length.ensures)
 
 -- what the voltage that the loop has come to is to `keep`
 volts_held : (c : tie.After-keep invariant_loop decreases_loop) →
     let l = c.before.before.before in
-    let z = get_or l.before.before.before.args.volts.now l.loop.k (pos 0) in held z ≡ z
+    let z = get_or l.args.volts.now l.loop-k.k (pos 0) in held z ≡ z
 volts_held c = search rules
 
-returns : tie.Need-returns invariant_loop decreases_loop
+returns : tie.Need-returns-in_default invariant_loop decreases_loop
 returns c =
-    let k = c.before.before in
+    let k = c.before in
     let l = k.before.before.before in
     let s = l.before.before.before in
-    kept_none s.args.volts.now s.requires l.loop.k k.before.before.loop-test.true
-    (outside_is (volts_held k) k.keep.ensures c.enum_told.given.1)
+    kept_none s.args.volts.now s.requires l.loop-k.k k.loop-k-test.true
+    (outside_is (volts_held k) k.keep.ensures c.in_default.is)
 
-loop_again : tie.Need-loop-preserved invariant_loop decreases_loop
+loop_again : tie.Need-loop-k-preserved invariant_loop decreases_loop
 loop_again c =
-    let k = c.before.before.before in
+    let k = c.before.before in
     let l = k.before.before.before in
-    let is = kept_is (volts_held k) k.keep.ensures c.before.x.given.1 in
-    (omega arith, passing_more _ (omega arith) is.from is.on l.loop.invariant.1)
+    let is = kept_is (volts_held k) k.keep.ensures c.in-Kept.is in
+    (omega arith, passing_more _ (omega arith) is.from is.on l.loop-k.invariant.1)
 
-returns_2 : tie.Need-returns-2 invariant_loop decreases_loop
+returns_2 : tie.Need-returns invariant_loop decreases_loop
 returns_2 c =
     let s = c.before.before.before.before in
-    kept_all s.args.volts.now s.requires (omega arith) c.before.loop.invariant.1
+    kept_all s.args.volts.now s.requires (omega arith) c.loop-k.invariant.1
 
 pub keep_slice_spec : {M : Type 1} → statement M
 keep_slice_spec =

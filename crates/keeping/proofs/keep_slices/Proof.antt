@@ -6,20 +6,14 @@ use Rattle.slices.proofs.Passing.{RightLengths, right_lengths_lem, keeps_none, k
 use Rattle.keeping.proofs.keep_slices.Statement.{statement}
 use Rattle.keeping.proofs.keep_slices.Tie as tie
 
-long : (c : tie.Else1) → RightLengths c.before.before.args.volts.now c.before.before.args.totals.now
-long c =
-    right_lengths_lem c.before.before.args.volts.now c.before.before.args.totals.now
-    (sym c.before.right_lengths_lem.ensures ∙ not-false _ c.if1.false)
-
-returns : tie.Need-returns
+returns : tie.Need-returns-then-not-right_lengths
 returns c =
-    let r = c.before in
-    keeps_none r.before.args.volts.now r.before.args.totals.now
-    (sym r.right_lengths_lem.ensures ∙ not-true _ c.if1.true)
+    keeps_none c.args.volts.now c.args.totals.now
+    (sym c.right_lengths.ensures ∙ c.if-not-right_lengths.true)
 
-returns_2 : tie.Need-returns-2
-returns_2 c = keeps_so _ _ (long c.before.before) c.keep-slice.ensures
+returns_2 : tie.Need-returns
+returns_2 c = keeps_so _ _ (let long_ : RightLengths c.args.volts.now c.args.totals.now = right_lengths_lem c.args.volts.now c.args.totals.now (sym c.right_lengths.ensures ∙ c.if-not-right_lengths.false) in long_) c.keep_slice.ensures
 
 pub keep_slices_spec : {M : Type 1} → statement M
 keep_slices_spec =
-    tie.close (tie.spec (λ c κs. search rules) returns (λ c κs. (long c.before).volts_long) returns_2)
+    tie.close (tie.spec (λ c κs. search rules) returns (λ c κs. (let long_ : RightLengths c.args.volts.now c.args.totals.now = right_lengths_lem c.args.volts.now c.args.totals.now (sym c.right_lengths.ensures ∙ c.if-not-right_lengths.false) in long_).volts_long) returns_2)

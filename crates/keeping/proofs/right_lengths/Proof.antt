@@ -22,11 +22,11 @@ module _ (volts totals : List ℤ) where
   other : (length volts ≡ nodes_most → ⊥) → false ≡ right_lengths volts totals
   other h = rw (ne_eqb (length volts) nodes_most h)
 
-returns : tie.Need-returns
-returns c = by_totals c.before.args.volts.now c.before.args.totals.now c.if1.true
+returns : tie.Need-returns-then-volts-eq-NODES
+returns c = by_totals c.args.volts.now c.args.totals.now c.if-volts-eq-NODES.true
 
-returns_2 : tie.Need-returns-2
-returns_2 c = other c.before.args.volts.now c.before.args.totals.now c.if1.false
+returns_2 : tie.Need-returns-else-volts-eq-NODES
+returns_2 c = other c.args.volts.now c.args.totals.now c.if-volts-eq-NODES.false
 
 pub right_lengths_spec : {M : Type 1} → statement M
 right_lengths_spec = tie.close (tie.spec returns returns_2)

@@ -25,11 +25,11 @@ use Rattle.newest.proofs.highest.Tie as tie
 abbrev named : List ℕ → List ℕ → List ℕ → List ℕ
 named asked held names = list_up (issue_if_at asked held names) cards_most 0
 
-abbrev invariant_loop : tie.invariant-loop
+abbrev invariant_loop : tie.invariant-loop-i
 invariant_loop held names asked low high best₀ i₀ best i =
     (i ≤ cards_most) × (best ≡ largest (drop i (named asked held names)))
 
-abbrev decreases_loop : tie.decreases-loop
+abbrev decreases_loop : tie.decreases-loop-i
 decreases_loop held names asked low high best₀ i₀ best i = i
 
 -- one place further on
@@ -45,41 +45,41 @@ further asked held names k z h o b e =
     e ∙ (λ j. larger (cond (o j) (get_or held (k - 1) 0) 0) (b j))
     ∙ sym (more ∙ (λ j. larger (this j) (largest (drop k (named asked held names)))))
 
-loop_holds : tie.Need-loop-init invariant_loop decreases_loop
+loop_holds : tie.Need-loop-i-init invariant_loop decreases_loop
 loop_holds c =
-    let a = c.before.before.before.before.args in
+    let a = c.args in
     let l = length_up (issue_if_at a.asked.now a.held.now a.names.now) cards_most 0 in
     (search rules, largest_none (named a.asked.now a.held.now a.names.now) cards_most (omega arith))
 
 -- the name at a turn's place is compared with the one asked for
-compared : (c : tie.After-stands-at invariant_loop decreases_loop)
+compared : (c : tie.After-stands_at-named invariant_loop decreases_loop)
     → let l = c.before.before.before in
-    let a = l.before.before.before.before.before.args in
-    c.stands_at.result ≡ same (stretch 0 a.names.now (name_length * (l.loop.i - 1)) name_length) a.asked.now
+    let a = l.args in
+    c.stands_at-named.result ≡ same (stretch 0 a.names.now (name_length * (l.loop-i.i - 1)) name_length) a.asked.now
 compared c =
     let l = c.before.before.before in
     let two = l.before in
     let one = two.before.before in
-    let a = one.before.before.args in
+    let a = one.args in
     let long : length a.names.now ≡ name_length * cards_most = search rules in
-    let e = (words_in a.asked.now (search rules) one.u64-at.ensures two.u64-at2.ensures).bytes in
-    let at = name_length * (l.loop.i - 1) in
-    c.stands_at.ensures
+    let e = (words_in a.asked.now (search rules) one.u64_at-low.ensures two.u64_at-high.ensures).bytes in
+    let at = name_length * (l.loop-i.i - 1) in
+    c.stands_at-named.ensures
     ∙ ap₂ same (sym e) (part_stretch 0 a.names.now at name_length (omega arith))
     ∙ same_swap a.asked.now (stretch 0 a.names.now at name_length)
 
-loop_again : tie.Need-loop-preserved invariant_loop decreases_loop
+loop_again : tie.Need-loop-i-preserved invariant_loop decreases_loop
 loop_again c =
-    let at = c.before.before in
+    let at = c.before.before.before in
     let l = at.before.before.before in
-    let a = l.before.before.before.before.before.args in (
+    let a = l.args in (
       omega arith,
-      further a.asked.now a.held.now a.names.now l.loop.i (omega arith) (omega arith) (compared at)
-          l.loop.invariant.1 c.better-of.ensures,
+      further a.asked.now a.held.now a.names.now l.loop-i.i (omega arith) (omega arith) (compared at)
+          l.loop-i.invariant.1 c.better_of-m.ensures,
     )
 
 returns : tie.Need-returns invariant_loop decreases_loop
-returns c = let e : c.before.loop.i ≡ 0 = omega arith in rw e at c.before.loop.invariant.1
+returns c = let e : c.loop-i.i ≡ 0 = omega arith in rw e at c.loop-i.invariant.1
 
 pub highest_spec : {M : Type 1} → statement M
 highest_spec =

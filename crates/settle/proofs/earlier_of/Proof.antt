@@ -25,32 +25,32 @@ module _ (a : First) (issue : ℕ) (over : Over) where
       record { issue = issue; over = over } ≡ earlier a issue over
   gives_way e f h = rw (e, f, lt-leb _ _ h)
 
-returns : tie.Need-returns
+returns : tie.Need-returns-then-a-issue
 returns c =
     let s = c.before.before in
     let t = s.before.before in
-    let a = t.before.before.args in
-    keeps a.a a.issue a.over (sym t.before.is-over.ensures ∙ t.if1.true) (sym s.before.is-over2.ensures ∙ s.if2.true)
-    c.if3.true
+    let a = t.args in
+    keeps a.a a.issue a.over (sym t.is_over.ensures ∙ t.if-is_over.true) (sym s.is_over-then-is_over.ensures ∙ s.if-is_over-2.true)
+    c.if-a-issue.true
 
-returns_2 : tie.Need-returns-2
+returns_2 : tie.Need-returns-else-a-issue
 returns_2 c =
     let s = c.before.before in
     let t = s.before.before in
-    let a = t.before.before.args in
-    gives_way a.a a.issue a.over (sym t.before.is-over.ensures ∙ t.if1.true)
-    (sym s.before.is-over2.ensures ∙ s.if2.true) c.if3.false
+    let a = t.args in
+    gives_way a.a a.issue a.over (sym t.is_over.ensures ∙ t.if-is_over.true)
+    (sym s.is_over-then-is_over.ensures ∙ s.if-is_over-2.true) c.if-a-issue.false
 
-returns_3 : tie.Need-returns-3
+returns_3 : tie.Need-returns-else-is_over-2
 returns_3 c =
     let t = c.before.before in
-    let a = t.before.before.args in
-    alone a.a a.issue a.over (sym t.before.is-over.ensures ∙ t.if1.true) (sym c.before.is-over2.ensures ∙ c.if2.false)
+    let a = t.args in
+    alone a.a a.issue a.over (sym t.is_over.ensures ∙ t.if-is_over.true) (sym c.is_over-then-is_over.ensures ∙ c.if-is_over-2.false)
 
-returns_4 : tie.Need-returns-4
+returns_4 : tie.Need-returns
 returns_4 c =
-    let a = c.before.before.args in
-    within a.a a.issue a.over (sym c.before.is-over.ensures ∙ c.if1.false)
+    let a = c.args in
+    within a.a a.issue a.over (sym c.is_over.ensures ∙ c.if-is_over.false)
 
 pub earlier_of_spec : {M : Type 1} → statement M
 earlier_of_spec =

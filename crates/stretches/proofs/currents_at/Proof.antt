@@ -12,24 +12,24 @@ use Rattle.places.proofs.Scans.{filled_stretch}
 use Rattle.stretches.proofs.currents_at.Statement.{statement}
 use Rattle.stretches.proofs.currents_at.Tie as tie
 
-abbrev invariant_loop : tie.invariant-loop
+abbrev invariant_loop : tie.invariant-loop-k
 invariant_loop currents i own₀ at k₀ own k =
     (k ≤ branches) × Filled (pos 0) branches (λ (j : ℕ). get_or currents (branches * i + j) (pos 0)) k own
 
-abbrev decreases_loop : tie.decreases-loop
+abbrev decreases_loop : tie.decreases-loop-k
 decreases_loop currents i own₀ at k₀ own k = branches - k
 
-loop_holds : tie.Need-loop-init invariant_loop decreases_loop
+loop_holds : tie.Need-loop-k-init invariant_loop decreases_loop
 loop_holds c = (search rules, filled_none (search rules))
 
-loop_again : tie.Need-loop-preserved invariant_loop decreases_loop
+loop_again : tie.Need-loop-k-preserved invariant_loop decreases_loop
 loop_again c =
     let l = c.before.before in
-    let z = get_or l.before.args.currents.now (branches * l.before.args.i + l.loop.k) (pos 0) in
-    let e : held z ≡ z = search rules in (omega arith, filled_more _ (omega arith) e l.loop.invariant.1)
+    let z = get_or l.args.currents.now (branches * l.args.i + l.loop-k.k) (pos 0) in
+    let e : held z ≡ z = search rules in (omega arith, filled_more _ (omega arith) e l.loop-k.invariant.1)
 
 returns : tie.Need-returns invariant_loop decreases_loop
-returns c = filled_stretch _ _ (omega arith) c.before.loop.invariant.1
+returns c = filled_stretch _ _ (omega arith) c.loop-k.invariant.1
 
 pub currents_at_spec : {M : Type 1} → statement M
 currents_at_spec =

@@ -12,25 +12,25 @@ use Rattle.deck.specs.laws.Stretches.{written_none, written_more}
 use Rattle.stretches.proofs.put_currents.Statement.{statement}
 use Rattle.stretches.proofs.put_currents.Tie as tie
 
-abbrev invariant_loop : tie.invariant-loop
+abbrev invariant_loop : tie.invariant-loop-k
 invariant_loop currents₀ i own at k₀ currents k = (k ≤ branches) × (currents ≡ written (pos 0) currents₀ (branches * i) own k)
 
-abbrev decreases_loop : tie.decreases-loop
+abbrev decreases_loop : tie.decreases-loop-k
 decreases_loop currents₀ i own at k₀ currents k = branches - k
 
-loop_holds : tie.Need-loop-init invariant_loop decreases_loop
+loop_holds : tie.Need-loop-k-init invariant_loop decreases_loop
 loop_holds c = (search rules, written_none (pos 0) _ _ _)
 
-loop_again : tie.Need-loop-preserved invariant_loop decreases_loop
+loop_again : tie.Need-loop-k-preserved invariant_loop decreases_loop
 loop_again c =
     let l = c.before.before in
-    let at = branches * l.before.args.i + l.loop.k in
-    let z = get_or l.before.args.own.now l.loop.k (pos 0) in
+    let at = branches * l.args.i + l.loop-k.k in
+    let z = get_or l.args.own.now l.loop-k.k (pos 0) in
     let e : held z ≡ z = search rules in
-    (omega arith, ap (set l.loop.currents at) e ∙ written_more (pos 0) _ _ _ _ l.loop.invariant.1)
+    (omega arith, ap (set l.loop-k.currents at) e ∙ written_more (pos 0) _ _ _ _ l.loop-k.invariant.1)
 
 returns : tie.Need-returns invariant_loop decreases_loop
-returns c = let e : c.before.loop.k ≡ branches = omega arith in rw e at c.before.loop.invariant.1
+returns c = let e : c.loop-k.k ≡ branches = omega arith in rw e at c.loop-k.invariant.1
 
 pub put_currents_spec : {M : Type 1} → statement M
 put_currents_spec =

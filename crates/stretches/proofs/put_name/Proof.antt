@@ -9,20 +9,20 @@ use Rattle.deck.specs.laws.Stretches.{written_none, written_more}
 use Rattle.stretches.proofs.put_name.Statement.{statement}
 use Rattle.stretches.proofs.put_name.Tie as tie
 
-abbrev invariant_loop : tie.invariant-loop
+abbrev invariant_loop : tie.invariant-loop-k
 invariant_loop names₀ i own at k₀ names k = (k ≤ name_length) × (names ≡ written 0 names₀ (name_length * i) own k)
 
-abbrev decreases_loop : tie.decreases-loop
+abbrev decreases_loop : tie.decreases-loop-k
 decreases_loop names₀ i own at k₀ names k = name_length - k
 
-loop_holds : tie.Need-loop-init invariant_loop decreases_loop
+loop_holds : tie.Need-loop-k-init invariant_loop decreases_loop
 loop_holds c = (search rules, written_none 0 _ _ _)
 
-loop_again : tie.Need-loop-preserved invariant_loop decreases_loop
-loop_again c = (omega arith, written_more 0 _ _ _ _ c.before.before.loop.invariant.1)
+loop_again : tie.Need-loop-k-preserved invariant_loop decreases_loop
+loop_again c = (omega arith, written_more 0 _ _ _ _ c.loop-k.invariant.1)
 
 returns : tie.Need-returns invariant_loop decreases_loop
-returns c = let e : c.before.loop.k ≡ name_length = omega arith in rw e at c.before.loop.invariant.1
+returns c = let e : c.loop-k.k ≡ name_length = omega arith in rw e at c.loop-k.invariant.1
 
 pub put_name_spec : {M : Type 1} → statement M
 put_name_spec =

@@ -9,20 +9,20 @@ use Rattle.deck.specs.laws.Stretches.{written_none, written_more}
 use Rattle.stretches.proofs.put_nodes.Statement.{statement}
 use Rattle.stretches.proofs.put_nodes.Tie as tie
 
-abbrev invariant_loop : tie.invariant-loop
+abbrev invariant_loop : tie.invariant-loop-k
 invariant_loop nodes₀ i on at k₀ nodes k = (k ≤ roles) × (nodes ≡ written 0 nodes₀ (roles * i) on k)
 
-abbrev decreases_loop : tie.decreases-loop
+abbrev decreases_loop : tie.decreases-loop-k
 decreases_loop nodes₀ i on at k₀ nodes k = roles - k
 
-loop_holds : tie.Need-loop-init invariant_loop decreases_loop
+loop_holds : tie.Need-loop-k-init invariant_loop decreases_loop
 loop_holds c = (search rules, written_none 0 _ _ _)
 
-loop_again : tie.Need-loop-preserved invariant_loop decreases_loop
-loop_again c = (omega arith, written_more 0 _ _ _ _ c.before.before.loop.invariant.1)
+loop_again : tie.Need-loop-k-preserved invariant_loop decreases_loop
+loop_again c = (omega arith, written_more 0 _ _ _ _ c.loop-k.invariant.1)
 
 returns : tie.Need-returns invariant_loop decreases_loop
-returns c = let e : c.before.loop.k ≡ roles = omega arith in rw e at c.before.loop.invariant.1
+returns c = let e : c.loop-k.k ≡ roles = omega arith in rw e at c.loop-k.invariant.1
 
 pub put_nodes_spec : {M : Type 1} → statement M
 put_nodes_spec =
