@@ -1,9 +1,8 @@
 // The options and the commands, as `--help` prints them.
-use libc::STDOUT_FILENO;
+use std::io;
 
-pub fn put_help() {
-    io::write_all(
-        STDOUT_FILENO,
+pub fn put_help(rt: &HostRuntime) -> io::Result<()> {
+    rt.write_all(
         b"desk [OPTION | SCRIPT] ..\n\
 \n\
 Obeys the lines of each SCRIPT on a fresh board, one script after the other. - is\n\
@@ -36,5 +35,5 @@ who NODE\n\
 sum NODE\n\
 sheet\n\
 poke NODE MICROVOLTS TICKS\n",
-    );
+    )
 }

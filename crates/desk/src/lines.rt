@@ -10,6 +10,9 @@ use page::ROOM;
 use saying::part;
 use script::{MOST_BYTES, Verb};
 use shelving::MOST;
+use std::io;
+use std::io::Read;
+use std::rt::Files;
 use totals::NODES;
 
 // One byte more than the longest line: one that is longer is cut there, and is too long all the same.
@@ -27,26 +30,41 @@ fn add(b: u8, line: &mut [u8; LINE], n: &mut usize) {
     }
 }
 
+// What one read came to.
+#[derive(Clone, Copy)]
+enum Got {
+    Bytes(usize),
+    End,
+    Failed,
+}
+
 // One read. Where nothing came a line end stands there, so that a last line that lacks its own is ended.
-fn read(fd: i32, bytes: &mut [u8; READ]) -> isize {
-    let got = libc::read(fd, bytes);
-    if got <= 0 {
-        bytes[0] = b'\n';
+fn read<R: Read>(from: &mut R, bytes: &mut [u8; READ]) -> Got {
+    match from.read(bytes) {
+        Ok(0) => {
+            bytes[0] = b'\n';
+            Got::End
+        }
+        Ok(n) => Got::Bytes(n),
+        Err(_) => {
+            bytes[0] = b'\n';
+            Got::Failed
+        }
     }
-    got
 }
 
 // What a read got, or the line end.
-fn taken(got: isize, bytes: &[u8; READ]) -> &[u8] {
-    if got <= 0 {
-        return part(bytes, 0, 1);
+fn taken(got: Got, bytes: &[u8; READ]) -> &[u8] {
+    match got {
+        Got::Bytes(n) => part(bytes, 0, n),
+        _ => part(bytes, 0, 1),
     }
-    part(bytes, 0, io::count(got, bytes))
 }
 
 // Obeys the k bytes of a line that has ended, by whether it may poke. `spelled` is room for the bytes that hex digits
 // spell.
 fn obey_line(
+    rt: &impl Files,
     board: Board,
     volts: &mut [i64; NODES],
     totals: &mut [i64; NODES],
@@ -67,29 +85,38 @@ fn obey_line(
     let verb = c.verb;
     match verb {
         Verb::Library => {
-            take_library(script::word(text, words, 1), held, out, at);
+            take_library(rt, script::word(text, words, 1), held, out, at);
             board
         }
         _ => obeying::obey(board, volts, totals, pokes, c, text, spelled, held, out, at),
     }
 }
 
+// The board that lines have left, and whether what they had to say was written: after a write that failed no line is
+// obeyed.
+#[derive(Drop)]
+struct Fed {
+    board: Board,
+    written: io::Result<()>,
+}
+
 // Takes what a read got of a script; n bytes of a line that has not ended are in `line`.
 fn feed(
+    rt: &HostRuntime,
     board: Board,
     volts: &mut [i64; NODES],
     totals: &mut [i64; NODES],
     asked: Options,
-    got: isize,
+    got: Got,
     bytes: &[u8; READ],
     line: &mut [u8; LINE],
     n: &mut usize,
     held: &mut [u8; MOST],
     out: &mut [u8; ROOM],
     at: &mut usize,
-) -> Board
+) -> Fed
     requires { Reached board }
-    ensures { Reached result }
+    ensures { Reached result.board }
 {
     let more = taken(got, bytes);
     let mut spelled = [0u8; MOST_BYTES];
@@ -104,8 +131,14 @@ fn feed(
         }
         let k = *n;
         *n = 0;
-        begin(asked, out, at);
+        if let Err(e) = begin(rt, asked, out, at) {
+            return Fed {
+                board: current,
+                written: Err(e),
+            };
+        }
         let next = obey_line(
+            rt,
             current,
             volts,
             totals,
@@ -118,22 +151,36 @@ fn feed(
             at,
         );
         current = next;
-        end(asked, part(line, 0, k), out, at);
+        if let Err(e) = end(rt, asked, part(line, 0, k), out, at) {
+            return Fed {
+                board: current,
+                written: Err(e),
+            };
+        }
     }
-    current
+    Fed {
+        board: current,
+        written: Ok(()),
+    }
 }
 
 // Writes what waits, and a word on a read that failed.
-fn write_out(got: isize, path: &[u8], out: &[u8; ROOM], at: &mut usize) {
-    flush(out, at);
-    if got < 0 {
-        write_unreadable(path);
+fn write_out(
+    rt: &HostRuntime,
+    got: Got,
+    path: &[u8],
+    out: &[u8; ROOM],
+    at: &mut usize,
+) -> io::Result<()> {
+    flush(rt, out, at)?;
+    match got {
+        Got::Failed => write_unreadable(rt, path),
+        _ => Ok(()),
     }
 }
 
-// Obeys all that can be read. Nothing says that the input ends: the turns are counted down from a number that no run
-// uses up.
-pub fn run(fd: i32, path: &[u8], asked: Options) {
+// Obeys all that can be read. Nothing says that the input ends: the turns are counted to a number that no run uses up.
+pub fn run<R: Read>(rt: &HostRuntime, from: &mut R, path: &[u8], asked: Options) -> io::Result<()> {
     let mut bytes = [0u8; READ];
     let mut line = [0u8; LINE];
     let mut n: usize = 0;
@@ -145,10 +192,10 @@ pub fn run(fd: i32, path: &[u8], asked: Options) {
     let begun = Board::fresh(&mut volts, &mut totals);
     let mut board = begun.board;
     clear(&mut held);
-    let mut turns = u64::MAX;
-    while turns > 0 {
-        let got = read(fd, &mut bytes);
-        let next = feed(
+    for _ in 0..u64::MAX {
+        let got = read(from, &mut bytes);
+        let fed = feed(
+            rt,
             board,
             &mut volts,
             &mut totals,
@@ -161,11 +208,13 @@ pub fn run(fd: i32, path: &[u8], asked: Options) {
             &mut out,
             &mut at,
         );
-        board = next;
-        write_out(got, path, &out, &mut at);
-        if got <= 0 {
-            return;
+        fed.written?;
+        board = fed.board;
+        write_out(rt, got, path, &out, &mut at)?;
+        match got {
+            Got::Bytes(_) => {}
+            _ => return Ok(()),
         }
-        turns -= 1;
     }
+    Ok(())
 }

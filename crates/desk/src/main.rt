@@ -2,6 +2,7 @@
 // standard input where none is named. An option holds for the scripts after it.
 #![tactic(auto)]
 
+mod input; // input.rt: the arguments, and the files that they and the lines name
 mod options; // options.rt: what the arguments ask for
 mod help; // help.rt: the options and the commands, as they are printed
 mod out; // out.rt: what waits, written
@@ -11,6 +12,7 @@ mod lines; // lines.rt: a script obeyed, line by line
 
 use options::{Argument, Options};
 use saying::part;
+use std::io;
 
 fn is_dash(word: &[u8]) -> bool {
     if word.len() != 1 {
@@ -19,43 +21,42 @@ fn is_dash(word: &[u8]) -> bool {
     word[0] == b'-'
 }
 
-// `-` is standard input. What does not open has a descriptor that does not read.
-fn obey_script(path: &[u8], asked: Options) {
+// `-` is standard input. What does not open is not read.
+fn obey_script(rt: &HostRuntime, path: &[u8], asked: Options) -> io::Result<()> {
     if is_dash(path) {
-        lines::run(libc::STDIN_FILENO, path, asked);
-        return;
+        return lines::run(rt, &mut rt.stdin(), path, asked);
     }
-    let fd = os::open_read(path);
-    lines::run(fd, path, asked);
-    libc::close(fd);
+    match input::open(rt, path) {
+        Ok(mut file) => lines::run(rt, &mut file, path, asked),
+        Err(_) => out::write_unreadable(rt, path),
+    }
 }
 
-fn obey_argument(i: usize, asked: Options) {
+fn obey_argument(rt: &HostRuntime, i: usize, asked: Options) -> io::Result<()> {
     let mut path = [0u8; 131072];
-    let n = os::arg(i, &mut path);
-    obey_script(part(&path, 0, n), asked);
+    let n = input::arg(rt, i, &mut path);
+    obey_script(rt, part(&path, 0, n), asked)
 }
 
 // What an argument is.
-fn argument_at(i: usize) -> Argument {
+fn argument_at(rt: &HostRuntime, i: usize) -> Argument {
     let mut word = [0u8; 131072];
-    let n = os::arg(i, &mut word);
+    let n = input::arg(rt, i, &mut word);
     options::named(part(&word, 0, n))
 }
 
-fn main() {
-    let count = os::arg_count();
+fn main(rt: HostRuntime) -> io::Result<()> {
+    let count = input::arg_count(&rt);
     let mut asked = options::no_options();
     let mut idle = true;
     for i in 1..count {
-        let a = argument_at(i);
+        let a = argument_at(&rt, i);
         match a {
             Argument::Help => {
-                help::put_help();
-                return;
+                return help::put_help(&rt);
             }
             Argument::Script => {
-                obey_argument(i, asked);
+                obey_argument(&rt, i, asked)?;
                 idle = false;
             }
             _ => {
@@ -65,6 +66,7 @@ fn main() {
         }
     }
     if idle {
-        lines::run(libc::STDIN_FILENO, b"-", asked);
+        return lines::run(&rt, &mut rt.stdin(), b"-", asked);
     }
+    Ok(())
 }

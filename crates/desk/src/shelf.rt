@@ -1,6 +1,9 @@
 // The library held: none at first, then what is read from a file.
+use crate::input::open;
 use page::ROOM;
 use shelving::MOST;
+use std::io::Read;
+use std::rt::Files;
 
 #[derive(Clone, Copy)]
 enum File {
@@ -14,22 +17,21 @@ pub fn clear(shelf: &mut [u8; MOST]) {
 }
 
 // One read, to the place n and on.
-fn read_on(fd: i32, bytes: &mut [u8], n: usize) -> File {
+fn read_on<R: Read>(from: &mut R, bytes: &mut [u8], n: usize) -> File {
     if bytes.len() < n {
         return File::Failed;
     }
-    let got = libc::read(fd, &mut bytes[n..]);
-    if got < 0 {
-        return File::Failed;
+    match from.read(&mut bytes[n..]) {
+        Ok(k) => File::Bytes(k),
+        Err(_) => File::Failed,
     }
-    File::Bytes(io::count(got, bytes))
 }
 
 // Reads until the file ends or the buffer is full.
-fn read_whole(fd: i32, bytes: &mut [u8; MOST]) -> File {
+fn read_whole<R: Read>(from: &mut R, bytes: &mut [u8; MOST]) -> File {
     let mut n = 0;
     while n < MOST {
-        let File::Bytes(k) = read_on(fd, bytes, n) else {
+        let File::Bytes(k) = read_on(from, bytes, n) else {
             return File::Failed;
         };
         if k == 0 {
@@ -43,17 +45,23 @@ fn read_whole(fd: i32, bytes: &mut [u8; MOST]) -> File {
     File::Bytes(n)
 }
 
-fn read_file(path: &[u8], bytes: &mut [u8; MOST]) -> File {
-    let fd = os::open_read(path);
-    let file = read_whole(fd, bytes);
-    libc::close(fd);
-    file
+fn read_file(rt: &impl Files, path: &[u8], bytes: &mut [u8; MOST]) -> File {
+    match open(rt, path) {
+        Ok(mut file) => read_whole(&mut file, bytes),
+        Err(_) => File::Failed,
+    }
 }
 
 // The library that a file holds becomes the library held.
-pub fn take_library(path: &[u8], held: &mut [u8; MOST], out: &mut [u8; ROOM], at: &mut usize) {
+pub fn take_library(
+    rt: &impl Files,
+    path: &[u8],
+    held: &mut [u8; MOST],
+    out: &mut [u8; ROOM],
+    at: &mut usize,
+) {
     let mut read = [0u8; MOST];
-    match read_file(path, &mut read) {
+    match read_file(rt, path, &mut read) {
         File::Bytes(n) => shelving::keep_library(n, &read, held, out, at),
         File::Failed => saying::put_unreadable(path, out, at),
     }

@@ -3,27 +3,28 @@
 use crate::options::Options;
 use crate::out::{flush, make_room, put_part};
 use explaining::EXPLANATION_ROOM;
-use libc::STDOUT_FILENO;
 use page::ROOM;
 use saying::part;
+use std::io;
 
 // Before a line is obeyed.
-pub fn begin(o: Options, out: &[u8; ROOM], at: &mut usize) {
+pub fn begin(rt: &HostRuntime, o: Options, out: &[u8; ROOM], at: &mut usize) -> io::Result<()> {
     if o.explains {
-        flush(out, at);
+        flush(rt, out, at)
     } else if o.echoes {
-        flush(out, at);
+        flush(rt, out, at)
     } else {
-        make_room(out, at);
+        make_room(rt, out, at)
     }
 }
 
 // Repeats a line; one that is too long is not repeated.
-fn echo(line: &[u8]) {
+fn echo(rt: &HostRuntime, line: &[u8]) -> io::Result<()> {
     if line.len() <= script::LONGEST_LINE {
-        io::write_all(STDOUT_FILENO, line);
-        io::write_all(STDOUT_FILENO, b"\n");
+        rt.write_all(line)?;
+        rt.write_all(b"\n")?;
     }
+    Ok(())
 }
 
 // The first n bytes of an explanation.
@@ -39,15 +40,22 @@ fn explain(n: usize, out: &mut [u8; ROOM], at: &mut usize) {
 }
 
 // After a line was obeyed. Where nothing waits it had no answer.
-pub fn end(o: Options, line: &[u8], out: &mut [u8; ROOM], at: &mut usize) {
+pub fn end(
+    rt: &HostRuntime,
+    o: Options,
+    line: &[u8],
+    out: &mut [u8; ROOM],
+    at: &mut usize,
+) -> io::Result<()> {
     let n = *at;
     if n == 0 {
-        return;
+        return Ok(());
     }
     if o.echoes {
-        echo(line);
+        echo(rt, line)?;
     }
     if o.explains {
         explain(n - 1, out, at);
     }
+    Ok(())
 }

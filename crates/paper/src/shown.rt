@@ -1,26 +1,22 @@
 // A line of output: the case, the value worked and the paper's value.
-use libc::STDOUT_FILENO;
-use whole::Int;
+use std::io;
 
-fn signed(v: i64) {
-    let i = whole::open(v);
-    match i {
-        Int::Pos(n) => {
-            io::print_decimal(STDOUT_FILENO, n);
-        }
-        Int::NegSuc(n) => {
-            io::write_all(STDOUT_FILENO, b"-");
-            io::print_decimal(STDOUT_FILENO, n % 9223372036854775807 + 1);
-        }
-    }
+fn signed(rt: &HostRuntime, v: i64) -> io::Result<()> {
+    print!(rt; "{v}")
 }
 
-pub(crate) fn line(what: &[u8], more: &[u8], worked: i64, paper: i64) {
-    io::write_all(STDOUT_FILENO, what);
-    io::write_all(STDOUT_FILENO, more);
-    io::write_all(STDOUT_FILENO, b": worked ");
-    signed(worked);
-    io::write_all(STDOUT_FILENO, b", paper ");
-    signed(paper);
-    io::write_all(STDOUT_FILENO, b"\n");
+pub(crate) fn line(
+    rt: &HostRuntime,
+    what: &[u8],
+    more: &[u8],
+    worked: i64,
+    paper: i64,
+) -> io::Result<()> {
+    rt.write_all(what)?;
+    rt.write_all(more)?;
+    rt.write_all(b": worked ")?;
+    signed(rt, worked)?;
+    rt.write_all(b", paper ")?;
+    signed(rt, paper)?;
+    rt.write_all(b"\n")
 }

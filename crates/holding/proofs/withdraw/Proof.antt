@@ -9,36 +9,36 @@ use Rattle.holding.proofs.withdraw.Statement.{statement}
 use Rattle.holding.proofs.withdraw.Tie as tie
 
 -- earlier places, from later ones
-abbrev noted : tie.After-card-at → tie.After-issue-of
-noted c = c.before.before
+abbrev noted : tie.After-card_at-i → tie.After-issue_of-n
+noted c = c.before
 
-abbrev blank : tie.After-blank → tie.After-no-ready
+abbrev blank : tie.After-blank-1 → tie.After-no_ready-none
 blank c = c.before.before.before.before.before.before.before
 
-number : (c : tie.After-issue-of) → c.issue-of.result ≡ issue_of c.before.args.card
-number c = c.issue-of.ensures ∙ ap issue_of (to_z-of_z w64 c.before.args.card c.before.ranges.card)
+number : (c : tie.After-issue_of-n) → c.issue_of-n.result ≡ issue_of c.args.card
+number c = c.issue_of-n.ensures ∙ ap issue_of (to_z-of_z w64 c.args.card c.ranges.card)
 
-returns : tie.Need-returns
+returns : tie.Need-returns-then-i-ge-CARDS
 returns c =
-    let f = c.before in λ b l q r. lent_unknown l q r _ (number (noted f)) f.card-at.ensures c.if1.true
+    let f = c.before in λ b l q r. lent_unknown l q r _ (number (noted f)) f.card_at-i.ensures c.if-i-ge-CARDS.true
 
-returns_2 : tie.Need-returns-2
+returns_2 : tie.Need-returns-then-any_on
 returns_2 c =
     let o = c.before in
     let f = o.before.before in
-    λ b l q r. lent_in_use l q r _ (number (noted f)) f.card-at.ensures o.before.if1.false
-    (sym o.any_on_lem.ensures ∙ c.if2.true)
+    λ b l q r. lent_in_use l q r _ (number (noted f)) f.card_at-i.ensures o.if-i-ge-CARDS.false
+    (sym o.any_on.ensures ∙ c.if-any_on.true)
 
 hold_requires : tie.Need-hold-requires
-hold_requires c κs = (blank c).before.before.before.if1.false
+hold_requires c κs = (blank c).if-i-ge-CARDS.false
 
-returns_3 : tie.Need-returns-3
+returns_3 : tie.Need-returns
 returns_3 c =
     let n = blank c.before in
     let o = n.before.before in
     let f = o.before.before in
-    λ b l q r. lent_withdraws l q r _ (number (noted f)) f.card-at.ensures o.before.if1.left
-    (sym o.any_on_lem.ensures ∙ n.before.if2.left) n.no-ready.ensures c.hold.ensures
+    λ b l q r. lent_withdraws l q r _ (number (noted f)) f.card_at-i.ensures o.if-i-ge-CARDS.false
+    (sym o.any_on.ensures ∙ n.if-any_on.false) n.no_ready-none.ensures c.hold.ensures
 
 pub withdraw_spec : {M : Type 1} → statement M
 withdraw_spec =

@@ -10,18 +10,18 @@ use Rattle.host_words.proofs.Alone.{alone}
 use Rattle.host_words.proofs.branch_of.Statement.{statement}
 use Rattle.host_words.proofs.branch_of.Tie as tie
 
-returns : tie.Need-returns
+returns : tie.Need-returns-in-Overload
 returns c =
-    let start = c.before.before.before in
-    sym (ap (λ (x : Refusal). branch_in x start.args.was) c.before.f.given.1)
+    let start = c.before in
+    sym (ap (λ (x : Refusal). branch_in x start.args.was) c.in-Overload.is)
 
-returns_2 : tie.Need-returns-2
+returns_2 : tie.Need-returns-in-Injection
 returns_2 c =
-    let start = c.before.before.before in
-    sym (ap (λ (x : Refusal). branch_in x start.args.was) c.before.f2.given.1)
+    let start = c.before in
+    sym (ap (λ (x : Refusal). branch_in x start.args.was) c.in-Injection.is)
 
-returns_3 : tie.Need-returns-3
-returns_3 c = ap (λ (l : List ℕ). get_or l 1 c.before.args.was) (alone c.before.args.f c.match.keys3)
+returns_3 : tie.Need-returns-in_default
+returns_3 c = ap (λ (l : List ℕ). get_or l 1 c.args.was) (alone c.args.f c.in_default.in_default-own.keys3)
 
 pub branch_of_spec : {M : Type 1} → statement M
 branch_of_spec =

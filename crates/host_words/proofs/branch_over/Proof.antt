@@ -6,11 +6,10 @@ use Rattle.host_words.specs.Words.{branch_over}
 use Rattle.host_words.proofs.branch_over.Statement.{statement}
 use Rattle.host_words.proofs.branch_over.Tie as tie
 
-refused : tie.Need-returns-7
+refused : tie.Need-returns-in-Refused
 refused c =
-    let known = c.before.before in
-    let was = known.before.before.args.was in
-    c.branch-of.ensures ∙ sym (ap (λ (a : Answer). branch_over a was) known.a.given.1)
+    let was = c.args.was in
+    c.branch_of.ensures ∙ sym (ap (λ (a : Answer). branch_over a was) c.in-Refused.is)
 
 pub branch_over_spec : {M : Type 1} → statement M
 branch_over_spec =

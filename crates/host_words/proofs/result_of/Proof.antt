@@ -5,8 +5,8 @@ use Rattle.host_words.specs.Words.{result_of}
 use Rattle.host_words.proofs.result_of.Statement.{statement}
 use Rattle.host_words.proofs.result_of.Tie as tie
 
-refused : tie.Need-returns-7
-refused c = c.number.ensures ∙ sym (ap result_of c.before.before.a.given.1)
+refused : tie.Need-returns-in-Refused
+refused c = c.number.ensures ∙ sym (ap result_of c.in-Refused.is)
 
 pub result_of_spec : {M : Type 1} → statement M
 result_of_spec =

@@ -27,5 +27,5 @@ enough n h k = all (eqb (n % 2) 0) (leb 2 n && leb n 64) (rw (le-leb 2 n h, le-l
 pub are_pairs_spec : {M : Type 1} → statement M
 are_pairs_spec =
     tie.close
-    (tie.spec (λ c. sym (few _ c.if1.true)) (λ c. sym (many _ c.before.if1.false c.if2.true))
-    (λ c. sym (enough _ c.before.if1.false c.if2.false)))
+    (tie.spec (λ c. sym (few _ c.if-n-lt2.true)) (λ c. sym (many _ c.if-n-lt2.false c.if-n-gt-NUMBERS.true))
+    (λ c. sym (enough _ c.if-n-lt2.false c.if-n-gt-NUMBERS.false)))

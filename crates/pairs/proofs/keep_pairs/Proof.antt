@@ -14,57 +14,57 @@ use Rattle.pairs.proofs.Pairs.{KeptTo, kept_none, kept_more, off_by_node, off_by
 use Rattle.pairs.proofs.keep_pairs.Statement.{statement}
 use Rattle.pairs.proofs.keep_pairs.Tie as tie
 
-abbrev invariant_loop : tie.invariant-loop
+abbrev invariant_loop : tie.invariant-loop-i
 invariant_loop will₀ pairs i₀ will i = KeptTo pairs will₀ will i
 
-abbrev decreases_loop : tie.decreases-loop
+abbrev decreases_loop : tie.decreases-loop-i
 decreases_loop will₀ pairs i₀ will i = length pairs - i
 
-add_loop : tie.Need-overflow-add-loop invariant_loop decreases_loop
-add_loop c = let w = c.loop.invariant.within in search rules
+add_loop : tie.Need-overflow_add-i invariant_loop decreases_loop
+add_loop c = let w = c.loop-i.invariant.within in search rules
 
 -- the node of the pair that the loop has come to
-abbrev given_node : tie.After-node-of invariant_loop decreases_loop → ℤ
-given_node c = let l = c.before.before.before in get_or l.before.args.pairs.now l.loop.i (pos 0)
+abbrev given_node : tie.After-node_of-n invariant_loop decreases_loop → ℤ
+given_node c = let l = c.before.before.before in get_or l.args.pairs.now l.loop-i.i (pos 0)
 
-number : (c : tie.After-node-of invariant_loop decreases_loop) → c.node_of.result ≡ node_of (given_node c)
-number c = let e : held (given_node c) ≡ given_node c = search rules in c.node_of.ensures ∙ ap node_of e
+number : (c : tie.After-node_of-n invariant_loop decreases_loop) → c.node_of-n.result ≡ node_of (given_node c)
+number c = let e : held (given_node c) ≡ given_node c = search rules in c.node_of-n.ensures ∙ ap node_of e
 
-returns : tie.Need-returns invariant_loop decreases_loop
+returns : tie.Need-returns-then-n-ge-NODES invariant_loop decreases_loop
 returns c =
     let l = c.before.before.before.before in
-    off_by_node _ _ _ l.loop.invariant c.before.before.before.loop-test.true
-    (off_board_lem (given_node c.before) (subst (λ (m : ℕ). nodes_most ≤ m) (number c.before) c.if1.true))
+    off_by_node _ _ _ l.loop-i.invariant c.loop-i-test.true
+    (off_board_lem (given_node c.before) (subst (λ (m : ℕ). nodes_most ≤ m) (number c.before) c.if-n-ge-NODES.true))
 
 -- earlier places, from later ones
-abbrev in_range : tie.After-keep invariant_loop decreases_loop → tie.Else1 invariant_loop decreases_loop
+abbrev in_range : tie.After-keep invariant_loop decreases_loop → tie.Else-n-ge-NODES invariant_loop decreases_loop
 in_range c = c.before.before
 
-abbrev at_pair : tie.After-keep invariant_loop decreases_loop → tie.In-loop invariant_loop decreases_loop
+abbrev at_pair : tie.After-keep invariant_loop decreases_loop → tie.In-loop-i invariant_loop decreases_loop
 at_pair c = (in_range c).before.before.before
 
 -- what the voltage of the pair is to `keep`
 volts_held : (c : tie.After-keep invariant_loop decreases_loop) →
     let l = (at_pair c).before in
-    let z = get_or l.before.args.pairs.now (l.loop.i + 1) (pos 0) in held z ≡ z
+    let z = get_or l.args.pairs.now (l.loop-i.i + 1) (pos 0) in held z ≡ z
 volts_held c = search rules
 
-returns_2 : tie.Need-returns-2 invariant_loop decreases_loop
+returns_2 : tie.Need-returns-in_default invariant_loop decreases_loop
 returns_2 c =
-    let k = c.before.before in
-    off_by_volts _ _ _ (at_pair k).before.loop.invariant (at_pair k).loop-test.true
-    (outside_is (volts_held k) k.keep.ensures c.enum_told.given.1)
+    let k = c.before in
+    off_by_volts _ _ _ (at_pair k).loop-i.invariant (at_pair k).loop-i-test.true
+    (outside_is (volts_held k) k.keep.ensures c.in_default.is)
 
-loop_again : tie.Need-loop-preserved invariant_loop decreases_loop
+loop_again : tie.Need-loop-i-preserved invariant_loop decreases_loop
 loop_again c =
-    let k = c.before.before.before in
+    let k = c.before.before in
     let n = (in_range k).before in
-    let on = on_board (given_node n) (subst (λ (m : ℕ). m < nodes_most) (number n) (in_range k).if1.false) in
-    kept_more _ _ (at_pair k).before.loop.invariant (at_pair k).loop-test.true on.0 (number n)
-    (kept_is (volts_held k) k.keep.ensures c.before.v.given.1)
+    let on = on_board (given_node n) (subst (λ (m : ℕ). m < nodes_most) (number n) (in_range k).if-n-ge-NODES.false) in
+    kept_more _ _ (at_pair k).loop-i.invariant (at_pair k).loop-i-test.true on.0 (number n)
+    (kept_is (volts_held k) k.keep.ensures c.in-Kept.is)
 
-returns_3 : tie.Need-returns-3 invariant_loop decreases_loop
-returns_3 c = kept_all _ _ c.before.loop.invariant c.loop-test.false
+returns_3 : tie.Need-returns invariant_loop decreases_loop
+returns_3 c = kept_all _ _ c.loop-i.invariant c.loop-i-test.false
 
 pub keep_pairs_spec : {M : Type 1} → statement M
 keep_pairs_spec =

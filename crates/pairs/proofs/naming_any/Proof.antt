@@ -12,47 +12,31 @@ use Rattle.pairs.proofs.Pairs.{NamedTo, next_on, named_none, named_more, named_a
 use Rattle.pairs.proofs.naming_any.Statement.{statement}
 use Rattle.pairs.proofs.naming_any.Tie as tie
 
-abbrev invariant_loop : tie.invariant-loop
+abbrev invariant_loop : tie.invariant-loop-k
 invariant_loop naming pairs set₀ i₀ set i = NamedTo pairs naming set i
 
-abbrev decreases_loop : tie.decreases-loop
+abbrev decreases_loop : tie.decreases-loop-k
 decreases_loop naming pairs set₀ i₀ set i = length pairs - i
 
-loop_holds : tie.Need-loop-init invariant_loop decreases_loop
+loop_holds : tie.Need-loop-k-init invariant_loop decreases_loop
 loop_holds c = named_none _ _ c.requires
 
-add_loop : tie.Need-overflow-add-loop invariant_loop decreases_loop
-add_loop c = let w = c.loop.invariant.within in search rules
+add_loop : tie.Need-overflow_add-k invariant_loop decreases_loop
+add_loop c = let w = c.loop-k.invariant.within in search rules
 
--- the pair that the loop has come to, and its node
-abbrev at_pair : tie.After-node-of invariant_loop decreases_loop → tie.In-loop invariant_loop decreases_loop
-at_pair c = c.before.before
-
-node_is : (c : tie.After-node-of invariant_loop decreases_loop) →
-    let l = (at_pair c).before in
-    c.node_of.result ≡ node_of (get_or l.before.args.pairs.now l.loop.k (pos 0))
-node_is c =
-    let l = (at_pair c).before in
-    let z = get_or l.before.args.pairs.now l.loop.k (pos 0) in
-    let e : held z ≡ z = search rules in c.node_of.ensures ∙ ap node_of e
-
-on_board : (c : tie.After-node-of invariant_loop decreases_loop) → c.node_of.result < nodes_most
-on_board c = (next_on _ (at_pair c).before.loop.invariant.on (at_pair c).loop-test.true (node_is c)).there
-
-loop_less : tie.Need-loop-smaller invariant_loop decreases_loop
+loop_less : tie.Need-loop-k-smaller invariant_loop decreases_loop
 loop_less c = omega arith
 
-loop_again : tie.Need-loop-preserved invariant_loop decreases_loop
+loop_again : tie.Need-loop-k-preserved invariant_loop decreases_loop
 loop_again c =
-    let n = c.before in
-    named_more _ _ (at_pair n).before.loop.invariant (at_pair n).loop-test.true (node_is n)
+    named_more _ _ c.loop-k.invariant c.loop-k-test.true (let node_is_ : c.node_of-named.result ≡ node_of (get_or c.args.pairs.now c.loop-k.k (pos 0)) = let z = get_or c.args.pairs.now c.loop-k.k (pos 0) in let e : held z ≡ z = search rules in c.node_of-named.ensures ∙ ap node_of e in node_is_)
 
 returns : tie.Need-returns invariant_loop decreases_loop
-returns c = named_all _ _ c.before.loop.invariant c.loop-test.false
+returns c = named_all _ _ c.loop-k.invariant c.loop-k-test.false
 
 pub naming_any_spec : {M : Type 1} → statement M
 naming_any_spec =
     tie.close
     (tie.spec invariant_loop decreases_loop loop_holds add_loop (λ c. search rules) (λ c. search rules) (λ c κs. search rules)
-    (λ c. let h = on_board c in omega arith) (λ c. let h = on_board c in omega arith)
-    (λ c. let h = on_board c in omega arith) (λ c. search rules) loop_less loop_again returns)
+    (λ c. let h = (let on_board_ : c.node_of-named.result < nodes_most = (next_on _ c.loop-k.invariant.on c.loop-k-test.true (let node_is_ : c.node_of-named.result ≡ node_of (get_or c.args.pairs.now c.loop-k.k (pos 0)) = let z = get_or c.args.pairs.now c.loop-k.k (pos 0) in let e : held z ≡ z = search rules in c.node_of-named.ensures ∙ ap node_of e in node_is_)).there in on_board_) in omega arith) (λ c. let h = (let on_board_ : c.node_of-named.result < nodes_most = (next_on _ c.loop-k.invariant.on c.loop-k-test.true (let node_is_ : c.node_of-named.result ≡ node_of (get_or c.args.pairs.now c.loop-k.k (pos 0)) = let z = get_or c.args.pairs.now c.loop-k.k (pos 0) in let e : held z ≡ z = search rules in c.node_of-named.ensures ∙ ap node_of e in node_is_)).there in on_board_) in omega arith)
+    (λ c. let h = (let on_board_ : c.node_of-named.result < nodes_most = (next_on _ c.loop-k.invariant.on c.loop-k-test.true (let node_is_ : c.node_of-named.result ≡ node_of (get_or c.args.pairs.now c.loop-k.k (pos 0)) = let z = get_or c.args.pairs.now c.loop-k.k (pos 0) in let e : held z ≡ z = search rules in c.node_of-named.ensures ∙ ap node_of e in node_is_)).there in on_board_) in omega arith) (λ c. search rules) loop_less loop_again returns)

@@ -13,46 +13,36 @@ use Rattle.poking.proofs.Laws.{poke_node, pokes_as}
 use Rattle.poking.proofs.poke.Tie as tie
 use Rattle.poking.proofs.poke.Statement.{statement}
 
-abbrev start : tie.After-may-poke → tie.Start
-start c = c.before.before.before.before.before.before
-
-in_volts : tie.Need-element-set-from-totals
+in_volts : tie.Need-bounds-volts-n
 in_volts c =
-    let m = c.before.before in
-    let s = (start m).args in
-    poke_node s.allowed _ s.line.now s.c.words (sym m.may-poke.ensures ∙ c.before.if1.true)
+    let s = c.args in
+    poke_node s.allowed _ s.line.now s.c.words (sym c.may_poke.ensures ∙ c.if-may_poke.true)
 
-in_totals : tie.Need-element-set-from-totals-2
+in_totals : tie.Need-bounds-totals-n
 in_totals c =
-    let m = c.before.before.before in
-    let s = (start m).args in
-    poke_node s.allowed _ s.line.now s.c.words (sym m.may-poke.ensures ∙ c.before.before.if1.true)
+    let s = c.args in
+    poke_node s.allowed _ s.line.now s.c.words (sym c.may_poke.ensures ∙ c.if-may_poke.true)
 
-returns : tie.Need-returns
+returns : tie.Need-returns-then-may_poke
 returns c =
-    let t = c.before.before.before.before.before in
-    let m = t.before in
-    let s = (start m).args in
+    let s = c.args in
     let v = s.c.numbers in
     let z : to_z w64 (of_z w64 (number_in v)) ≡ number_in v = search rules in
     let x : to_z w64 (of_z w64 (get_or v 1 (pos 0))) ≡ get_or v 1 (pos 0) = search rules in
     let y : to_z w64 (of_z w64 (get_or v 2 (pos 0))) ≡ get_or v 2 (pos 0) = search rules in
-    let n = m.before.node-number.ensures in
-    rw (pokes_as s.allowed s.c s.line.now n z m.may-poke.ensures t.if1.true) (
+    let n = c.node_number-node.ensures in
+    rw (pokes_as s.allowed s.c s.line.now n z c.may_poke.ensures c.if-may_poke.true) (
       ap₂ (set s.volts.now) (n ∙ ap node_number z) x,
-      (ap₂ (set s.totals.now) (n ∙ ap node_number z) y, c.put-answer.ensures),
+      (ap₂ (set s.totals.now) (n ∙ ap node_number z) y, c.put_answer.ensures),
     )
 
-returns_2 : tie.Need-returns-2
+returns_2 : tie.Need-returns-else-may_poke
 returns_2 c =
-    let w = c.before.before.before in
-    let t = w.before in
-    let m = t.before in
-    let s = (start m).args in
+    let s = c.args in
     let z : to_z w64 (of_z w64 (number_in s.c.numbers)) ≡ number_in s.c.numbers = search rules in
-    let n = m.before.node-number.ensures in
-    rw (pokes_as s.allowed s.c s.line.now n z m.may-poke.ensures t.if1.false)
-    (refl, (refl, as_bytes (ap error_line w.word.ensures) c.put-error.ensures))
+    let n = c.node_number-node.ensures in
+    rw (pokes_as s.allowed s.c s.line.now n z c.may_poke.ensures c.if-may_poke.false)
+    (refl, (refl, as_bytes (ap error_line c.word.ensures) c.put_error.ensures))
 
 pub poke_spec : {M : Type 1} → statement M
 poke_spec =

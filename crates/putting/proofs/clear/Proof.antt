@@ -5,7 +5,6 @@ use mathlib.Core.List.{List}
 use lib.ListN.{replicate}
 use lib.IntN.{ℤ, pos}
 use borrow.Author.Rules.{rules}
-use borrow.Author.Tests.{not-true, not-false}
 use Rattle.totals.specs.Gives.{nodes_most}
 use Rattle.slices.specs.Slices.{right_lengths, Clears}
 use Rattle.slices.proofs.Passing.{RightLengths, right_lengths_lem}
@@ -20,34 +19,21 @@ module _ (volts totals : List ℤ) where
       t ≡ replicate nodes_most (pos 0) → Clears volts totals true v t
   clears e p q = record { told = sym e; volts_are = rw e p; totals_are = rw e q }
 
--- where the lengths were tested, and the start
-abbrev start : tie.Else1 → tie.Start
-start c = c.before.before.before.before
-
-right : (c : tie.Else1) → right_lengths (start c).args.volts.now (start c).args.totals.now ≡ true
-right c = sym c.before.right_lengths_lem.ensures ∙ not-false _ c.if1.false
-
-long : (c : tie.Else1) → RightLengths (start c).args.volts.now (start c).args.totals.now
-long c = right_lengths_lem (start c).args.volts.now (start c).args.totals.now (right c)
-
-returns : tie.Need-returns
+returns : tie.Need-returns-then-not-right_lengths
 returns c =
-    let s = c.before.before.before.before in
-    leaves s.args.volts.now s.args.totals.now
-    (sym c.before.right_lengths_lem.ensures ∙ not-true _ c.if1.true)
+    leaves c.args.volts.now c.args.totals.now
+    (sym c.right_lengths.ensures ∙ c.if-not-right_lengths.true)
 
-put_totals_requires : tie.Need-put-totals-requires
-put_totals_requires c κs = ((long c.before.before).volts_long, refl)
+put_totals_requires : tie.Need-put_totals-requires
+put_totals_requires c κs = ((let long_ : RightLengths c.args.volts.now c.args.totals.now = right_lengths_lem c.args.volts.now c.args.totals.now (let right_ : right_lengths c.args.volts.now c.args.totals.now ≡ true = sym c.right_lengths.ensures ∙ c.if-not-right_lengths.false in right_) in long_).volts_long, refl)
 
-put_totals_requires_2 : tie.Need-put-totals-requires-2
-put_totals_requires_2 c κs = ((long c.before.before.before.before.before.before).totals_long, refl)
+put_totals_requires_2 : tie.Need-put_totals-requires-2
+put_totals_requires_2 c κs = ((let long_ : RightLengths c.args.volts.now c.args.totals.now = right_lengths_lem c.args.volts.now c.args.totals.now (let right_ : right_lengths c.args.volts.now c.args.totals.now ≡ true = sym c.right_lengths.ensures ∙ c.if-not-right_lengths.false in right_) in long_).totals_long, refl)
 
-returns_2 : tie.Need-returns-2
+returns_2 : tie.Need-returns
 returns_2 c =
-    let one = c.before.before.before.before.before in
-    let e = one.before.before.before in
-    clears (start e).args.volts.now (start e).args.totals.now (right e) one.put-totals.ensures
-    c.before.put-totals2.ensures
+    clears c.args.volts.now c.args.totals.now (let right_ : right_lengths c.args.volts.now c.args.totals.now ≡ true = sym c.right_lengths.ensures ∙ c.if-not-right_lengths.false in right_) c.put_totals.ensures
+    c.put_totals-2.ensures
 
 pub clear_spec : {M : Type 1} → statement M
 clear_spec =

@@ -6,7 +6,6 @@ use Prim.Native.Nat.{ℕ, ◌≤◌, ◌<◌}
 use lib.ListN.{length, get_or, length-map}
 use lib.IntN.{ℤ, pos}
 use borrow.Author.Rules.{rules}
-use borrow.Author.Tests.{not-true, not-false}
 use mir.Syntax.{w64}
 use mir.Val.{to_z, of_z}
 use mir.ValLaws.{to_z-of_z}
@@ -22,49 +21,24 @@ use Rattle.reading.proofs.Shows.{show_off_slices, show_off, shows_it}
 use Rattle.reading.proofs.read_node.Statement.{statement}
 use Rattle.reading.proofs.read_node.Tie as tie
 
--- the two slices
-abbrev volts : tie.Start → List ℤ
-volts s = s.args.volts.now
-
-abbrev totals : tie.Start → List ℤ
-totals s = s.args.totals.now
-
--- where they were tested, from a place where they are good
-abbrev good : tie.Else1 → tie.After-good-slices
-good c = c.before
-
-both_on : (c : tie.Else1) → off_slices (volts (good c).before) (totals (good c).before) ≡ false
-both_on c =
-    slices_on (volts (good c).before) (totals (good c).before) (good c).good-slices.ensures
-    (not-false _ c.if1.false)
-
-number : (c : tie.After-node-of) → c.node_of.result ≡ node_of (good c.before).before.args.node
-number c =
-    let s = (good c.before).before in
-    c.node_of.ensures ∙ ap node_of (to_z-of_z w64 s.args.node s.fits.node)
-
-returns : tie.Need-returns
+returns : tie.Need-returns-then-not-good_slices
 returns c =
-    let k = c.before in
     λ b. show_off_slices (state_with b _ _) _
-    (slices_off (volts k.before) (totals k.before) k.good-slices.ensures (not-true _ c.if1.true))
+    (slices_off c.args.volts.now c.args.totals.now c.good_slices.ensures (c.if-not-good_slices.true))
 
-returns_2 : tie.Need-returns-2
+returns_2 : tie.Need-returns-then-n-ge-NODES
 returns_2 c =
-    λ b. show_off (state_with b _ _) _ (both_on c.before.before)
-    (subst (λ (k : ℕ). nodes_most ≤ k) (number c.before) c.if2.true)
+    λ b. show_off (state_with b _ _) _ (slices_on c.args.volts.now c.args.totals.now c.good_slices.ensures (c.if-not-good_slices.false))
+    (subst (λ (k : ℕ). nodes_most ≤ k) (c.node_of-n.ensures ∙ ap node_of (to_z-of_z w64 c.args.node c.ranges.node)) c.if-n-ge-NODES.true)
 
 -- both slices have the node
-shared_slice_copy_out_v : tie.Need-shared-slice-copy-out-v
+shared_slice_copy_out_v : tie.Need-bounds-volts-n
 shared_slice_copy_out_v c =
-    let e = c.before.before in
-    rw (volts_long (volts (good e).before) (totals (good e).before) (both_on e)) c.if2.false
+    rw (volts_long c.args.volts.now c.args.totals.now (slices_on c.args.volts.now c.args.totals.now c.good_slices.ensures (c.if-not-good_slices.false))) c.if-n-ge-NODES.false
 
-shared_slice_copy_out_t : tie.Need-shared-slice-copy-out-t
+shared_slice_copy_out_t : tie.Need-bounds-totals-n
 shared_slice_copy_out_t c =
-    let f = c.before in
-    let e = f.before.before in
-    rw (totals_long (volts (good e).before) (totals (good e).before) (both_on e)) f.if2.false
+    rw (totals_long c.args.volts.now c.args.totals.now (slices_on c.args.volts.now c.args.totals.now c.good_slices.ensures (c.if-not-good_slices.false))) c.if-n-ge-NODES.false
 
 -- a voltage in range is what comes back of it
 back_at : (l : List ℤ) → any_of off_volts l ≡ false → (n : ℕ) → n < length l →
@@ -73,17 +47,14 @@ back_at l e n h =
     sym (given_back_at (map kept_as l) n (rw (length-map l kept_as) h)
     ∙ ap (λ (m : List ℤ). get_or m n (pos 0)) (all_back l e))
 
-returns_3 : tie.Need-returns-3
+returns_3 : tie.Need-returns
 returns_3 c =
-    let f = c.before.before in
-    let e = f.before.before in
-    let s = (good e).before in
-    let there : f.before.node_of.result < length (volts s) =
-    rw (volts_long (volts s) (totals s) (both_on e)) f.if2.false in
-    let read : to_z w64 (of_z w64 (get_or (volts s) f.before.node_of.result (pos 0)))
-    ≡ get_or (volts s) f.before.node_of.result (pos 0) = search rules in
-    λ b. shows_it (state_with b _ _) _ (both_on e) _ _ _ (number f.before) f.if2.false
-    (read ∙ back_at (volts s) (volts_on (volts s) (totals s) (both_on e)) _ there) (search rules)
+    let there : c.node_of-n.result < length c.args.volts.now =
+    rw (volts_long c.args.volts.now c.args.totals.now (slices_on c.args.volts.now c.args.totals.now c.good_slices.ensures (c.if-not-good_slices.false))) c.if-n-ge-NODES.false in
+    let read : to_z w64 (of_z w64 (get_or c.args.volts.now c.node_of-n.result (pos 0)))
+    ≡ get_or c.args.volts.now c.node_of-n.result (pos 0) = search rules in
+    λ b. shows_it (state_with b _ _) _ (slices_on c.args.volts.now c.args.totals.now c.good_slices.ensures (c.if-not-good_slices.false)) _ _ _ (c.node_of-n.ensures ∙ ap node_of (to_z-of_z w64 c.args.node c.ranges.node)) c.if-n-ge-NODES.false
+    (read ∙ back_at c.args.volts.now (volts_on c.args.volts.now c.args.totals.now (slices_on c.args.volts.now c.args.totals.now c.good_slices.ensures (c.if-not-good_slices.false))) _ there) (search rules)
 
 pub read_node_spec : {M : Type 1} → statement M
 read_node_spec =

@@ -28,159 +28,159 @@ use Rattle.seating.proofs.place.Statement.{statement}
 use Rattle.seating.proofs.place.Tie as tie
 
 -- earlier places, from later ones
-abbrev start : tie.After-keep-slices → tie.Start
-start c = c.before.before.before
+abbrev start : tie.After-keep_slices → tie.Start
+start c = c.before.before
 
-abbrev asked : tie.After-may-place → tie.After-nodes-of
-asked c = c.before.before.before.before
+abbrev asked : tie.After-may_place-way → tie.After-nodes_of-on
+asked c = c.before.before.before
 
-abbrev looked : tie.After-may-place → tie.After-looked-at
+abbrev looked : tie.After-may_place-way → tie.After-looked_at-seen
 looked c = (asked c).before
 
-abbrev tested : tie.After-may-place → tie.Else1
+abbrev tested : tie.After-may_place-way → tie.Else-not-keep_slices
 tested c = (looked c).before.before.before
 
-abbrev begun : tie.After-may-place → tie.Start
+abbrev begun : tie.After-may_place-way → tie.Start
 begun c = start (tested c).before
 
-abbrev went : tie.After-known-told2 → tie.After-may-place
-went c = c.before.before.before
+abbrev went : tie.In-Go → tie.After-may_place-way
+went c = c.before
 
-abbrev known : tie.After-work → tie.After-known-told2
+abbrev known : tie.After-work-o → tie.In-Go
 known c = c.before.before.before.before.before
 
-abbrev worked : tie.After-is-over → tie.After-work
+abbrev worked : tie.After-is_over → tie.After-work-o
 worked c = c.before.before
 
-abbrev within : tie.After-put-in → tie.Else2
+abbrev within : tie.After-put_in → tie.Else-is_over
 within c = c.before.before.before.before
 
-abbrev put : tie.After-stand-in → tie.After-put-in
+abbrev put : tie.After-stand_in → tie.After-put_in
 put c = c.before.before.before.before
 
-abbrev stood : tie.Else3 → tie.After-stand-in
+abbrev stood : tie.Else-not-stand_in → tie.After-stand_in
 stood c = c.before.before
 
-abbrev passed : tie.After-on5 → tie.Else3
-passed c = c.before.before.before.before.before.before
+abbrev passed : tie.After-on-in-Go-4-1 → tie.Else-not-stand_in
+passed c = c.before.before.before.before.before.before.before.before.before.before
 
 -- what the test of the slices has shown
-good : (c : tie.Else1) →
+good : (c : tie.Else-not-keep_slices) →
     off_slices (start c.before).args.volts.now (start c.before).args.totals.now ≡ false
 good c =
     let s = start c.before in
-    slices_on s.args.volts.now s.args.totals.now c.before.keep-slices.ensures.told
-    (not-false _ c.if1.false)
+    slices_on s.args.volts.now s.args.totals.now c.keep_slices.ensures.told
+    (not-false _ c.if-not-keep_slices.false)
 
 -- the nodes that the card looks at
-abbrev seen : tie.After-may-place → List ℤ
-seen c = (looked c).looked-at.result
+abbrev seen : tie.After-may_place-way → List ℤ
+seen c = (looked c).looked_at-seen.result
 
-long : (c : tie.After-may-place) → length (seen c) ≡ roles
+long : (c : tie.After-may_place-way) → length (seen c) ≡ roles
 long c = search rules
 
-number : (c : tie.After-issue-of) → c.issue-of.result ≡ issue_of (start c.before.before).args.card
+number : (c : tie.After-issue_of-n) → c.issue_of-n.result ≡ issue_of (start c.before.before).args.card
 number c =
     let s = start c.before.before in
-    c.issue-of.ensures ∙ ap issue_of (to_z-of_z w64 s.args.card s.fits.card)
+    c.issue_of-n.ensures ∙ ap issue_of (to_z-of_z w64 s.args.card s.fits-held.card)
 
 -- they are the definition's, by the arrays that are lent
-seen_is : (c : tie.After-may-place) →
+seen_is : (c : tie.After-may_place-way) →
     seen c ≡ looked_at (wide_by (wide_at (begun c).args.switches.now)
     (number_place cards_most (issue_of (begun c).args.card) (begun c).args.held.now)) (begun c).args.roles
 seen_is c =
     let wide = (looked c).before in
-    (looked c).looked-at.ensures
+    (looked c).looked_at-seen.ensures
     ∙ ap (λ (w : Bool). looked_at w (begun c).args.roles)
-    (wide.is_wide.ensures
+    (wide.is_wide-wide.ensures
     ∙ ap
     (λ (n : ℕ). wide_by (wide_at (begun c).args.switches.now) (number_place cards_most n (begun c).args.held.now))
     (number wide.before))
 
 -- the way, by the caller's own numbers
-way_is : (c : tie.After-may-place) →
-    c.may-place.result ≡ way_of (free_place (begun c).args.issues.now)
+way_is : (c : tie.After-may_place-way) →
+    c.may_place-way.result ≡ way_of (free_place (begun c).args.issues.now)
     (placing (number_place cards_most (issue_of (begun c).args.card) (begun c).args.held.now)
-    (ties_at (begun c).args.switches.now) (asked c).nodes-of.result
+    (ties_at (begun c).args.switches.now) (asked c).nodes_of-on.result
     (leb transistors_most (free_place (begun c).args.issues.now)) (used_up (begun c).args.next.now))
 way_is c =
-    c.may-place.ensures
+    c.may_place-way.ensures
     ∙ ap
     (λ (n : ℕ). way_of (free_place (begun c).args.issues.now)
     (placing (number_place cards_most n (begun c).args.held.now)
-    (ties_at (begun c).args.switches.now) (asked c).nodes-of.result
+    (ties_at (begun c).args.switches.now) (asked c).nodes_of-on.result
     (leb transistors_most (free_place (begun c).args.issues.now)) (used_up (begun c).args.next.now)))
     (number (looked c).before.before)
 
 -- the places of the card and of the transistor to be, and its number, are in range
-abbrev going : tie.Else3 → tie.After-known-told2
+abbrev going : tie.Else-not-stand_in → tie.In-Go
 going c = known (worked (within (put (stood c))).before)
 
-free_there : (c : tie.Else3) → (going c).before.way2.given.0.1.0 < transistors_most
+free_there : (c : tie.Else-not-stand_in) → (going c).in-Go.free < transistors_most
 free_there c =
     let m = went (going c) in
     let s = begun m in
-    let p = s.pre in
+    let p = s.requires in
     lent_free p.2 p.1 s.args.volts.now s.args.totals.now s.args.card s.args.roles
-    (good (tested m)) (seen_is m) (long m) (asked m).nodes-of.ensures (way_is m) (going c).before.way2.given.1
+    (good (tested m)) (seen_is m) (long m) (asked m).nodes_of-on.ensures (way_is m) (going c).in-Go.is
 
-card_there : (c : tie.Else3) → (going c).before.way2.given.0.0 < cards_most
+card_there : (c : tie.Else-not-stand_in) → (going c).in-Go.at < cards_most
 card_there c =
     let m = went (going c) in
     let s = begun m in
-    let p = s.pre in
+    let p = s.requires in
     lent_card p.2 p.1 s.args.volts.now s.args.totals.now s.args.card s.args.roles
-    (good (tested m)) (seen_is m) (long m) (asked m).nodes-of.ensures (way_is m) (going c).before.way2.given.1
+    (good (tested m)) (seen_is m) (long m) (asked m).nodes_of-on.ensures (way_is m) (going c).in-Go.is
 
-number_there : (c : tie.Else3) → (begun (went (going c))).args.next.now ≤ issues_most
+number_there : (c : tie.Else-not-stand_in) → (begun (went (going c))).args.next.now ≤ issues_most
 number_there c =
     let m = went (going c) in
     let s = begun m in
-    let p = s.pre in
+    let p = s.requires in
     lent_number p.2 p.1 s.args.volts.now s.args.totals.now s.args.card s.args.roles
-    (good (tested m)) (seen_is m) (long m) (asked m).nodes-of.ensures (way_is m) (going c).before.way2.given.1
+    (good (tested m)) (seen_is m) (long m) (asked m).nodes_of-on.ensures (way_is m) (going c).in-Go.is
 
 -- the kept voltages are those of the slice
-kept_are : (c : tie.After-may-place) →
-    (tested c).before.keep-slices.new.0 ≡ map kept_as (begun c).args.volts.now
-kept_are c = let e = tested c in e.before.keep-slices.ensures.volts_are (not-false _ e.if1.left)
+kept_are : (c : tie.After-may_place-way) →
+    (tested c).keep_slices.new.kept ≡ map kept_as (begun c).args.volts.now
+kept_are c = let e = tested c in e.keep_slices.ensures.volts_are (not-false _ e.if-not-keep_slices.false)
 
-returns : tie.Need-returns
+returns : tie.Need-returns-then-not-keep_slices
 returns c =
     let s = start c.before in
     λ r k l. lent_off l k s.args.volts.now s.args.totals.now s.args.card s.args.roles
-    (slices_off s.args.volts.now s.args.totals.now c.before.keep-slices.ensures.told
-    (not-true _ c.if1.true))
+    (slices_off s.args.volts.now s.args.totals.now c.keep_slices.ensures.told
+    (not-true _ c.if-not-keep_slices.true))
 
-work_requires : tie.Need-work-requires
+work_requires : tie.Need-work-o-requires
 work_requires c κs =
     let t = c.before.before.before in
     let k = t.before in
     let m = went k in
     let s = begun m in
-    let p = s.pre in
+    let p = s.requires in
     lent_works p.2 p.1 s.args.volts.now s.args.totals.now s.args.card s.args.roles
-    (good (tested m)) (seen_is m) (long m) (asked m).nodes-of.ensures (way_is m) k.before.way2.given.1
-    (kept_are m) _ t.table.ensures
+    (good (tested m)) (seen_is m) (long m) (asked m).nodes_of-on.ensures (way_is m) k.in-Go.is
+    (kept_are m) _ t.table-table.ensures
 
-put_in_requires : tie.Need-put-in-requires
+put_in_requires : tie.Need-put_in-requires
 put_in_requires c κs =
     let w = worked c.before.before.before.before in
     let k = known w in
     let m = went k in
     let s = begun m in
-    let p = s.pre in
+    let p = s.requires in
     lent_gives p.2 p.1 s.args.volts.now s.args.totals.now s.args.card s.args.roles
-    (good (tested m)) (seen_is m) (long m) (asked m).nodes-of.ensures (way_is m) k.before.way2.given.1
-    (kept_are m) w.work.ensures
+    (good (tested m)) (seen_is m) (long m) (asked m).nodes_of-on.ensures (way_is m) k.in-Go.is
+    (kept_are m) w.work-o.ensures
 
-totals_are : (c : tie.After-put-in) → let m = went (known (worked (within c).before)) in
+totals_are : (c : tie.After-put_in) → let m = went (known (worked (within c).before)) in
     length (begun m).args.totals.now ≡ nodes_most
 totals_are c =
     let e = tested (went (known (worked (within c).before))) in
     let s = start e.before in totals_long s.args.volts.now s.args.totals.now (good e)
 
-stand_in_requires : tie.Need-stand-in-requires
+stand_in_requires : tie.Need-stand_in-requires
 stand_in_requires c κs =
     let u = c.before.before.before in
     let e = within u in
@@ -188,31 +188,31 @@ stand_in_requires c κs =
     let k = known w in
     let m = went k in
     let s = begun m in
-    let p = s.pre in (
+    let p = s.requires in (
       totals_are u,
       λ f. lent_near p.2 p.1 s.args.volts.now s.args.totals.now s.args.card s.args.roles
-          (good (tested m)) (seen_is m) (long m) (asked m).nodes-of.ensures (way_is m) k.before.way2.given.1
-          (kept_are m) w.work.ensures (sym e.before.is-over.ensures ∙ e.if2.left) u.put_in.ensures,
+          (good (tested m)) (seen_is m) (long m) (asked m).nodes_of-on.ensures (way_is m) k.in-Go.is
+          (kept_are m) w.work-o.ensures (sym e.is_over.ensures ∙ e.if-is_over.false) u.put_in.ensures,
     )
 
 -- as many totals as before
-same : (c : tie.After-stand-in) → let m = went (known (worked (within (put c)).before)) in
-    length c.stand-in.new.0 ≡ length (begun m).args.totals.now
-same c = in_long _ _ _ c.stand-in.ensures (totals_are (put c))
+same : (c : tie.After-stand_in) → let m = went (known (worked (within (put c)).before)) in
+    length c.stand_in.new.totals ≡ length (begun m).args.totals.now
+same c = in_long _ _ _ c.stand_in.ensures (totals_are (put c))
 
-returns_2 : tie.Need-returns-2
+returns_2 : tie.Need-returns-then-is_over
 returns_2 c =
     let f = c.before in
     let w = worked f.before in
     let k = known w in
     let m = went k in
     let s = begun m in
-    λ r q l. rw c.refusal-of.ensures
+    λ r q l. rw c.refusal_of.ensures
     (lent_over l q s.args.volts.now s.args.totals.now s.args.card s.args.roles (good (tested m))
-    (seen_is m) (long m) (asked m).nodes-of.ensures (way_is m) k.before.way2.given.1 (kept_are m)
-    w.work.ensures (sym f.before.is-over.ensures ∙ f.if2.true))
+    (seen_is m) (long m) (asked m).nodes_of-on.ensures (way_is m) k.in-Go.is (kept_are m)
+    w.work-o.ensures (sym f.is_over.ensures ∙ f.if-is_over.true))
 
-returns_3 : tie.Need-returns-3
+returns_3 : tie.Need-returns-then-not-stand_in
 returns_3 c =
     let j = c.before.before in
     let u = put j in
@@ -222,27 +222,27 @@ returns_3 c =
     let m = went k in
     let s = begun m in
     λ r q l. lent_leaves_64 l q s.args.volts.now s.args.totals.now s.args.card s.args.roles
-    (good (tested m)) (seen_is m) (long m) (asked m).nodes-of.ensures (way_is m) k.before.way2.given.1
-    (kept_are m) w.work.ensures (sym e.before.is-over.ensures ∙ e.if2.left) u.put_in.ensures
-    j.stand-in.ensures (not-true _ c.if3.true)
+    (good (tested m)) (seen_is m) (long m) (asked m).nodes_of-on.ensures (way_is m) k.in-Go.is
+    (kept_are m) w.work-o.ensures (sym e.is_over.ensures ∙ e.if-is_over.false) u.put_in.ensures
+    j.stand_in.ensures (not-true _ c.if-not-stand_in.true)
 
 join_requires : tie.Need-join-requires
 join_requires c κs =
     let k = going (passed c) in
     let m = went k in
     let s = begun m in
-    let p = s.pre in
+    let p = s.requires in
     lent_enters p.2 p.1 s.args.volts.now s.args.totals.now s.args.card s.args.roles
-    (good (tested m)) (seen_is m) (long m) (asked m).nodes-of.ensures (way_is m) k.before.way2.given.1
+    (good (tested m)) (seen_is m) (long m) (asked m).nodes_of-on.ensures (way_is m) k.way-in-Go-1.given.1
 
-returns_4 : tie.Need-returns-4
+returns_4 : tie.Need-returns-in-Stop
 returns_4 c =
-    let m = c.before.before.before in
+    let m = c.before in
     let s = begun m in
     λ r q l. lent_stops l q s.args.volts.now s.args.totals.now s.args.card s.args.roles
-    (good (tested m)) (seen_is m) (long m) (asked m).nodes-of.ensures (way_is m) _ c.before.way.given.1
+    (good (tested m)) (seen_is m) (long m) (asked m).nodes_of-on.ensures (way_is m) _ c.in-Stop.is
 
-returns_5 : tie.Need-returns-5
+returns_5 : tie.Need-returns-else-not-stand_in
 returns_5 c =
     let v = c.before.before.before in
     let n = v.before.before.before in
@@ -255,10 +255,10 @@ returns_5 c =
     let m = went k in
     let s = begun m in
     λ r q l. lent_places l q s.args.volts.now s.args.totals.now s.args.card s.args.roles
-    (good (tested m)) (seen_is m) (long m) (asked m).nodes-of.ensures (way_is m) k.before.way2.given.1
-    (kept_are m) w.work.ensures (sym e.before.is-over.ensures ∙ e.if2.left) u.put_in.ensures
-    j.stand-in.ensures (not-false _ f.if3.left) n.put-nodes.ensures v.join.ensures
-    c.put-currents.ensures
+    (good (tested m)) (seen_is m) (long m) (asked m).nodes_of-on.ensures (way_is m) k.in-Go.is
+    (kept_are m) w.work-o.ensures (sym e.is_over.ensures ∙ e.if-is_over.false) u.put_in.ensures
+    j.stand_in.ensures (not-false _ f.if-not-stand_in.false) n.put_nodes.ensures v.join.ensures
+    c.put_currents.ensures
 
 pub place_spec : {M : Type 1} → statement M
 place_spec =
@@ -269,9 +269,9 @@ place_spec =
     put_in_requires stand_in_requires (λ c. same c.before.before) returns_3
     (λ c. let h = free_there c in omega arith) (λ c. let h = free_there c in omega arith)
     (λ c. let h = card_there c in omega arith) (λ c. let h = card_there c in omega arith)
-    (λ c. let h = free_there c.before in omega arith) (λ c. let h = free_there c.before in omega arith)
-    (λ c. let h = card_there c.before in omega arith) (λ c. let h = free_there c.before in omega arith)
-    (λ c κs. free_there c.before.before.before) join_requires
+    (λ c. let h = free_there c.before.before.before in omega arith) (λ c. let h = free_there c.before.before.before.before in omega arith)
+    (λ c. let h = card_there c.before.before.before.before in omega arith) (λ c. let h = free_there c.before.before.before.before.before in omega arith)
+    (λ c κs. free_there c.before.before.before.before.before.before.before) join_requires
     (λ c κs. free_there (passed c.before.before.before))
     (λ c. let h = number_there (passed c.before.before.before.before) in omega arith) (λ c. search rules)
     returns_4 (λ c. same (stood (passed c.before.before.before.before))) returns_5)

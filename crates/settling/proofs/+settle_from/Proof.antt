@@ -99,62 +99,53 @@ module _ (t : ℕ) where
 
   returns : lts.Need-returns (callees t) (settle_from_at t) settle-from.Post
   returns c =
-      let o = c.before in
-      gone_over _ _ o.before.before.requires.1.gone o.before.if1.true
-      (sym o.is-over.ensures ∙ c.if2.true)
+      gone_over _ _ c.requires.1.gone c.if1.true
+      (sym c.is-over.ensures ∙ c.if2.true)
 
   stand_in_requires : lts.Need-stand-in-requires (callees t) (settle_from_at t) settle-from.Post
   stand_in_requires c κs =
-      let e = c.before.before.before.before.before in
-      let p = e.before.requires.1 in
-      (p.settling.long, λ f. gone_near _ _ p.gone e.if1.true p.settling (ltb-true _ _ f))
+      let p = c.requires.1 in
+      (p.settling.long, λ f. gone_near _ _ p.gone c.if1.true p.settling (ltb-true _ _ f))
 
   same_length : lts.Need-same-length (callees t) (settle_from_at t) settle-from.Post
   same_length c =
       let s = (judged c.before).before.before.before in
-      in_long s.args.totals.now s.args.coming.now s.args.going.now c.before.stand-in.ensures
-      s.pre.1.settling.long
+      in_long s.args.totals.now s.args.coming.now s.args.going.now c.stand-in.ensures
+      s.requires.1.settling.long
 
   returns_2 : lts.Need-returns-2 (callees t) (settle_from_at t) settle-from.Post
   returns_2 c =
-      let s = c.before in
-      let e = judged s in
-      let o = e.before in
-      gone_all _ _ o.before.before.pre.1.gone o.before.if1.taken (sym o.is-over.ensures ∙ e.if2.left)
-      s.stand-in.ensures
+      let e = judged c in
+      gone_all _ _ e.requires.1.gone e.if1.taken (sym e.is-over.ensures ∙ e.if2.left)
+      c.stand-in.ensures
 
   element_copy_out_s : lts.Need-element-copy-out-s (callees t) (settle_from_at t) settle-from.Post
   element_copy_out_s c = search rules
 
   cast_s : lts.Need-overflow-cast-s (callees t) (settle_from_at t) settle-from.Post
   cast_s c =
-      let e = c.before in
-      let g = e.before.requires.1 in
-      let s = (g.settling.able e.before.args.i e.if1.false (g.gone.is e.if1.false)).there in omega arith
+      let g = c.requires.1 in
+      let s = (g.settling.able c.args.i c.if1.false (g.gone.is c.if1.false)).there in omega arith
 
   nodes_at_requires : lts.Need-nodes-at-requires (callees t) (settle_from_at t) settle-from.Post
-  nodes_at_requires c κs = c.before.if1.false
+  nodes_at_requires c κs = c.if1.false
 
   work_requires : lts.Need-work-requires (callees t) (settle_from_at t) settle-from.Post
   work_requires c κs =
-      let n = c.before in
-      let e = n.before.before in
-      let g = e.before.requires.1 in
-      gone_works _ _ g.settling g.gone e.if1.false n.nodes-at.ensures _ g.table_is
+      let g = c.requires.1 in
+      gone_works _ _ g.settling g.gone c.if1.false c.nodes-at.ensures _ g.table_is
 
   put_out_requires : lts.Need-put-out-requires (callees t) (settle_from_at t) settle-from.Post
   put_out_requires c κs =
-      let w = c.before.before.before in
-      let g = (left w).before.requires.1 in (
-        (left w).if1.false,
-        (gone_goes _ _ g.settling g.gone (left w).if1.false (found w).nodes-at.ensures refl).0,
+      let g = (left c).requires.1 in (
+        (left c).if1.false,
+        (gone_goes _ _ g.settling g.gone (left c).if1.false (found c).nodes-at.ensures refl).0,
       )
 
   put_in_requires : lts.Need-put-in-requires (callees t) (settle_from_at t) settle-from.Post
   put_in_requires c κs =
-      let w = c.before.before.before.before.before.before.before.before in
-      let g = (left w).before.requires.1 in
-      gone_comes _ _ g.settling g.gone (left w).if1.false (found w).nodes-at.ensures w.work.ensures
+      let g = (left c).requires.1 in
+      gone_comes _ _ g.settling g.gone (left c).if1.false (found c).nodes-at.ensures c.work.ensures
 
   mul_issue : lts.Need-overflow-mul-issue (callees t) (settle_from_at t) settle-from.Post
   mul_issue c = omega arith
@@ -173,16 +164,15 @@ module _ (t : ℕ) where
 
   settle_from_requires : lts.Need-settle-from-requires (callees t) (settle_from_at t) settle-from.Post
   settle_from_requires c κs =
-      let n = c.before.before.before.before in
-      let e = left (worked n) in
-      let p = e.before.pre in (
+      let e = left (worked c) in
+      let p = e.requires in (
         let m = p.0 in
             let h = e.if1.left in
-            let k = reach (omega arith) n.next-in.ensures in omega arith,
+            let k = reach (omega arith) c.next-in.ensures in omega arith,
         goes_on _ _ p.1 e.if1.left
-            (found (worked n)).nodes-at.ensures refl
-            (gone n).put-out.ensures (worked n).work.ensures (come n).put_in.ensures
-            n.before.earlier-of.ensures _ n.next-in.ensures,
+            (found (worked c)).nodes-at.ensures refl
+            (gone c).put-out.ensures (worked c).work.ensures (come c).put_in.ensures
+            c.earlier-of.ensures _ c.next-in.ensures,
       )
 
   is_taken_requires : lts.Need-is-taken-requires (callees t) (settle_from_at t) settle-from.Post
@@ -190,14 +180,13 @@ module _ (t : ℕ) where
 
   put_currents_requires : lts.Need-put-currents-requires (callees t) (settle_from_at t) settle-from.Post
   put_currents_requires c κs =
-      let s = c.before.before.before.before.before.before in
-      let n = went s in
+      let n = went c in
       let h = (left (worked n)).if1.left in search rules
 
   -- as many totals on the way back
   back_long : (c : lts.After-settle-from (callees t) (settle_from_at t) settle-from.Post) →
-      length c.settle-from.new.1.1.1.0 ≡ length (left (worked (went c))).before.args.totals.now
-  back_long c = settled_long _ _ (left (worked (went c))).before.pre.1.settling.long c.settle-from.ensures
+      length c.settle-from.new.1.1.1.0 ≡ length (left (worked (went c))).args.totals.now
+  back_long c = settled_long _ _ (left (worked (went c))).requires.1.settling.long c.settle-from.ensures
 
   same_length_2 : lts.Need-same-length-2 (callees t) (settle_from_at t) settle-from.Post
   same_length_2 c = back_long c.before.before.before.before.before.before.before
@@ -207,22 +196,19 @@ module _ (t : ℕ) where
 
   returns_3 : lts.Need-returns-3 (callees t) (settle_from_at t) settle-from.Post
   returns_3 c =
-      let f = c.before.before.before.before in
-      let s = f.before.before.before in
-      let n = went s in
+      let n = went c in
       let e = left (worked n) in
       rw c.put-currents.ensures
-      (back_held _ _ e.if1.left n.next-in.ensures s.settle-from.ensures
-      (sym f.before.is-taken.ensures ∙ f.if3.true) (e.before.pre.1.gone.is e.if1.left)
+      (back_held _ _ e.if1.left n.next-in.ensures c.settle-from.ensures
+      (sym c.is-taken.ensures ∙ c.if3.true) (e.requires.1.gone.is e.if1.left)
       (found (worked n)).nodes-at.ensures (worked n).work.ensures)
 
   returns_4 : lts.Need-returns-4 (callees t) (settle_from_at t) settle-from.Post
   returns_4 c =
-      let s = c.before.before.before in
-      let n = went s in
+      let n = went c in
       let e = left (worked n) in
-      back_left _ _ e.if1.left n.next-in.ensures s.settle-from.ensures
-      (sym c.before.is-taken.ensures ∙ c.if3.false)
+      back_left _ _ e.if1.left n.next-in.ensures c.settle-from.ensures
+      (sym c.is-taken.ensures ∙ c.if3.false)
 
 pub +settle-from-spec : {M : Type 1} → statement M
 +settle-from-spec =

@@ -17,14 +17,14 @@ more_as : (on : List ℕ) {l m a b : List ℤ} → a ≡ b → More nodes_most l
     More nodes_most l m (ticks_give on b)
 more_as on {l} {m} = subst (λ (own : List ℤ). More nodes_most l m (ticks_give on own))
 
-put_in_requires : tie.Need-put-in-requires
+put_in_requires : tie.Need-put_in-requires
 put_in_requires c κs =
-    let a = c.before.before in (givable_as a.currents-at.ensures a.before.requires.1, search rules)
+    let a = c.before.before in (givable_as a.currents_at-old.ensures a.requires.1, search rules)
 
 returns : tie.Need-returns
 returns c =
     let a = c.before.before.before in
-    more_as a.before.args.on.now a.currents-at.ensures c.put_in.ensures
+    more_as a.args.on.now a.currents_at-old.ensures c.put_in.ensures
 
 pub put_out_spec : {M : Type 1} → statement M
 put_out_spec = tie.close (tie.spec (λ c κs. c.requires.0) put_in_requires returns)

@@ -8,55 +8,34 @@ use Rattle.slices.proofs.Passing.{stood_long, stays_in, stands_in}
 use Rattle.standing.proofs.stand_in.Statement.{statement}
 use Rattle.standing.proofs.stand_in.Tie as tie
 
--- the start, from later places
-abbrev start : tie.After-all-small → tie.Start
-start c = c.before.before
-
-abbrev small : tie.After-stand-small → tie.Then1
-small c = c.before.before.before
-
-abbrev large : tie.After-stand-each → tie.Else1
-large c = c.before.before.before
-
--- as many totals come out
-near_long : (c : tie.After-stand-small) → length c.stand-small.new.0 ≡ nodes_most
-near_long c = stood_long _ _ _ c.stand-small.ensures
-
-next_long : (c : tie.After-stand-each) → length c.stand-each.new.0 ≡ nodes_most
-next_long c = stood_long _ _ _ c.stand-each.ensures
-
-stand_small_requires : tie.Need-stand-small-requires
+stand_small_requires : tie.Need-stand_small-requires
 stand_small_requires c κs =
-    let t = c.before.before in ((start t.before).requires.0, t.before.all_small.ensures t.if1.true)
+    (c.requires.0, c.all_small.ensures c.if-all_small.true)
 
-put_totals_requires : tie.Need-put-totals-requires
-put_totals_requires c κs = let j = c.before.before in ((start (small j).before).requires.0, near_long j)
+put_totals_requires : tie.Need-put_totals-requires
+put_totals_requires c κs = (c.requires.0, (let near_long_ : length c.stand_small.new.next ≡ nodes_most = stood_long _ _ _ c.stand_small.ensures in near_long_))
 
-same_length : tie.Need-same-length
+same_length : tie.Need-shape_of-totals-then-all_small
 same_length c =
-    let j = c.before.before.before.before in
-    ap length c.before.put-totals.ensures ∙ near_long j ∙ sym (start (small j).before).requires.0
+    ap length c.put_totals.ensures ∙ (let near_long_ : length c.stand_small.new.next ≡ nodes_most = stood_long _ _ _ c.stand_small.ensures in near_long_) ∙ sym c.requires.0
 
-returns : tie.Need-returns
+returns : tie.Need-returns-then-all_small
 returns c =
-    let j = c.before.before.before.before in
-    stands_in _ _ _ j.stand-small.ensures refl c.before.put-totals.ensures
+    stands_in _ _ _ c.stand_small.ensures refl c.put_totals.ensures
 
-returns_2 : tie.Need-returns-2
-returns_2 c = stays_in _ _ _ c.before.stand-each.ensures (not-true _ c.if2.true)
+returns_2 : tie.Need-returns-then-not-stand_each
+returns_2 c = stays_in _ _ _ c.stand_each.ensures (c.if-not-stand_each.true)
 
-put_totals_requires_2 : tie.Need-put-totals-requires-2
-put_totals_requires_2 c κs = let j = c.before.before.before in ((start (large j).before).requires.0, next_long j)
+put_totals_requires_2 : tie.Need-put_totals-requires-2
+put_totals_requires_2 c κs = (c.requires.0, (let next_long_ : length c.stand_each.new.next ≡ nodes_most = stood_long _ _ _ c.stand_each.ensures in next_long_))
 
-same_length_3 : tie.Need-same-length-3
+same_length_3 : tie.Need-shape_of-totals
 same_length_3 c =
-    let j = c.before.before.before.before.before in
-    ap length c.before.put-totals2.ensures ∙ next_long j ∙ sym (start (large j).before).requires.0
+    ap length c.put_totals-2.ensures ∙ (let next_long_ : length c.stand_each.new.next ≡ nodes_most = stood_long _ _ _ c.stand_each.ensures in next_long_) ∙ sym c.requires.0
 
-returns_3 : tie.Need-returns-3
+returns_3 : tie.Need-returns
 returns_3 c =
-    let e = c.before.before.before.before in
-    stands_in _ _ _ e.before.stand-each.ensures (not-false _ e.if2.false) c.before.put-totals2.ensures
+    stands_in _ _ _ c.stand_each.ensures (c.if-not-stand_each.false) c.put_totals-2.ensures
 
 pub stand_in_spec : {M : Type 1} → statement M
 stand_in_spec =

@@ -26,26 +26,26 @@ one_more totals k f r i h = go (below_or_not i k)
     go (inl b) = r i b
     go (inr b) = let same : i ≡ k = omega arith in rw same f
 
-abbrev invariant_loop : tie.invariant-loop
+abbrev invariant_loop : tie.invariant-loop-k
 invariant_loop totals k₀ k = (k ≤ nodes_most) × Read totals k
 
-abbrev decreases_loop : tie.decreases-loop
+abbrev decreases_loop : tie.decreases-loop-k
 decreases_loop totals k₀ k = nodes_most - k
 
-loop_holds : tie.Need-loop-init invariant_loop decreases_loop
+loop_holds : tie.Need-loop-k-init invariant_loop decreases_loop
 loop_holds c = (search rules, λ i h. absurd (omega arith))
 
-loop_again : tie.Need-loop-preserved invariant_loop decreases_loop
+loop_again : tie.Need-loop-k-preserved invariant_loop decreases_loop
 loop_again c =
     let l = c.before.before in
-    let totals = l.before.args.totals.now in
-    let fits : SFits w64 (get_or totals l.loop.k (pos 0)) = search rules in
-    (omega arith, one_more totals l.loop.k fits l.loop.invariant.1)
+    let totals = l.args.totals.now in
+    let fits : SFits w64 (get_or totals l.loop-k.k (pos 0)) = search rules in
+    (omega arith, one_more totals l.loop-k.k fits l.loop-k.invariant.1)
 
 returns : tie.Need-returns invariant_loop decreases_loop
 returns c =
     let s = c.before.before in
-    let read = c.before.loop.invariant.1 in
+    let read = c.loop-k.invariant.1 in
     still_all s.args.totals.now s.requires (λ i h. read i (omega arith))
 
 pub stand_still_spec : {M : Type 1} → statement M

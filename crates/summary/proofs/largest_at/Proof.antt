@@ -16,69 +16,30 @@ use Rattle.summary.proofs.Ends.{From, from_last, from_more, from_all}
 use Rattle.summary.proofs.largest_at.Statement.{statement}
 use Rattle.summary.proofs.largest_at.Tie as tie
 
-abbrev invariant_loop : tie.invariant-loop
+abbrev invariant_loop : tie.invariant-loop-k
 invariant_loop on own n from to most₀ k₀ most k = (k ≤ branches) × From n on own k most
 
-abbrev decreases_loop : tie.decreases-loop
+abbrev decreases_loop : tie.decreases-loop-k
 decreases_loop on own n from to most₀ k₀ most k = k
 
-loop_holds : tie.Need-loop-init invariant_loop decreases_loop
+loop_holds : tie.Need-loop-k-init invariant_loop decreases_loop
 loop_holds c = (search rules, from_last _ _ _)
 
--- the ends of a branch are roles
-from_role : (c : tie.In-loop invariant_loop decreases_loop) → let f = c.before.before.before.from-roles in
-    get_or f.result (c.before.loop.k - 1) 0 < roles
-from_role c =
-    (subst (Wired roles) (sym c.before.before.before.from-roles.ensures) (wired_froms (rows_for false))).wired
-    (c.before.loop.k - 1)
-
-to_role : (c : tie.In-loop invariant_loop decreases_loop) → let t = c.before.before.to-roles in
-    get_or t.result (c.before.loop.k - 1) 0 < roles
-to_role c =
-    (subst (Wired roles) (sym c.before.before.to-roles.ensures) (wired_tos (rows_for false))).wired
-    (c.before.loop.k - 1)
-
--- a turn of the loop, and the start, from where a branch is measured
-abbrev turn : tie.After-size-there invariant_loop decreases_loop → tie.In-loop invariant_loop decreases_loop
-turn c = c.before.before.before.before
-
-abbrev start : tie.In-loop invariant_loop decreases_loop → tie.Start invariant_loop decreases_loop
-start c = c.before.before.before.before
-
-size_is : (c : tie.After-size-there invariant_loop decreases_loop) →
-    let a = (start (turn c)).args in
-    let k = (turn c).before.loop.k - 1 in
-    c.size-there.result ≡ cond (ends_at a.n a.on.now k) (nat_abs (get_or a.own.now k (pos 0))) 0
-size_is c =
-    let a = (start (turn c)).args in
-    let k = (turn c).before.loop.k - 1 in
-    let from = (turn c).before.before.before.from-roles in
-    let to = (turn c).before.before.to-roles in
-    let z = get_or a.own.now k (pos 0) in
-    let e : held z ≡ z = search rules in
-    c.size-there.ensures
-    ∙ (λ j. cond
-    (eqb (get_or a.on.now (get_or (from.ensures j) k 0) 0) a.n
-    || eqb (get_or a.on.now (get_or (to.ensures j) k 0) 0) a.n)
-    (nat_abs (e j)) 0)
-
-loop_again : tie.Need-loop-preserved invariant_loop decreases_loop
-loop_again c =
-    let t = c.before in
-    let l = (turn t).before in (
-      omega arith,
-      from_more _ _ _ l.loop.inv.1 (turn t).loop-test.true l.loop.inv.0 (size_is t)
-          c.larger-of.ensures,
-    )
+loop_again : tie.Need-loop-k-preserved invariant_loop decreases_loop
+loop_again c = (
+  omega arith,
+  from_more _ _ _ c.loop-k.invariant.1 c.loop-k-test.true c.loop-k.invariant.0 (let size_is_ : let a = c.args in let k = c.loop-k.k - 1 in c.size_there-here.result ≡ cond (ends_at a.n a.on.now k) (nat_abs (get_or a.own.now k (pos 0))) 0 = let a = c.args in let k = c.loop-k.k - 1 in let from = c.from_roles-from in let to = c.to_roles-to in let z = get_or a.own.now k (pos 0) in let e : held z ≡ z = search rules in c.size_there-here.ensures ∙ (λ j. cond (eqb (get_or a.on.now (get_or (from.ensures j) k 0) 0) a.n || eqb (get_or a.on.now (get_or (to.ensures j) k 0) 0) a.n) (nat_abs (e j)) 0) in size_is_)
+      c.larger_of-more.ensures,
+)
 
 returns : tie.Need-returns invariant_loop decreases_loop
-returns c = from_all _ _ _ c.before.loop.invariant.1 (omega arith)
+returns c = from_all _ _ _ c.loop-k.invariant.1 (omega arith)
 
 pub largest_at_spec : {M : Type 1} → statement M
 largest_at_spec =
     tie.close
     (tie.spec invariant_loop decreases_loop (λ c κs. search rules) (λ c κs. search rules) loop_holds (λ c. search rules)
-    (λ c. search rules) (λ c. let h = from_role c in omega arith) (λ c. search rules)
-    (λ c. let h = to_role c in omega arith) (λ c. search rules) (λ c. search rules)
-    (λ c. let h = from_role c.before in omega arith) (λ c. let h = to_role c.before.before in omega arith)
+    (λ c. search rules) (λ c. let h = (let from_role_ : let f = c.from_roles-from in get_or f.result (c.loop-k.k - 1) 0 < roles = (subst (Wired roles) (sym c.from_roles-from.ensures) (wired_froms (rows_for false))).wired (c.loop-k.k - 1) in from_role_) in omega arith) (λ c. search rules)
+    (λ c. let h = (let to_role_ : let t = c.to_roles-to in get_or t.result (c.loop-k.k - 1) 0 < roles = (subst (Wired roles) (sym c.to_roles-to.ensures) (wired_tos (rows_for false))).wired (c.loop-k.k - 1) in to_role_) in omega arith) (λ c. search rules) (λ c. search rules)
+    (λ c. let h = (let from_role_ : let f = c.from_roles-from in get_or f.result (c.loop-k.k - 1) 0 < roles = (subst (Wired roles) (sym c.from_roles-from.ensures) (wired_froms (rows_for false))).wired (c.loop-k.k - 1) in from_role_) in omega arith) (λ c. let h = (let to_role_ : let t = c.to_roles-to in get_or t.result (c.loop-k.k - 1) 0 < roles = (subst (Wired roles) (sym c.to_roles-to.ensures) (wired_tos (rows_for false))).wired (c.loop-k.k - 1) in to_role_) in omega arith)
     (λ c κs. search rules) (λ c κs. search rules) (λ c. omega arith) loop_again returns)

@@ -12,40 +12,32 @@ use Rattle.summary.proofs.Walked.{Walked, walked_none, walked_more, walked_all}
 use Rattle.summary.proofs.largest_in.Statement.{statement}
 use Rattle.summary.proofs.largest_in.Tie as tie
 
-abbrev invariant_loop : tie.invariant-loop
+abbrev invariant_loop : tie.invariant-loop-i
 invariant_loop nodes currents set n most₀ i₀ most i = Walked set (size_in nodes currents n) largest i most
 
-abbrev decreases_loop : tie.decreases-loop
+abbrev decreases_loop : tie.decreases-loop-i
 decreases_loop nodes currents set n most₀ i₀ most i = transistors_most - i
 
-loop_holds : tie.Need-loop-init invariant_loop decreases_loop
+loop_holds : tie.Need-loop-i-init invariant_loop decreases_loop
 unfolding largest
-loop_holds c = walked_none _ _ _ c.next-in.ensures refl
+loop_holds c = walked_none _ _ _ c.next_in-i.ensures refl
 
--- what is measured, and a turn of the loop
-abbrev measured : tie.After-next-in2 invariant_loop decreases_loop → tie.After-largest-at invariant_loop decreases_loop
-measured c = c.before.before
+-- what is measured, and a of the loop
+loop_less : tie.Need-loop-i-smaller invariant_loop decreases_loop
+loop_less c = let m = next_after c.loop-i-test.true c.next_in-next.ensures in omega arith
 
-abbrev turn : tie.After-largest-at invariant_loop decreases_loop → tie.In-loop invariant_loop decreases_loop
-turn c = c.before.before.before.before.before
-
-loop_less : tie.Need-loop-smaller invariant_loop decreases_loop
-loop_less c = let m = next_after (turn (measured c)).loop-test.taken c.next-in2.ensures in omega arith
-
-loop_again : tie.Need-loop-preserved invariant_loop decreases_loop
+loop_again : tie.Need-loop-i-preserved invariant_loop decreases_loop
 unfolding largest
 loop_again c =
-    let v = measured c in
-    let t = turn v in
-    let n = t.before.before.before.args.n in
-    let on = v.before.before.before.before.nodes-at.ensures in
-    let own = v.before.before.before.currents-at.ensures in
-    walked_more _ _ _ t.before.loop.inv t.loop-test.taken c.next-in2.ensures
-    (λ e. c.before.larger-of.ensures
-    ∙ (λ j. larger ((v.largest-at.ensures ∙ (λ k. size_at n (on k) (own k))) j) (e j)))
+    let n = c.args.n in
+    let on = c.nodes_at-on.ensures in
+    let own = c.currents_at-own.ensures in
+    walked_more _ _ _ c.loop-i.invariant c.loop-i-test.true c.next_in-next.ensures
+    (λ e. c.larger_of-more.ensures
+    ∙ (λ j. larger ((c.largest_at-here.ensures ∙ (λ k. size_at n (on k) (own k))) j) (e j)))
 
 returns : tie.Need-returns invariant_loop decreases_loop
-returns c = walked_all _ _ _ c.before.loop.invariant c.loop-test.false
+returns c = walked_all _ _ _ c.loop-i.invariant c.loop-i-test.false
 
 pub largest_in_spec : {M : Type 1} → statement M
 largest_in_spec =

@@ -4,11 +4,11 @@ use borrow.Author.Rules.{rules}
 use Rattle.summary.proofs.one_more.Statement.{statement}
 use Rattle.summary.proofs.one_more.Tie as tie
 
-returns : tie.Need-returns
-returns c = rw c.if1.true
+returns : tie.Need-returns-then-again
+returns c = rw c.if-again.true
 
-returns_2 : tie.Need-returns-2
-returns_2 c = rw (c.if1.false, add-one)
+returns_2 : tie.Need-returns-else-again
+returns_2 c = rw (c.if-again.false, add-one)
 
 pub one_more_spec : {M : Type 1} → statement M
 one_more_spec = tie.close (tie.spec (λ c. search rules) returns returns_2)

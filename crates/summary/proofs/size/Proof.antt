@@ -12,23 +12,23 @@ use Rattle.summary.proofs.size.Statement.{statement}
 use Rattle.summary.proofs.size.Tie as tie
 
 -- the number that was opened is x
-is_up : (c : tie.After-known-told) → pos c.before.n.given.0.0 ≡ c.before.before.before.before.args.x
+is_up : (c : tie.In-Pos) → pos c.in-Pos.n ≡ c.args.x
 is_up c =
-    let s = c.before.before.before.before in
-    opened (to_z-of_z w64 s.args.x s.ranges.x) c.before.before.before.«open».ensures
-    c.before.n.given.1
+    let s = c.before.before in
+    opened (to_z-of_z w64 s.args.x s.ranges.x) c.«open».ensures
+    c.in-Pos.is
 
-is_down : (c : tie.After-known-told2) →
-    negsuc c.before.n2.given.0.0 ≡ c.before.before.before.before.args.x
+is_down : (c : tie.In-NegSuc) →
+    negsuc c.in-NegSuc.n ≡ c.args.x
 is_down c =
-    let s = c.before.before.before.before in
-    opened (to_z-of_z w64 s.args.x s.ranges.x) c.before.before.before.«open».ensures
-    c.before.n2.given.1
+    let s = c.before.before in
+    opened (to_z-of_z w64 s.args.x s.ranges.x) c.«open».ensures
+    c.in-NegSuc.is
 
 pub size_spec : {M : Type 1} → statement M
 size_spec =
     tie.close
     (tie.spec (λ c κs. search rules) (λ c. search rules) (λ c. search rules)
-    (λ c. let s = c.before.before.before.before in
+    (λ c. let s = c.before.before in
     let h = (subst (SFits w64) (sym (is_down c)) s.ranges.x).sfits in omega arith)
     (λ c. ap nat_abs (is_up c)) (λ c. add-one _ ∙ ap nat_abs (is_down c)))

@@ -10,19 +10,13 @@ use Rattle.summary.proofs.Sums.{sums_off, sums_it}
 use Rattle.summary.proofs.sum_up.Statement.{statement}
 use Rattle.summary.proofs.sum_up.Tie as tie
 
-number : (c : tie.After-node-of) → c.node_of.result ≡ node_of c.before.args.node
-number c = c.node_of.ensures ∙ ap node_of (to_z-of_z w64 c.before.args.node c.before.ranges.node)
+returns : tie.Need-returns-then-n-ge-NODES
+returns c = λ b l. sums_off _ _ (subst (λ (k : ℕ). nodes_most ≤ k) (let number_ : c.node_of-n.result ≡ node_of c.args.node = c.node_of-n.ensures ∙ ap node_of (to_z-of_z w64 c.args.node c.ranges.node) in number_) c.if-n-ge-NODES.true)
 
-returns : tie.Need-returns
-returns c = λ b l. sums_off _ _ (subst (λ (k : ℕ). nodes_most ≤ k) (number c.before) c.if1.true)
-
-returns_2 : tie.Need-returns-2
+returns_2 : tie.Need-returns
 returns_2 c =
-    let k = c.before in
-    let t = k.before in
-    let f = t.before.before in
-    λ b l. sums_it _ _ l (number f.before) f.if1.false t.count.ensures k.cards-in.ensures
-    c.largest-in.ensures
+    λ b l. sums_it _ _ l (let number_ : c.node_of-n.result ≡ node_of c.args.node = c.node_of-n.ensures ∙ ap node_of (to_z-of_z w64 c.args.node c.ranges.node) in number_) c.if-n-ge-NODES.false c.count-count.ensures c.cards_in-kinds.ensures
+    c.largest_in-most.ensures
 
 pub sum_up_spec : {M : Type 1} → statement M
 sum_up_spec =

@@ -8,12 +8,12 @@ use borrow.Author.Rules.{rules}
 use Rattle.telling.proofs.firsts.Tie as tie
 use Rattle.telling.proofs.firsts.Statement.{statement}
 
-returns : tie.Need-returns
+returns : tie.Need-returns-then-n-numbers
 returns c =
-    let s = c.before.before.args in ap (λ (m : ℕ). take m s.numbers.now) (sub-zero s.n)
+    let s = c.args in ap (λ (m : ℕ). take m s.numbers.now) (sub-zero s.n)
 
-returns_2 : tie.Need-returns-2
-returns_2 c = sym (take_all c.before.args.n c.before.args.numbers.now c.if1.false)
+returns_2 : tie.Need-returns
+returns_2 c = sym (take_all c.args.n c.args.numbers.now c.if-n-numbers.false)
 
 pub firsts_spec : {M : Type 1} → statement M
 firsts_spec =

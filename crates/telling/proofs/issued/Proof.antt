@@ -3,17 +3,17 @@ use borrow.Author.Rules.{rules}
 use Rattle.telling.proofs.issued.Tie as tie
 use Rattle.telling.proofs.issued.Statement.{statement}
 
-returns : tie.Need-returns
-returns c = rw c.enum_told.given.1
+returns : tie.Need-returns-in-Card
+returns c = rw c.in-Card.is
 
-returns_2 : tie.Need-returns-2
-returns_2 c = rw c.enum-told2.given.1
+returns_2 : tie.Need-returns-in-Change
+returns_2 c = rw c.in-Change.is
 
-returns_3 : tie.Need-returns-3
-returns_3 c = rw c.enum-told3.given.1
+returns_3 : tie.Need-returns-in-Moves
+returns_3 c = rw c.in-Moves.is
 
-returns_4 : tie.Need-returns-4
-returns_4 c = rw c.enum-told4.given.1
+returns_4 : tie.Need-returns-in-Read
+returns_4 c = rw c.in-Read.is
 
 pub issued_spec : {M : Type 1} → statement M
 issued_spec =

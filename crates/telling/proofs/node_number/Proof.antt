@@ -9,24 +9,24 @@ use Rattle.telling.proofs.Nodes.{node_there_lem, node_above, node_below}
 use Rattle.telling.proofs.node_number.Tie as tie
 use Rattle.telling.proofs.node_number.Statement.{statement}
 
-is_up : (c : tie.After-known-told)
-    → pos c.before.n.given.0.0 ≡ c.before.before.before.before.args.node
+is_up : (c : tie.In-Pos)
+    → pos c.in-Pos.n ≡ c.args.node
 is_up c =
-    let o = c.before.before.before in
-    opened (to_z-of_z w64 o.before.args.node o.before.ranges.node) o.«open».ensures c.before.n.given.1
+    let o = c.before in
+    opened (to_z-of_z w64 o.args.node o.ranges.node) o.«open».ensures c.in-Pos.is
 
-is_down : (c : tie.After-enum-told) → negsuc c.enum_told.given.0.0 ≡ c.before.before.before.args.node
+is_down : (c : tie.In-NegSuc) → negsuc c.in-NegSuc.field-0 ≡ c.args.node
 is_down c =
-    let o = c.before.before in
-    opened (to_z-of_z w64 o.before.args.node o.before.ranges.node) o.«open».ensures c.enum_told.given.1
+    let o = c.before in
+    opened (to_z-of_z w64 o.args.node o.ranges.node) o.«open».ensures c.in-NegSuc.is
 
-returns : tie.Need-returns
-returns c = node_there_lem (is_up c.before) c.if1.true
+returns : tie.Need-returns-then-n-lt-NODES
+returns c = node_there_lem (is_up c.before) c.if-n-lt-NODES.true
 
-returns_2 : tie.Need-returns-2
-returns_2 c = node_above (is_up c.before) c.if1.false
+returns_2 : tie.Need-returns-else-n-lt-NODES
+returns_2 c = node_above (is_up c.before) c.if-n-lt-NODES.false
 
-returns_3 : tie.Need-returns-3
+returns_3 : tie.Need-returns-in-NegSuc
 returns_3 c = node_below (is_down c)
 
 pub node_number_spec : {M : Type 1} → statement M

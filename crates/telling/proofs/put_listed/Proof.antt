@@ -8,19 +8,19 @@ use Rattle.telling.proofs.Others.{listed_none}
 use Rattle.telling.proofs.put_listed.Tie as tie
 use Rattle.telling.proofs.put_listed.Statement.{statement}
 
-returns : tie.Need-returns
+returns : tie.Need-returns-in-Listed
 unfolding listed_of
 returns c =
     let f = c.before.before.before in
-    rw f.before.before.before.answer.given.1 (as_bytes (ap who_line f.firsts.ensures) c.put-who.ensures)
+    rw f.in-Listed.is (as_bytes (ap who_line f.firsts.ensures) c.put_who.ensures)
 
-returns_2 : tie.Need-returns-2
+returns_2 : tie.Need-returns-in-Refused
 unfolding listed_of
-returns_2 c = rw c.before.before.before.before.answer2.given.1 c.Put-refused.ensures
+returns_2 c = rw c.in-Refused.is c.put_refused.ensures
 
-returns_3 : tie.Need-returns-3
+returns_3 : tie.Need-returns-in_default
 returns_3 c =
-    let s = c.before.args in as_bytes (listed_none s.answer s.issues.now c.match.keys3) write_nothing
+    let s = c.args in as_bytes (listed_none s.answer s.issues.now c.in_default.in_default-own.keys3) write_nothing
 
 pub put_listed_spec : {M : Type 1} → statement M
 put_listed_spec =

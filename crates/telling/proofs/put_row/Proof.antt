@@ -11,16 +11,16 @@ use Rattle.telling.proofs.Written.{as_row}
 use Rattle.telling.proofs.put_row.Tie as tie
 use Rattle.telling.proofs.put_row.Statement.{statement}
 
-returns : tie.Need-returns
+returns : tie.Need-returns-in-Node
 unfolding row_of
 returns c =
     let s = c.before.before.before in
-    rw s.before.before.answer.given.1
+    rw s.in-Node.is
     (as_row (to_z-of_z w64 _ (search rules)) (to_z-of_z w64 _ (search rules)) _
-    (text_written s.sheet-line.ensures (sheet_whole _ _ _) c.put-text.ensures))
+    (text_written s.sheet_line.ensures (sheet_whole _ _ _) c.put_text.ensures))
 
-returns_2 : tie.Need-returns-2
-returns_2 c = as_bytes (row_none c.before.args.node c.before.args.answer c.match.keys2) write_nothing
+returns_2 : tie.Need-returns-in_default
+returns_2 c = as_bytes (row_none c.args.node c.args.answer c.in_default.in_default-own.keys2) write_nothing
 
 pub put_row_spec : {M : Type 1} → statement M
 put_row_spec =
