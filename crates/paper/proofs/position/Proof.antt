@@ -1,0 +1,39 @@
+-- `position` asks `place` for what was worked for an octave in range; the place is far below 2^63.
+use mathlib.Core.Path.{◌≡◌, ap, ◌∙◌}
+use Prim.Native.Nat.{ℕ, ◌-◌, ◌^◌, ◌<◌}
+use lib.Dec.{lit<, lit≤}
+use Rattle.volts.specs.Volts.{volts_most, across_of}
+use Rattle.octave.specs.declared.Reciprocal.{Reciprocal}
+use Rattle.octave.specs.Position.{InRange}
+use Rattle.octave.specs.inner.Reciprocal.{place_of, reciprocal_of, reciprocal_octave, equals_reciprocal}
+use borrow.Author.Rules.{rules}
+use Rattle.paper.proofs.position.Statement.{statement}
+use Rattle.paper.proofs.position.Tie as tie
+
+abbrev octave : ℕ
+octave = 16000000
+
+in_range : InRange octave
+in_range = record { least = lit≤ tt; most = lit≤ tt }
+
+place_small : {p u : ℕ} {o : Reciprocal} → p ≡ place_of u o.w → u ≡ across_of (volts_most - 1) volts_most →
+    o ≡ reciprocal_of octave → p < 2 ^ 63
+unfolding place_of
+place_small e f g =
+    let w = ap (λ (r : Reciprocal). r.w) g ∙ reciprocal_octave octave in rw (e, f, w) (lit< tt)
+
+place_requires : tie.Need-place-requires
+place_requires c κs =
+    record { near = search rules; reciprocal = equals_reciprocal octave _ in_range c.before.reciprocal-of.ensures }
+
+difference_requires : tie.Need-difference-requires
+difference_requires c κs =
+    let a = c.before in
+    let small = place_small c.place.ensures a.across.ensures a.before.reciprocal-of.ensures in
+    search rules
+
+pub position_spec : {M : Type 1} → statement M
+position_spec =
+    tie.close
+    (tie.spec (λ c κs. search rules) (λ c. search rules) (λ c κs. search rules) place_requires (λ c. search rules)
+    difference_requires (λ c. search rules))
