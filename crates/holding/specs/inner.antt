@@ -1,2 +1,0 @@
--- Words of the contracts: the cards' arrays as they are lent and left.
-pub mod Lent

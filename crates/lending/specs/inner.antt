@@ -1,2 +1,0 @@
--- Words of inner contracts: a board's arrays lent beside the two slices.
-pub mod Lent

@@ -1,2 +1,0 @@
--- A list of pairs: the words of inner contracts.
-pub mod inner

@@ -1,3 +1,0 @@
-pub mod Opens
-pub mod Whole
-pub mod Shows

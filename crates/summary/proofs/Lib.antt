@@ -1,3 +1,0 @@
-mod Walked
-mod Ends
-pub mod Sums

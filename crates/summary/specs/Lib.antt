@@ -1,2 +1,0 @@
--- A node summed up: the words of inner contracts.
-pub mod inner

@@ -1,2 +1,0 @@
--- Words of inner contracts: what is told of the places of a set.
-pub mod Told

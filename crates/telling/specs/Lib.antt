@@ -1,2 +1,0 @@
--- What is said of the board's answers.
-pub mod Said
