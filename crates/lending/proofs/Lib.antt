@@ -1,0 +1,6 @@
+pub mod Footing
+pub mod Tests
+pub mod Cases
+pub mod Stays
+pub mod Sums
+pub mod Leaves

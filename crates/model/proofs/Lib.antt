@@ -1,0 +1,12 @@
+pub mod Verdicts
+pub mod Lists
+pub mod NodeSums
+pub mod Gains
+pub mod Shifts
+pub mod Named
+pub mod Found
+pub mod Boards
+pub mod Footing
+pub mod Invariant
+pub mod Lent
+pub mod Whole

@@ -1,0 +1,2 @@
+-- A list of pairs: the words of inner contracts.
+pub mod inner

@@ -1,0 +1,3 @@
+pub mod Opens
+pub mod Whole
+pub mod Shows

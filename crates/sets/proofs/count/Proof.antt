@@ -1,0 +1,19 @@
+-- `count` counts the digits that are set.
+use mathlib.Core.Path.{ap, ◌∙◌}
+use Prim.Native.Nat.{ℕ}
+use lib.Count.{ones}
+use borrow.Author.Rules.{rules}
+use Rattle.places.specs.Counts.{transistors_most}
+use Rattle.places.specs.Sets.{member}
+use Rattle.places.specs.laws.Members.{set_of_members}
+use Rattle.places.specs.laws.Walks.{ones_list}
+use Rattle.sets.proofs.count.Statement.{statement}
+use Rattle.sets.proofs.count.Tie as tie
+
+returns : tie.Need-returns
+returns c =
+    ap ones (set_of_members transistors_most c.args.set (search rules))
+    ∙ ones_list (member c.args.set) (λ (i : ℕ). i) transistors_most
+
+pub count_spec : {M : Type 1} → statement M
+count_spec = tie.close (tie.spec returns)

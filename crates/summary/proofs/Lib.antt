@@ -1,0 +1,3 @@
+mod Walked
+mod Ends
+pub mod Sums

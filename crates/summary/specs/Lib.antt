@@ -1,0 +1,2 @@
+-- A node summed up: the words of inner contracts.
+pub mod inner

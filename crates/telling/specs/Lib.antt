@@ -1,0 +1,2 @@
+-- What is said of the board's answers.
+pub mod Said
