@@ -1,0 +1,3 @@
+-- What each call that a command makes gives.
+pub mod Asked
+pub mod Unique

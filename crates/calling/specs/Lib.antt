@@ -1,0 +1,2 @@
+-- A command's call of the board.
+pub mod Calls

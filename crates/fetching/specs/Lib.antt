@@ -1,0 +1,2 @@
+-- A card loaded from where it is written.
+pub mod Fetched

@@ -1,0 +1,281 @@
+-- `desk_load` meets its contract: it hands a copy of the board to `host_changes::load` and writes back the board that
+-- it gives.
+-- A walk through its steps, written by tools/walks.
+use mathlib.Core.Path.{refl}
+use mathlib.Core.List.{List, [], ◌∷◌}
+use Prim.Native.Nat.{ℕ, ◌<◌, ◌^◌}
+use lib.ListN.{length}
+use seplogic.Ra.Ura.{Ura}
+use seplogic.Ra.TreeShare.{full_share}
+use mir.Syntax.{named, w32}
+use mir.Val.{Val, vint, vptr}
+use base.Logic.{SProp, ent, sep, id⊢}
+use base.Fml.{Lft, Share, GName, Fml, ftrue, flft, fobs, fbor, fat}
+use prog.Memory.{Memory}
+use prog.Routine.{Routine}
+use prog.Wp.{Calls, Loops, WpFn, Tables}
+use types.Logic.{Logic, sem}
+use contract.Monad.{Fun, fact}
+use contract.Running.{tables, tables_of}
+use types.Kit.{‵, raw, ◌⊛◌, some, later, ◌$◌, ◌∵◌, !, qed, by, move, keep, drop, use1, use2, split, join, pick}
+use types.Kit.{fsplit, fsplit3, fjoin, fjoin3, feq_i, suffices, frame, await, rewrite, ⋆, done}
+use types.Run.{look, look_raw, store_raw, init, stop, hop, fld, from, load, addr, of_opd, and_then, no_more}
+use types.Run.{assigns, land, returns}
+use types.Part.{whole, sub, look_in}
+use types.SemTy.{Body}
+use sound.WpLaws.{FmC, fm_of, WpFn-mono}
+use denote.RattleType.{owns}
+use denote.Laws.{Is}
+use denote.Memory.{mem}
+use denote.Plain.{uint_Makes}
+use denote.Builtin.{u8, u32}
+use denote.Ref.{Bor, MutBor, MutRef, shr_vals, mut_Tells}
+use denote.Slice.{slice_val, ShrSlice, Room, shr_slice_vals, shr_slice_Tells}
+use denote.Signature.{plain, shr_slice_of}
+use denote.Steps.{owned, heard, nothing}
+use denote.Triple.Entry.{on_entry}
+use denote.Triple.Spec.{Meets, triple_of}
+use denote.Triple.Statement.{Contract, Triple}
+use denote.Triple.Call.{calls_at}
+use denote.Triple.Clauses.{ensured, lasts}
+use denote.Triple.Table.{entered, cited}
+use denote.Triple.Walked.{says, needs, Stays, stay_ref, gave_ref, stay_dropped, walk_of, Goes-ref}
+use denote.Triple.Walked.{Goes-gave_ref, Goes-dropped, Walks, ends_at, walked, walk_Meets}
+use denote.Exit.{yes}
+use Rattle.model.specs.Model.{loaded_of}
+use Rattle.lending.specs.Rest.{bare}
+use Rattle.board.specs.Promise.{model_of, Reached}
+use Rattle.host_changes.specs.Changes.{Loaded}
+use Rattle.board.specs.declared.Board.{Board}
+use Rattle.board.specs.contracts.Board as B
+use Rattle.host.proofs.Locals.{begins, ends}
+use Rattle.host.proofs.Parts.{mach, IsBoard, typed, made, outcome_typed}
+use Rattle.host.proofs.Parts.{outcome_tells, parts, gave, opened, closed}
+use Rattle.host_changes.specs.declared.Outcome as outcome
+use Rattle.host_changes.specs.contracts.Outcome as O
+use Rattle.host_changes.proofs.Outcome.TheLaws as O'
+use Rattle.host_changes.specs.contracts.load as worker
+use Rattle.host_changes.proofs.load.Symbol as worker-def
+use Rattle.host_changes.proofs.load.Symbol.{name as #worker}
+use Rattle.host_changes.proofs.load.Met as worker-met
+use Rattle.host.specs.contracts.desk_load as own
+use Rattle.host.specs.contracts.desk_load.Key.{name as #own}
+use Rattle.host.proofs.desk_load.Statement as stated
+use Rattle.host.proofs.desk_load.Code as code
+
+abbrev stayed : Stays (own.ended).signature.params (own.ended).kept
+stayed = (
+  stay_ref (0 ∷ []) tt (plain (λ _. B.the_row)),
+  (
+    stay_dropped (shr_slice_of (1 ∷ []) tt (plain (λ _. u8))) yes,
+    (stay_dropped (shr_slice_of (2 ∷ []) tt (plain (λ _. u8))) yes, (gave_ref (3 ∷ []) tt (plain (λ _. u32)), tt)),
+  ),
+)
+
+-- what is known of the worker
+abbrev Worker : {M : Type 1} {𝓤 : Ura M} (𝓛 : Logic 𝓤) (mem : Memory → SProp 𝓤) (run : Routine → Fun 𝓤)
+    → Contract 𝓤
+Worker 𝓛 mem run = triple_of 𝓛 worker.signature (worker.spec 𝓛 mem run)
+
+module _ {M : Type 1} {𝓤 : Ura M} (𝓛 : Logic 𝓤) (at_mem : Memory → SProp 𝓤)
+    (run : Routine → Fun 𝓤) (κ0 κ1 κ2 κ3 : Lft) (q0 q1 q2 q3 : Share) (b o : ℕ) (γ : GName) (was : Board)
+    (at_name : MutBor (List ℕ)) (at-bytes : MutBor (List ℕ)) (at-issue : MutBor ℕ) where
+  -- all parameters but the board, and with it; as the logic has them and as the machine has
+  open 𝓛 use {H, A}
+
+  abbrev rest : MutBor (List ℕ) × (MutBor (List ℕ) × (MutBor ℕ × Unit {0}))
+  rest = (at_name, (at-bytes, (at-issue, tt)))
+
+  abbrev rest_vals : List Val × (List Val × (List Val × Unit {0}))
+  rest_vals = (
+    slice_val at_name.ref_ptr (length at_name.now) ∷ [],
+    (slice_val at-bytes.ref_ptr (length at-bytes.now) ∷ [], (vptr at-issue.ptr.0 at-issue.ptr.1 ∷ [], tt)),
+  )
+
+  abbrev all : Bor Board × (Bor (List ℕ) × (Bor (List ℕ) × (Bor ℕ × Unit {0})))
+  all = (record { ref_ptr = (b, o); ghost_name = γ; now = was }, rest)
+
+  abbrev all_vals : List Val × (List Val × (List Val × (List Val × Unit {0})))
+  all_vals = (vptr b o ∷ [], rest_vals)
+
+  abbrev Post : Val → SProp 𝓤
+  Post = (walk_of 𝓛 own.ended stayed (own.clauses 𝓛 at_mem run)).post
+      (((κ0, (κ1, (κ2, (κ3, tt)))), (q0, (q1, (q2, (q3, tt)))), tt, all, all_vals), tt)
+
+  abbrev to_worker : (Worker 𝓛 at_mem run).Ghost
+  to_worker = (((κ1, (κ2, (κ3, tt))), (q1, (q2, (q3, tt))), tt, (was, rest), (mach was ∷ [], rest_vals)), tt)
+
+  abbrev Rest-owned : Fml
+  Rest-owned = owns (ShrSlice (named 1) κ1 u8 ∷ ShrSlice (named 2) κ2 u8 ∷ MutRef (named 3) κ3 u32 ∷ []) rest rest_vals
+
+  hands_over : IsBoard was → Reached was → ent 𝓤 (sep 𝓤 (sep 𝓤 (A.lft κ1 q1)
+      (sep 𝓤 (A.lft κ2 q2) (sep 𝓤 (A.lft κ3 q3) (sem 𝓛 ftrue)))) (sem 𝓛 Rest-owned))
+      ((Worker 𝓛 at_mem run).pre to_worker)
+  hands_over g reached =
+      qed 𝓛 ((‵ (flft κ1 q1) ⊛ ‵ (flft κ2 q2) ⊛ ‵ (flft κ3 q3) ⊛ ‵ ftrue) ∷ ‵ Rest-owned ∷ []) ∵
+      says ! reached $ frame ! $
+      made ! was g $ fjoin ! $ done !
+
+  at_end : (r : outcome.Outcome) → r.code < 2 ^ 32 → ent 𝓤 (⋆ 𝓛
+      (raw (ensured 𝓛 worker.ended (worker.clauses 𝓛 at_mem run) (κ1, (κ2, (κ3, tt))) (was, rest) tt r)
+      ∷ ‵ (fobs γ ((B.the_row).coded.code r.board)) ∷ ‵ (fbor κ0 (Body (mem B.the_row) b o γ)) ∷ ‵ (flft κ0 q0)
+      ∷ (‵ (flft κ1 q1) ⊛ ‵ (flft κ2 q2) ⊛ ‵ (flft κ3 q3) ⊛ ‵ ftrue) ∷ [])) (Post (vint w32 r.code))
+  at_end r small =
+      qed 𝓛 (raw (ensured 𝓛 worker.ended (worker.clauses 𝓛 at_mem run) (κ1, (κ2, (κ3, tt))) (was, rest) tt r)
+      ∷ ‵ (fobs γ ((B.the_row).coded.code r.board)) ∷ ‵ (fbor κ0 (Body (mem B.the_row) b o γ)) ∷ ‵ (flft κ0 q0)
+      ∷ (‵ (flft κ1 q1) ⊛ ‵ (flft κ2 q2) ⊛ ‵ (flft κ3 q3) ⊛ ‵ ftrue) ∷ []) ∵
+      -- what the worker ensures, at what is there at the end
+      use1 𝓛 (some (λ (zs : Unit {0} × (Unit {0} × (Unit {0} × (ℕ × Unit {0})))).
+      ‵ (lasts worker.ended (κ1, (κ2, (κ3, tt))) (was, rest) zs)
+      ⊛ raw (fact 𝓤 (Loaded (loaded_of (bare (model_of was)) at_name.now at-bytes.now) r.board at-issue.now
+      zs.1.1.1.0 r.code)))) (id⊢ 𝓤 _) $ pick ! (λ zs.
+      split ! $
+      move ! (1 ∷ []) $
+      heard ! (Loaded (loaded_of (bare (model_of was)) at_name.now at-bytes.now) r.board at-issue.now
+      zs.1.1.1.0 r.code) (λ e.
+      fsplit ! $ drop ! $
+      fsplit ! $
+      drop ! $
+      fsplit ! $
+      drop ! $
+      fsplit ! $
+      move ! (1 ∷ []) $
+      drop ! $
+      -- and with it what the function ensures
+      suffices ! _ (ends_at 𝓛 own.ended stayed (own.clauses 𝓛 at_mem run)
+      (((κ0, (κ1, (κ2, (κ3, tt)))), (q0, (q1, (q2, (q3, tt)))), tt, all, all_vals), tt) (vint w32 r.code) r.code
+      (r.board, (tt, (tt, (zs.1.1.1.0, tt)))) (tt, (tt, (tt, (tt, tt))))) $
+      says ! e $
+      move ! (3 ∷ 4 ∷ []) $
+      join ! $ frame ! $
+      move ! (1 ∷ 2 ∷ []) $
+      feq_i ! (List Val) (vptr b o ∷ []) (vptr b o ∷ []) refl $ fjoin3 ! $
+      nothing ! $
+      move ! (2 ∷ 0 ∷ []) $
+      fjoin ! $
+      nothing ! $ fjoin ! $
+      nothing ! $ fjoin ! $
+      move ! (1 ∷ 0 ∷ []) $
+      fjoin ! $ frame ! $ owned ! u32 (Is u32) (uint_Makes 𝓛 w32) r.code _ (refl, small) $ done !))
+
+  module _ (C : Calls 𝓤 H) (Λ : Loops 𝓤 H) (fm : FmC 𝓤 H 𝓛.laws C)
+      (known : Triple 𝓤 (C #worker) (Worker 𝓛 at_mem run)) where
+    walk : Room u8 (length at_name.now) → Room u8 (length at-bytes.now) → Reached was
+        → ent 𝓤 (on_entry 𝓛 own.signature (κ0, (κ1, (κ2, (κ3, tt)))) (q0, (q1, (q2, (q3, tt)))) all all_vals)
+        (WpFn 𝓤 H C Λ code.function (vptr b o ∷ slice_val at_name.ref_ptr (length at_name.now)
+        ∷ slice_val at-bytes.ref_ptr (length at-bytes.now) ∷ vptr at-issue.ptr.0 at-issue.ptr.1 ∷ []) Post)
+    walk fits-name fits-bytes reached =
+        qed 𝓛 ((‵ (flft κ0 q0) ⊛ ‵ (flft κ1 q1) ⊛ ‵ (flft κ2 q2) ⊛ ‵ (flft κ3 q3) ⊛ ‵ ftrue)
+        ∷ ‵ (owns (MutRef (named 0) κ0 B.the_row ∷ ShrSlice (named 1) κ1 u8 ∷ ShrSlice (named 2) κ2 u8
+        ∷ MutRef (named 3) κ3 u32 ∷ []) all all_vals) ∷ []) ∵
+        begins ! C Λ code.function (vptr b o ∷ slice_val at_name.ref_ptr (length at_name.now)
+        ∷ slice_val at-bytes.ref_ptr (length at-bytes.now) ∷ vptr at-issue.ptr.0 at-issue.ptr.1 ∷ []) _ (
+          (tt, tt),
+          (
+            (tt, (tt, (record { fits = fits-name.0 }, tt))),
+            ((tt, (tt, (record { fits = fits-bytes.0 }, tt))), ((tt, tt), tt)),
+          ),
+        ) (λ at_local.
+        -- the reference is opened, and the board copied
+        move ! (10 ∷ []) $
+        fsplit ! $ fsplit3 ! $ drop ! $
+        move ! (12 ∷ []) $
+        split ! $
+        move ! (2 ∷ 3 ∷ 0 ∷ []) $
+        opened ! tt was b o (λ g.
+        assigns ! (of_opd ! (load ! (from ! (hop ! (look ! 7 refl) (stop !))) (look_raw ! 0 refl))) (from ! (stop !))
+        (init ! 12 refl (typed 𝓛 was g)) $
+        -- what is lent goes on to the worker
+        assigns ! (addr ! (from ! (hop ! (look ! 10 refl) (stop !)))) (from ! (stop !)) (init ! 13 refl (tt, tt)) $
+        move ! (4 ∷ 5 ∷ []) $
+        use2 𝓛 (raw ((Worker 𝓛 at_mem run).pre to_worker)) (hands_over g reached) $
+        calls_at ! fm (Worker 𝓛 at_mem run) known to_worker
+        (and_then ! (load ! (from ! (stop !)) (look ! 11 refl))
+        (and_then ! (load ! (from ! (stop !)) (look ! 7 refl))
+        (and_then ! (load ! (from ! (stop !)) (look ! 8 refl))
+        (and_then ! (load ! (from ! (stop !)) (look ! 12 refl)) (no_more !))))) (λ w.
+        use1 𝓛 (later (some (λ (r : outcome.Outcome). ((‵ (flft κ1 q1) ⊛ ‵ (flft κ2 q2) ⊛ ‵ (flft κ3 q3) ⊛ ‵ ftrue)
+        ⊛ ‵ ((O.the_row).own_val r (w ∷ []))) ⊛ raw (ensured 𝓛 worker.ended (worker.clauses 𝓛 at_mem run)
+        (κ1, (κ2, (κ3, tt))) (was, rest) tt r)))) (id⊢ 𝓤 _) $
+        await ! tt $ pick ! (λ r.
+        split ! $
+        split ! $
+        move ! (1 ∷ []) $
+        gave ! r w (λ is.
+        land ! (from ! (stop !)) (init ! 11 refl (outcome_typed 𝓛 r w is)) $
+        rewrite ! 11 (λ (u : Val). ‵ (fat full_share O'.mir at_local.1.1.1.1.1.0 0 u)) (outcome_tells r w is)
+        refl $
+        -- the board that it gave is written back, and the reference closed
+        assigns ! (of_opd ! (load ! (from ! (fld ! refl (stop !))) (look_in ! 11 (sub ! 0 refl (whole !)))))
+        (from ! (hop ! (look ! 7 refl) (stop !)))
+        (store_raw ! 2 refl (typed 𝓛 r.board (parts r w is).0)) $
+        assigns ! (of_opd ! (load ! (from ! (fld ! refl (stop !))) (look_in ! 11 (sub ! 1 refl (whole !)))))
+        (from ! (stop !)) (init ! 6 refl (tt, record { fits = (parts r w is).1 })) $
+        move ! (2 ∷ 3 ∷ 4 ∷ 5 ∷ []) $
+        closed ! tt r.board (parts r w is).0 b o $
+        -- the locals are given up
+        returns ! (look ! 5 refl) $
+        ends ! 5 (
+          𝓛.laws.at_room _ _ _ _,
+          (
+            𝓛.laws.at_room _ _ _ _,
+            (
+              𝓛.laws.at_room _ _ _ _,
+              (
+                𝓛.laws.at_room _ _ _ _,
+                (
+                  𝓛.laws.at_room _ _ _ _,
+                  (𝓛.laws.at_room _ _ _ _, (𝓛.laws.at_room _ _ _ _, (𝓛.laws.at_room _ _ _ _, id⊢ 𝓤 _))),
+                ),
+              ),
+            ),
+          ),
+        ) $
+        keep ! (4 ∷ 0 ∷ 1 ∷ 2 ∷ 3 ∷ []) $ by ! (at_end r (parts r w is).1))))))
+
+module _ {M : Type 1} {𝓤 : Ura M} (𝓛 : Logic 𝓤) (mem : Memory → SProp 𝓤)
+    (run : Routine → Fun 𝓤) where
+  open 𝓛 use {H}
+
+  walks : (C : Calls 𝓤 H) (Λ : Loops 𝓤 H) → FmC 𝓤 H 𝓛.laws C → Triple 𝓤 (C #worker) (Worker 𝓛 mem run)
+      → Walks 𝓛 own.ended stayed (WpFn 𝓤 H C Λ code.function) (own.clauses 𝓛 mem run)
+  walks C Λ fm known =
+      walked 𝓛 own.ended stayed (own.clauses 𝓛 mem run) (WpFn 𝓤 H C Λ code.function)
+      (λ κs. (shr_vals, (shr_slice_vals, (shr_slice_vals, (shr_vals, tt)))))
+      (λ κs. (
+        mut_Tells (named 0) κs.0 B.the_row,
+        (
+          shr_slice_Tells (named 1) κs.1.0 u8,
+          (shr_slice_Tells (named 2) κs.1.1.0 u8, (mut_Tells (named 3) κs.1.1.1.0 u32, tt)),
+        ),
+      ))
+      (λ κs qs bounds a g are. needs 𝓤 (Reached a.0.now) _
+      (walk 𝓛 mem run κs.0 κs.1.0 κs.1.1.0 κs.1.1.1.0 qs.0 qs.1.0 qs.1.1.0
+      qs.1.1.1.0 a.0.ref_ptr.0 a.0.ref_ptr.1 a.0.ghost_name a.0.now a.1.0 a.1.1.0 a.1.1.1.0 C Λ
+      fm known are.1.0.0.1 are.1.1.0.0.1))
+
+meets : {M : Type 1} {𝓤 : Ura M} (𝓛 : Logic 𝓤) →
+    (mem : Memory → SProp 𝓤) (run : Routine → Fun 𝓤) (𝓣 : Tables 𝓤 𝓛.H) → Triple 𝓤 (𝓣.C #worker) (Worker 𝓛 mem run)
+    → Meets 𝓛 own.signature (WpFn 𝓤 𝓛.H 𝓣.C 𝓣.Λ code.function) (own.spec 𝓛 mem run)
+meets {𝓤 = 𝓤} 𝓛 mem run 𝓣 known =
+    walk_Meets 𝓛 own.ended stayed (
+      Goes-ref 𝓛 4 0 tt (plain (λ _. B.the_row)),
+      (
+        Goes-dropped 𝓛 4 (shr_slice_of (1 ∷ []) tt (plain (λ _. u8))) yes (λ κs x f. refl),
+        (
+          Goes-dropped 𝓛 4 (shr_slice_of (2 ∷ []) tt (plain (λ _. u8))) yes (λ κs x f. refl),
+          (Goes-gave_ref 𝓛 4 3 tt (plain (λ _. u32)), tt),
+        ),
+      ),
+    )
+    (own.clauses 𝓛 mem run) (WpFn 𝓤 𝓛.H 𝓣.C 𝓣.Λ code.function) (WpFn-mono 𝓤 𝓛.H 𝓛.laws 𝓣 code.function)
+    (walks 𝓛 mem run 𝓣.C 𝓣.Λ (fm_of 𝓤 𝓛.H 𝓛.laws 𝓣) known)
+
+pub desk_load_spec : {M : Type 1} → stated.statement M
+unfolding code.routine tables_of
+desk_load_spec 𝓤 𝓛 𝓜 𝓡 =
+    entered 𝓤 𝓛.H (triple_of 𝓛 own.signature (own.spec 𝓛 𝓜.mem 𝓡.run))
+    (tables 𝓤 𝓛.H 𝓜 𝓡 code.env).C (tables 𝓤 𝓛.H 𝓜 𝓡 code.env).Λ #own code.function (code.unfolded 𝓤 𝓛.H 𝓜 𝓡)
+    (meets 𝓛 𝓜.mem 𝓡.run (tables_of 𝓤 𝓛.H 𝓜 (tables 𝓤 𝓛.H 𝓜 𝓡 code.env))
+    (cited 𝓤 𝓛.H (Worker 𝓛 𝓜.mem 𝓡.run) 𝓜 𝓡 code.env #worker worker-def.routine
+    code.calls-host-changes::load (worker-met.met 𝓤 𝓛 𝓜 𝓡)))

@@ -1,0 +1,2 @@
+-- Moving nodes together: the words of inner contracts.
+pub mod inner

@@ -1,0 +1,3 @@
+-- A command obeyed: what it says and what it leaves.
+pub mod Obeyed
+pub mod Unique
