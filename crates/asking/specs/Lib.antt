@@ -1,3 +1,0 @@
--- What each call that a command makes gives.
-pub mod Asked
-pub mod Unique

@@ -1,2 +1,0 @@
-pub mod Reaches
-pub mod Whole

@@ -1,2 +1,0 @@
--- A command's call of the board.
-pub mod Calls

@@ -1,6 +1,0 @@
--- The board stays one that calls from a fresh board leave.
-use Rattle.board.specs.Promise.{Reached}
-use Rattle.desk.proofs.lines.run.Given as goal
-
-abbrev pub invariant-loop : goal.invariant-loop
-invariant-loop g l = Reached l.board

@@ -1,2 +1,0 @@
--- A card loaded from where it is written.
-pub mod Fetched

@@ -1,4 +1,0 @@
-pub mod Unique
-pub mod Refused
-pub mod RefusedAsks
-pub mod InPlace

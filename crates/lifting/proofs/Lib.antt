@@ -1,2 +1,0 @@
-mod Lifting
-mod Lent

@@ -1,3 +1,0 @@
--- Theorems on polarity.
-pub mod Currents
-pub mod Totals

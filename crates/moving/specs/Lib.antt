@@ -1,2 +1,0 @@
--- Moving nodes together: the words of inner contracts.
-pub mod inner

@@ -1,2 +1,0 @@
-pub mod Words
-pub mod Cases

@@ -1,2 +1,0 @@
--- What a poke writes and says.
-pub mod Poked

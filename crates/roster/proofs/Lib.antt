@@ -1,3 +1,0 @@
-mod Insertion
-mod Listing
-pub mod Tells

@@ -1,2 +1,0 @@
--- Who stands on a node: the words of inner contracts.
-pub mod inner

@@ -1,2 +1,0 @@
--- Words of inner contracts: the issue numbers of a set in order, and what listing leaves.
-pub mod Lent

@@ -1,3 +1,0 @@
--- The theorems over scripts.
-pub mod Own
-pub mod Scripts

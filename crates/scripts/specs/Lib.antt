@@ -1,2 +1,0 @@
--- A script obeyed.
-pub mod Script

@@ -1,3 +1,0 @@
-mod PlacingTests
-mod Placing
-mod Lent

@@ -1,2 +1,0 @@
--- Words of the contracts: where loading's tests lead.
-pub mod Loading
