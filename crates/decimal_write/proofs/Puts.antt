@@ -2,11 +2,9 @@
 use mathlib.Core.Path.{◌≡◌, refl, sym, ap, ◌∙◌, subst}
 use mathlib.Core.Bool.{Bool, true, false}
 use mathlib.Core.List.{List, [], ◌∷◌, ◌++◌, append_assoc, append-nil}
-use Prim.Native.Nat.{ℕ, zero, suc, ◌+◌, ◌-◌, ◌/◌, ◌%◌, ◌^◌, ◌≤◌, ◌<◌}
-use native.Mathlib.Nat.{pow-suc, div-lt_iff_lt-mul}
+use Prim.Native.Nat.{ℕ, zero, suc, ◌+◌, ◌-◌, ◌/◌, ◌%◌, ◌≤◌, ◌<◌}
 use native.Mathlib.Numerals.{add-one}
 use native.Mathlib.Omega.{arith}
-use lib.Dec.{lit<}
 use lib.ListN.{length, take, get_or, set, length-set}
 use lib.Seq.{take-suc-set, take-suc, take_all}
 use borrow.Author.Tests.{lt-ltb, le-ltb}
@@ -79,17 +77,6 @@ more_put zero d h l = absurd (omega arith)
 more_put (suc k) d h l =
     let z : suc k - 1 ≡ k = omega arith in
     ap (λ (n : ℕ). plain_digits n (d / 10) ++ ((48 + d % 10) ∷ [])) z ∙ sym (more_digits k d l)
-
-pub two_at_least : (k d : ℕ) → d < 10 ^ k → 10 ≤ d → 1 < k
-two_at_least zero d h l = absurd (omega arith)
-two_at_least (suc zero) d h l = absurd (omega arith)
-two_at_least (suc (suc k)) d h l = omega arith
-
-pub tenth_of : (k d : ℕ) → 0 < k → d < 10 ^ k → d / 10 < 10 ^ (k - 1)
-tenth_of zero d p h = absurd (omega arith)
-tenth_of (suc k) d p h =
-    let z : k ≡ suc k - 1 = omega arith in
-    subst (λ (n : ℕ). d / 10 < 10 ^ n) z ((div-lt_iff_lt-mul (lit< tt)).1 (rw pow-suc at h))
 
 -- ---- the power, and the number
 

@@ -5,11 +5,11 @@ use Prim.Native.Nat.{ℕ, ◌+◌, ◌-◌, ◌<◌, ◌≤◌}
 use native.Mathlib.Numerals.{add-one}
 use native.Mathlib.Omega.{arith}
 use borrow.Author.Tests.{eq-eqb, ne_eqb, le-leb, lt-leb}
-use lib.ListN.{length, take, drop, get_or, drop_of_length-le, get_or-eq_default}
+use lib.ListN.{length, take, drop, get_or, drop_of_length-le}
 use lib.Seq.{drop-cons}
 use Rattle.spelling.specs.Bytes.{space}
 use Rattle.words.specs.declared.Words.{Words}
-use Rattle.words.specs.Words.{span, spans_from, no_words, with_word, with_words, words_of, part_of, word_at}
+use Rattle.words.specs.Words.{span, spans_from, no_words, with_word, with_words, words_of, part_of}
 use Rattle.words.specs.inner.Passing.{outside, inside, PassesSpaces, PassesWord, NextWord}
 
 module _ (line : List ℕ) (a e : ℕ) where
@@ -24,11 +24,6 @@ module _ (line : List ℕ) (a e : ℕ) where
   pub part_beyond : a ≤ e → length line < e → [] ≡ part_of line a e
   unfolding part_of
   part_beyond h k = rw (le-leb a e h, lt-leb e (length line) k)
-
--- a place beyond the words that are kept
-pub word_none : (line : List ℕ) (w : Words) (k : ℕ) {r : List ℕ} → length w.starts ≤ k → length w.ends ≤ k
-    → r ≡ part_of line 0 0 → r ≡ word_at line w k
-word_none line w k h g e = rw (get_or-eq_default w.starts 0 h, get_or-eq_default w.ends 0 g) e
 
 -- ---- a byte passed
 
