@@ -8,20 +8,20 @@ use Rattle.answers.specs.declared.Answer.TheVariants.{Withdrawn, Reading, Sheet,
 use Rattle.spelling.specs.Bytes.{bytes}
 
 -- how many nodes a sheet has
-abbrev pub sheetNodes : ℕ
-sheetNodes = 32
+abbrev pub sheet_nodes : ℕ
+sheet_nodes = 32
 
-unfoldable pub answerLine : Answer → List ℕ
-answerLine (Library n) = label_line (bytes "library") n
-answerLine (Offset n) = label_line (bytes "record") n
-answerLine (Card n) = label_line (bytes "card") n
-answerLine (Transistor n) = label_line (bytes "transistor") n
-answerLine Moved = bytes "moved\n"
-answerLine Lifted = bytes "lifted\n"
-answerLine Withdrawn = bytes "withdrawn\n"
-answerLine (Reading node v t) = node_line node v t
-answerLine Sheet = label_line (bytes "sheet") sheetNodes
-answerLine (Refused f) = told_line (told f)
-answerLine TooLong = bytes "error line too long\n"
-answerLine (Mended n) = label_line (bytes "mended") n
-answerLine Poked = bytes "poked\n"
+unfoldable pub answer_line : Answer → List ℕ
+answer_line (Library n) = label_line (bytes "library") n
+answer_line (Offset n) = label_line (bytes "record") n
+answer_line (Card n) = label_line (bytes "card") n
+answer_line (Transistor n) = label_line (bytes "transistor") n
+answer_line Moved = bytes "moved\n"
+answer_line Lifted = bytes "lifted\n"
+answer_line Withdrawn = bytes "withdrawn\n"
+answer_line (Reading node v t) = node_line node v t
+answer_line Sheet = label_line (bytes "sheet") sheet_nodes
+answer_line (Refused f) = told_line (told f)
+answer_line TooLong = bytes "error line too long\n"
+answer_line (Mended n) = label_line (bytes "mended") n
+answer_line Poked = bytes "poked\n"

@@ -2,7 +2,7 @@
 #![tactic(auto)]
 
 ghost use Rattle.page.specs.Page.{Writes};
-ghost use Rattle.answers.specs.Answers.{answerLine};
+ghost use Rattle.answers.specs.Answers.{answer_line};
 
 mod parts; // parts.rt: what the answers are made of
 
@@ -32,7 +32,7 @@ pub enum Answer {
 
 // The line is written after the first bytes of a lent buffer; what comes back is how many are used then.
 pub fn answer_line(a: Answer, out: &mut [u8; ROOM], at: usize) -> usize
-    ensures { Writes (answerLine a) out.old at out.new result }
+    ensures { Writes (answer_line a) out.old at out.new result }
 {
     match a {
         Answer::Library(n) => parts::label(b"library", n as u64, out, at),

@@ -4,8 +4,8 @@
 
 ghost use Rattle.std.specs.Prelude.{map};
 ghost use Rattle.volts.specs.Volts.{given_back};
-ghost use Rattle.scaling.specs.Scaled.{tick_limit};
-ghost use Rattle.scaling.specs.inner.Shifts.{UpTo};
+ghost use Rattle.terms.specs.OfScaling.Scaled.{tick_limit};
+ghost use Rattle.terms.specs.OfScaling.inner.Shifts.{UpTo};
 ghost use Rattle.terms.specs.Rows.{term_x, reverse, row8};
 ghost use Rattle.terms.specs.Rows as rows;
 ghost use Rattle.terms.specs.Values.{bias_of, tick_of};
@@ -16,10 +16,12 @@ mod resistors; // resistors.rt: T's of the series resistors
 
 use octave::Table;
 pub use resistors::all_leads;
-use reverse::Pair;
-use scaling::{exponential, faint, scaled};
+pub use terms;
+use terms::reverse::Pair;
 use terms::roles::{B1, C4, S};
-use terms::{ROLES, Ready};
+pub use terms::scaling;
+use terms::scaling::{exponential, faint, scaled};
+use terms::{ROLES, Ready, reverse};
 
 // X of row 6: the card's own T, or with EXSUB the T at the voltage from S to C4.
 pub fn term_x(t: &Table, r: Ready, v: &[u32; ROLES]) -> u64

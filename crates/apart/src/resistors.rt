@@ -4,11 +4,11 @@ ghost use Rattle.volts.specs.Volts.{given_back};
 ghost use Rattle.terms.specs.Values.{bias_of};
 ghost use Rattle.terms.specs.inner.Terms.{Lead, Led, Wired, LeadsOf};
 
-use card::WorkedCard;
 use float::Split;
-use reverse::Pair;
-use scaling::through;
+use terms::card::WorkedCard;
+use terms::reverse::Pair;
 use terms::roles::{B, B1, C, C1, C3, C4, E, E1};
+use terms::scaling::through;
 use terms::{Leads, ROLES};
 
 // A resistor from role p to role q: what it adds where p is higher, and what it takes away where q is.

@@ -12,18 +12,18 @@ use Rattle.refusal.specs.declared.Refusal.{Refusal}
 use Rattle.refusal.specs.declared.Refusal.TheVariants.{Malformed, NotFinite}
 use Rattle.refusal.specs.Told.{told}
 use Rattle.refusal.specs.Order.{refuse_if, yes, tells, refused, passes_if}
-use Rattle.clip.specs.declared.Answer.TheVariants as answer
-use Rattle.clip.specs.declared.Clipping.{Clipping}
-use Rattle.clip.specs.Numbers as number
-use Rattle.clip.specs.Limits.{zero, one, wide, narrow}
-use Rattle.clip.specs.Record.{is_wide, right_length, width_of, finite_up}
-use Rattle.clip.specs.Clip.{clipped_up, padded_up, clip_of, Clips}
-use Rattle.loading.specs.Numbers.{numbers_for, spares_good}
+use Rattle.drawn.specs.OfClip.Answer.TheVariants as answer
+use Rattle.drawn.specs.OfClip.Clipping.{Clipping}
+use Rattle.drawn.specs.OfClip.Numbers as number
+use Rattle.drawn.specs.OfClip.Limits.{zero, one, wide, narrow}
+use Rattle.drawn.specs.OfClip.Record.{is_wide, right_length, width_of, finite_up}
+use Rattle.drawn.specs.OfClip.Clip.{clipped_up, padded_up, clip_of, Clips}
+use Rattle.drawn.specs.OfLoading.Numbers.{numbers_for, spares_good}
 use Rattle.card.specs.Judge.{judge_numbers, judge_of}
 use Rattle.missing.specs.inner.Filled.{filled_with}
-use Rattle.loading.specs.inner.Mlf.{GoodMlf}
-use Rattle.clip.specs.laws.Unique.{clip_taken, clip_refused}
-use Rattle.loading.proofs.Clipped.{long, good_mlf}
+use Rattle.drawn.specs.OfLoading.inner.Mlf.{GoodMlf}
+use Rattle.drawn.specs.OfClip.laws.Unique.{clip_taken, clip_refused}
+use Rattle.drawn.proofs.OfLoading.Clipped.{long, good_mlf}
 
 all_finite_lem : (s : List ℕ) → clip_of s ≡ yes tt → finite_up s (width_of s) ≡ true
 unfolding clip_of

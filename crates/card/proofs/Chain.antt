@@ -9,19 +9,19 @@ use Rattle.refusal.specs.declared.Refusal.TheVariants.{WrongLevel, BadExsub, Neg
 use Rattle.refusal.specs.Told.{told}
 use Rattle.refusal.specs.Clash.{clash}
 use Rattle.refusal.specs.Order.{Verdict, no, refuse_if, refused, given, tells}
-use Rattle.octaves.specs.declared.Octave.TheVariants.{Nanovolts, Out}
-use Rattle.working.specs.declared.Worked.{Worked}
+use Rattle.settings.specs.OfOctaves.Octave.TheVariants.{Nanovolts, Out}
+use Rattle.drawn.specs.OfWorking.Worked.{Worked}
 use Rattle.card.specs.declared.WorkedCard.{WorkedCard}
-use Rattle.clip.specs.declared.Answer.{Answer}
-use Rattle.clip.specs.declared.Answer.TheVariants as answer
-use Rattle.clip.specs.Limits.{zero, one}
-use Rattle.working.specs.Work.{worked_of, all_finite}
-use Rattle.loading.specs.Octave.{whole_part, octave_good, second_good}
-use Rattle.loading.specs.Knee.{knee_good, knee_of}
-use Rattle.loading.specs.Numbers.{has_leads, parameters_of, exsub, rcblx, rcbli, octave, level, vlr, product, polarity}
-use Rattle.loading.specs.Numbers.{minus_one, level504, settings_good, icss_below, within_reach}
+use Rattle.drawn.specs.OfClip.Answer.{Answer}
+use Rattle.drawn.specs.OfClip.Answer.TheVariants as answer
+use Rattle.drawn.specs.OfClip.Limits.{zero, one}
+use Rattle.drawn.specs.OfWorking.Work.{worked_of, all_finite}
+use Rattle.drawn.specs.OfLoading.Octave.{whole_part, octave_good, second_good}
+use Rattle.drawn.specs.OfLoading.Knee.{knee_good, knee_of}
+use Rattle.drawn.specs.OfLoading.Numbers.{has_leads, parameters_of, exsub, rcblx, rcbli, octave, level, vlr, product, polarity}
+use Rattle.drawn.specs.OfLoading.Numbers.{minus_one, level504, settings_good, icss_below, within_reach}
 use Rattle.card.specs.Judge.{card_from, card_of, reach_of, judge_numbers}
-use Rattle.octaves.specs.inner.Second.{second_if, second_of}
+use Rattle.settings.specs.OfOctaves.inner.Second.{second_if, second_of}
 use Rattle.settings.specs.inner.Tests.{unless_passed, first_wrong}
 
 -- ---- the second octave's answer

@@ -5,15 +5,15 @@ use Rattle.refusal.specs.declared.Refusal.TheVariants.{WrongLevel, BadExsub, Neg
 use Rattle.refusal.specs.Told.{told}
 use Rattle.refusal.specs.Order.{Verdict, yes, refuse_if, and_then, Answer, refused, given}
 use Rattle.float.specs.Split.{split_of, no_split}
-use Rattle.clip.specs.Limits.{zero, one}
-use Rattle.clip.specs.Clip.{clip_of}
-use Rattle.working.specs.declared.Worked.{Worked}
-use Rattle.working.specs.Work.{worked_of}
-use Rattle.loading.specs.Octave.{whole_part, octave_good}
-use Rattle.loading.specs.Knee.{knee_of}
-use Rattle.loading.specs.Numbers.{judged_numbers, has_leads, parameters_of, rcblx, rcbli, exsub, octave, level, vlr}
-use Rattle.loading.specs.Numbers.{polarity, minus_one, product, level504, spares_good, settings_good, icss_below}
-use Rattle.loading.specs.Numbers.{within_reach}
+use Rattle.drawn.specs.OfClip.Limits.{zero, one}
+use Rattle.drawn.specs.OfClip.Clip.{clip_of}
+use Rattle.drawn.specs.OfWorking.Worked.{Worked}
+use Rattle.drawn.specs.OfWorking.Work.{worked_of}
+use Rattle.drawn.specs.OfLoading.Octave.{whole_part, octave_good}
+use Rattle.drawn.specs.OfLoading.Knee.{knee_of}
+use Rattle.drawn.specs.OfLoading.Numbers.{judged_numbers, has_leads, parameters_of, rcblx, rcbli, exsub, octave, level, vlr}
+use Rattle.drawn.specs.OfLoading.Numbers.{polarity, minus_one, product, level504, spares_good, settings_good, icss_below}
+use Rattle.drawn.specs.OfLoading.Numbers.{within_reach}
 use Rattle.card.specs.declared.WorkedCard.{WorkedCard}
 use Rattle.card.specs.declared.Judged.{Judged}
 use Rattle.card.specs.declared.Judged.TheVariants.{Card, Refused}

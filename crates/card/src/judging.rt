@@ -1,16 +1,18 @@
 // Loading's tests on the clipped numbers, the first of them in `settings`, and the worked card.
 ghost use Rattle.std.specs.Prelude.{◌≡◌, true};
 ghost use Rattle.refusal.specs.Order.{tells};
-ghost use Rattle.loading.specs.Octave.{octave_good};
-ghost use Rattle.loading.specs.Numbers.{octave};
+ghost use Rattle.drawn.specs.OfLoading.Octave.{octave_good};
+ghost use Rattle.drawn.specs.OfLoading.Numbers.{octave};
 ghost use Rattle.card.specs.Judge.{card_from, reach_of, judge_numbers, told_judged};
-ghost use Rattle.loading.specs.inner.Mlf.{GoodMlf};
+ghost use Rattle.drawn.specs.OfLoading.inner.Mlf.{GoodMlf};
 
 use crate::{Judged, WorkedCard};
-use clip::{Answer, WIDTH, numbers};
-use octaves::{Octave, knee};
+use drawn::clip::{Answer, WIDTH, numbers};
+use drawn::working;
+use drawn::working::Worked;
 use refusal::Refusal;
-use working::Worked;
+use settings::octaves;
+use settings::octaves::{Octave, knee};
 
 fn card(
     w: Worked,

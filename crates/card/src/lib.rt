@@ -7,7 +7,8 @@ ghost use Rattle.card.specs.Judge.{judge_of, told_judged, no_worked};
 
 mod judging; // judging.rt: the tests of loading, in their order
 
-pub use clip::{Answer, Clipping, WIDTH, clip, right_length};
+use drawn::clip;
+pub use drawn::clip::{Answer, Clipping, WIDTH, clip, right_length};
 use refusal::Refusal;
 
 // What the branches need of a card: fifteen values as a * 2^b, the two octaves in nanovolts, V_Lr, and five switches.

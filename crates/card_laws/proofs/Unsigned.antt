@@ -8,24 +8,24 @@ use lib.Dec.{T}
 use lib.Ieee.{Float, binary64, of_bits, lt, eq, mul, sub}
 use lib.Ieee.Scale.{finite}
 use Rattle.refusal.specs.Order.{yes}
-use Rattle.working.specs.declared.Worked.{Worked}
+use Rattle.card.specs.OfWorking.Worked.{Worked}
 use Rattle.card.specs.declared.WorkedCard.{WorkedCard}
-use Rattle.clip.specs.declared.limits.Rule.{Rule}
-use Rattle.clip.specs.declared.limits.Rule.TheVariants.{Free, AtLeast, Between}
-use Rattle.clip.specs.Numbers as number
-use Rattle.clip.specs.Limits.{wide, narrow, zero, one, pico, tenth_milli, tenth_nano, milli, rule_of, plain_of, clip_to}
-use Rattle.clip.specs.Record.{is_wide, number_at, finite_up}
-use Rattle.clip.specs.Clip.{clipped_at}
-use Rattle.working.specs.Work.{four, million, conductance_of, worked_of, values_of}
-use Rattle.loading.specs.Numbers.{numbers_for, judged_numbers, at, has_leads, resistance_of, parameters_of, icss, icss_below}
+use Rattle.card.specs.OfClip.limits.Rule.{Rule}
+use Rattle.card.specs.OfClip.limits.Rule.TheVariants.{Free, AtLeast, Between}
+use Rattle.card.specs.OfClip.Numbers as number
+use Rattle.card.specs.OfClip.Limits.{wide, narrow, zero, one, pico, tenth_milli, tenth_nano, milli, rule_of, plain_of, clip_to}
+use Rattle.card.specs.OfClip.Record.{is_wide, number_at, finite_up}
+use Rattle.card.specs.OfClip.Clip.{clipped_at}
+use Rattle.card.specs.OfWorking.Work.{four, million, conductance_of, worked_of, values_of}
+use Rattle.card.specs.OfLoading.Numbers.{numbers_for, judged_numbers, at, has_leads, resistance_of, parameters_of, icss, icss_below}
 use Rattle.card.specs.Judge.{judge_of}
 use Rattle.card.specs.inner.Worked.{Each}
-use Rattle.loading.specs.laws.Sign.{unsigned, Unsigned}
-use Rattle.loading.proofs.Range.{holds}
-use Rattle.loading.proofs.Clipped.{each_finite, in_both, each_judged, each_missing}
+use Rattle.card.specs.OfLoading.laws.Sign.{unsigned, Unsigned}
+use Rattle.card.proofs.OfLoading.Range.{holds}
+use Rattle.card.proofs.OfLoading.Clipped.{each_finite, in_both, each_judged, each_missing}
 use Rattle.card_laws.proofs.WorkedCards.{passes}
-use Rattle.loading.proofs.Signs.{plus, plus_unsigned, zero_plus, kept_plus, least_plus, between_plus, mul_unsigned}
-use Rattle.loading.proofs.Signs.{cond_unsigned, div_unsigned, sub_unsigned}
+use Rattle.card.proofs.OfLoading.Signs.{plus, plus_unsigned, zero_plus, kept_plus, least_plus, between_plus, mul_unsigned}
+use Rattle.card.proofs.OfLoading.Signs.{cond_unsigned, div_unsigned, sub_unsigned}
 
 -- ---- the limits
 limits_plus : T (plus one) × T (plus four) × T (plus pico) × T (plus tenth_milli) × T (plus tenth_nano) ×

@@ -18,24 +18,24 @@ use Rattle.refusal.specs.declared.Refusal.TheVariants.{NotFinite, WrongLevel, Ba
 use Rattle.refusal.specs.declared.Refusal.TheVariants.{OutOfReach}
 use Rattle.refusal.specs.Order as order
 use Rattle.refusal.specs.Order.{Verdict, refuse_if}
-use Rattle.working.specs.declared.Worked.{Worked}
+use Rattle.card.specs.OfWorking.Worked.{Worked}
 use Rattle.card.specs.declared.WorkedCard.{WorkedCard}
-use Rattle.clip.specs.Numbers as number
-use Rattle.clip.specs.Limits as limits
-use Rattle.clip.specs.Limits.{milli, wide, narrow, rule_of, clip_to}
-use Rattle.clip.specs.Record.{is_wide, width_of, number_at, finite_up}
-use Rattle.clip.specs.Clip.{clipped_at}
-use Rattle.working.specs.Work.{conductance_of, worked_of, leads_of, all, all_finite}
-use Rattle.loading.specs.Octave.{octave_good, second_good}
-use Rattle.loading.specs.Knee.{knee_good}
-use Rattle.loading.specs.Numbers.{numbers_for, judged_numbers, at, has_leads, resistance_of, parameters_of, level, level504}
-use Rattle.loading.specs.Numbers.{octave, vlr, polarity, spares_good, settings_good, icss_below, within_reach}
+use Rattle.card.specs.OfClip.Numbers as number
+use Rattle.card.specs.OfClip.Limits as limits
+use Rattle.card.specs.OfClip.Limits.{milli, wide, narrow, rule_of, clip_to}
+use Rattle.card.specs.OfClip.Record.{is_wide, width_of, number_at, finite_up}
+use Rattle.card.specs.OfClip.Clip.{clipped_at}
+use Rattle.card.specs.OfWorking.Work.{conductance_of, worked_of, leads_of, all, all_finite}
+use Rattle.card.specs.OfLoading.Octave.{octave_good, second_good}
+use Rattle.card.specs.OfLoading.Knee.{knee_good}
+use Rattle.card.specs.OfLoading.Numbers.{numbers_for, judged_numbers, at, has_leads, resistance_of, parameters_of, level, level504}
+use Rattle.card.specs.OfLoading.Numbers.{octave, vlr, polarity, spares_good, settings_good, icss_below, within_reach}
 use Rattle.card.specs.Judge.{card_of, judge_numbers, judge_of}
 use Rattle.card_laws.specs.laws.Tells.{judge_order}
 use Rattle.card_laws.specs.laws.Version.{SaysNoMore, with_leads, judged_with_leads}
-use Rattle.loading.proofs.Range.{holds}
-use Rattle.loading.proofs.Raise.{raised}
-use Rattle.loading.proofs.Clipped.{each_finite, each_judged, each_missing}
+use Rattle.card.proofs.OfLoading.Range.{holds}
+use Rattle.card.proofs.OfLoading.Raise.{raised}
+use Rattle.card.proofs.OfLoading.Clipped.{each_finite, each_judged, each_missing}
 
 and_yes : (b : Bool) → b && true ≡ b
 and_yes true = refl

@@ -16,24 +16,24 @@ use Rattle.refusal.specs.declared.Refusal.TheVariants.{NegativeIcss, OutOfReach}
 use Rattle.refusal.specs.Order.{Verdict, yes, refuse_if, passes_if}
 use Rattle.float.specs.Split.{split_b, split_of, split_bias, IsSplit}
 use Rattle.float.proofs.Kept.{is_split, power_kept}
-use Rattle.working.specs.declared.Parameters.{Parameters}
+use Rattle.card.specs.OfWorking.Parameters.{Parameters}
 use Rattle.card.specs.declared.WorkedCard.{WorkedCard}
-use Rattle.clip.specs.Limits.{zero}
-use Rattle.clip.specs.Record.{is_wide, right_length, width_of, finite_up}
-use Rattle.working.specs.Work.{million, conductance_of, worked_of, leads_of, values_of, all}
-use Rattle.loading.specs.Octave.{ten_million, fifty_million, second_most, whole_part, octave_good, second_good}
-use Rattle.loading.specs.Knee.{knee_good, knee_raise, microvolts_of}
-use Rattle.loading.specs.Numbers.{judged_numbers, parameters_of, mlf, octave, level, level504, vlr, product, spares_good}
-use Rattle.loading.specs.Numbers.{settings_good, icss_below, within_reach}
+use Rattle.card.specs.OfClip.Limits.{zero}
+use Rattle.card.specs.OfClip.Record.{is_wide, right_length, width_of, finite_up}
+use Rattle.card.specs.OfWorking.Work.{million, conductance_of, worked_of, leads_of, values_of, all}
+use Rattle.card.specs.OfLoading.Octave.{ten_million, fifty_million, second_most, whole_part, octave_good, second_good}
+use Rattle.card.specs.OfLoading.Knee.{knee_good, knee_raise, microvolts_of}
+use Rattle.card.specs.OfLoading.Numbers.{judged_numbers, parameters_of, mlf, octave, level, level504, vlr, product, spares_good}
+use Rattle.card.specs.OfLoading.Numbers.{settings_good, icss_below, within_reach}
 use Rattle.card.specs.Judge.{card_of, judge_numbers, judge_of}
 use Rattle.card.specs.inner.Worked.{Each, second_least, IsWorked}
-use Rattle.loading.specs.inner.Mlf.{GoodMlf}
+use Rattle.card.specs.OfLoading.inner.Mlf.{GoodMlf}
 use Rattle.card_laws.specs.laws.Tells.{judge_order}
-use Rattle.loading.proofs.Whole.{positive_of, whole_least}
-use Rattle.loading.proofs.Range.{holds, octave_least_lem, octave_most_lem}
-use Rattle.loading.proofs.Clipped.{and_true, good_mlf}
-use Rattle.loading.proofs.Product.{product_least, product_above, mlf_positive}
-use Rattle.loading.proofs.Microvolts.{knee_most_lem, knee_back}
+use Rattle.card.proofs.OfLoading.Whole.{positive_of, whole_least}
+use Rattle.card.proofs.OfLoading.Range.{holds, octave_least_lem, octave_most_lem}
+use Rattle.card.proofs.OfLoading.Clipped.{and_true, good_mlf}
+use Rattle.card.proofs.OfLoading.Product.{product_least, product_above, mlf_positive}
+use Rattle.card.proofs.OfLoading.Microvolts.{knee_most_lem, knee_back}
 
 -- ---- what holds of every finite f64 holds of the fifteen
 zero_fits : T (fits binary64 zero)

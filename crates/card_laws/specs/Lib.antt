@@ -1,2 +1,3 @@
 -- Laws of judging.
 pub mod laws
+pub mod OfCard

@@ -1,2 +1,4 @@
 // What is sure of a judged card: theorems only, and no code.
 #![tactic(auto)]
+
+pub use card;

@@ -5,3 +5,4 @@ pub mod Record
 pub mod Clip
 pub mod inner
 pub mod laws
+pub mod OfRefusal

@@ -9,6 +9,7 @@ pub mod numbers; // numbers.rt: the parameters' numbers
 mod limits; // limits.rt: the clip rules
 mod words; // words.rt: the words of a record, one after the other
 
+pub use float;
 use refusal::Refusal;
 
 // The words of a record of version 2, and of one of version 1.

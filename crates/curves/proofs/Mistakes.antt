@@ -82,10 +82,10 @@ octaves_toward_zero = refl
 abbrev ticks_first : Scaled → Scaled → ℤ
 ticks_first x g = sub_ℕ (whole_ticks x * g.digits * 2 ^ 10 / 2 ^ places) (whole_ticks x)
 
-abbrev one_and_aHalf : Scaled
-one_and_aHalf = record { digits = 3; power = negsuc 50 }
+abbrev one_and_a_half : Scaled
+one_and_a_half = record { digits = 3; power = negsuc 50 }
 
-pub value_cut_first : ticks_first one_and_aHalf (exp_of (pos 160000) 16000000) ≡ pos 1023
+pub value_cut_first : ticks_first one_and_a_half (exp_of (pos 160000) 16000000) ≡ pos 1023
 unfolding entries entry_of exp_of
 value_cut_first = refl
 

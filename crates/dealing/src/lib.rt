@@ -7,13 +7,14 @@ ghost use Rattle.deck.specs.Layout.{numbers_at, powers_at, ticks_at, switches_at
 ghost use Rattle.deck.specs.Layout.{split_from, reciprocal_from, worked_from, ready_at};
 
 use card::WorkedCard;
+pub use deck;
+use deck::terms::Ready;
 use deck::{
     ALL_NUMBERS, ALL_POWERS, ALL_SWITCHES, ALL_TICKS, NUMBERS, POWERS, RCBLI_ZERO, RCBLX_ZERO,
     SWITCHES, TICKS, WIDE,
 };
 use float::Split;
 use octave::{Exponential, Reciprocal};
-use terms::Ready;
 
 // The k-th value of the card at place i.
 fn split_at(numbers: &[u32; ALL_NUMBERS], powers: &[u16; ALL_POWERS], i: usize, k: usize) -> Split

@@ -2,8 +2,8 @@
 use Rattle.std.specs.Prelude.{◌≡◌, Bool, false, List, [], ◌∷◌, ℕ, ◌+◌, ◌*◌, get_or}
 use Rattle.float.specs.declared.Split.{Split}
 use Rattle.octave.specs.declared.Reciprocal.{Reciprocal}
-use Rattle.card.specs.declared.WorkedCard.{WorkedCard}
-use Rattle.terms.specs.declared.Ready.{Ready}
+use Rattle.rows.specs.OfCard.WorkedCard.{WorkedCard}
+use Rattle.rows.specs.OfTerms.Ready.{Ready}
 use Rattle.deck.specs.Stretch.{stretch, written}
 
 -- the places

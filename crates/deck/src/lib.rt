@@ -2,6 +2,8 @@
 // `dealing` reads them.
 #![tactic(auto)]
 
+pub use rows::terms;
+
 // The places.
 pub const CARDS: usize = 16;
 

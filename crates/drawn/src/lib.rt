@@ -2,11 +2,12 @@
 #![tactic(auto)]
 
 ghost use Rattle.std.specs.Prelude.{◌≡◌, cond};
-ghost use Rattle.clip.specs.Limits.{zero};
+ghost use Rattle.loading.specs.OfClip.Limits.{zero};
 ghost use Rattle.loading.specs.Numbers.{has_leads, parameters_of};
 
-use clip::{WIDTH, numbers};
-use working::Parameters;
+use loading::clip::{WIDTH, numbers};
+use loading::working::Parameters;
+pub use loading::{clip, working};
 
 // Whether there are series resistors: version 1, which has none, means R_E 0.
 pub fn has_leads(x: &[f64; WIDTH]) -> bool

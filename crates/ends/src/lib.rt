@@ -5,6 +5,7 @@ ghost use Rattle.std.specs.Prelude.{◌≡◌};
 ghost use Rattle.terms.specs.Ends.{from_roles, to_roles};
 ghost use Rattle.terms.specs.Looked.{looked_at};
 
+pub use terms;
 use terms::roles::{B, B1, B2, C, C1, C2, C3, C4, E, E1, S};
 use terms::{BRANCHES, ROLES};
 

@@ -22,7 +22,7 @@ use Rattle.words.specs.laws.Split.{IsWord}
 use Rattle.sheet.specs.Digits.{decimal_of, most_digits}
 use Rattle.sheet.specs.Lines.{numbers_line, told_line}
 use Rattle.answers.specs.declared.Answer.TheVariants.{Refused}
-use Rattle.answers.specs.Answers.{answerLine}
+use Rattle.answers.specs.Answers.{answer_line}
 use Rattle.explaining.specs.Lines.{line_length, line_at}
 use Rattle.explaining.specs.Sentences.{sentence_of, branch_ends, ends_of}
 use Rattle.explaining.specs.Explanation.{refused_word, where_told, explanation}
@@ -53,8 +53,8 @@ unfolding numbers_line
 ended [] = refl
 ended (n ∷ l) = rw (append_assoc, ended l)
 
-pub refused_line_lem : (f : Refusal) → answerLine (Refused f) ≡ refused_line f ++ newline ∷ []
-unfolding answerLine told_line
+pub refused_line_lem : (f : Refusal) → answer_line (Refused f) ≡ refused_line f ++ newline ∷ []
+unfolding answer_line told_line
 refused_line_lem f = ap (λ (l : List ℕ). refused_word ++ l) (ended (told f))
 
 -- ---- explained

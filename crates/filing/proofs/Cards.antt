@@ -154,10 +154,10 @@ module _ (line : List ℕ) (n : ℕ) (names records : List ℕ) (h : length line
             let whole : length (bytes_of_all m.words) ≡ record_bytes =
             length_all m.words ∙ ap (λ (x : ℕ). word_bytes * x) (line_good t m l).sound.long in
             let named : nb' ≡ padded m.name =
-            g.named ∙ ap (λ (v : Verdict Model). read.nameLeft v nb) (said (yes m) l)
+            g.named ∙ ap (λ (v : Verdict Model). read.name_left v nb) (said (yes m) l)
             ∙ over_all (padded m.name) nb (let z = padded_long m.name in omega arith) in
             let worded : rb' ≡ bytes_of_all m.words =
-            g.worded ∙ ap (λ (v : Verdict Model). read.recordLeft v rb) (said (yes m) l)
+            g.worded ∙ ap (λ (v : Verdict Model). read.record_left v rb) (said (yes m) l)
             ∙ over_all (bytes_of_all m.words) rb (omega arith) in
             subst (λ (v : Verdict Model). Leaves v n names records s names' records')
             (sym (not_long ∙ ap (λ (x : List ℕ). and_then (line_of x) (besides names n)) (sym e)

@@ -14,7 +14,7 @@ use Rattle.bytes_le.specs.Le.{word_bytes}
 use Rattle.refusal.specs.Order.{yes}
 use Rattle.directory.specs.Format.{most_words}
 use Rattle.directory.specs.Format.{count, version, words_of}
-use Rattle.finding.specs.Answers.{record_of, recordAt, handed, standing, HandsOut}
+use Rattle.finding.specs.Answers.{record_of, record_at, handed, standing, HandsOut}
 use Rattle.directory.specs.Judged.{Sound, numbers_of}
 use Rattle.directory.proofs.Inspections.{inspected}
 use Rattle.finding.proofs.Locating.{record_within}
@@ -25,11 +25,11 @@ words_before hw hk = mul-le-mul hw hk
 
 module _ (l : Bor (List ℕ)) (k : ℕ) {n w : ℕ} (en : n ≡ count l.now) (ew : w ≡ words_of (version l.now)) where
   by_test : {t : Bool} → (ltb k n && leb ((record_of (n, w) k).0 + (record_of (n, w) k).1) (length l.now)) ≡ t
-      → recordAt l.now k ≡ cond t (record_of (n, w) k) (0, 0)
-  unfolding recordAt
+      → record_at l.now k ≡ cond t (record_of (n, w) k) (0, 0)
+  unfolding record_at
   by_test e = rw (sym en, sym ew, e)
 
-  hands : {r : Bor (List ℕ)} (p : ℕ × ℕ) → recordAt l.now k ≡ p → r.now ≡ handed (yes p) l.now
+  hands : {r : Bor (List ℕ)} (p : ℕ × ℕ) → record_at l.now k ≡ p → r.now ≡ handed (yes p) l.now
       → r.ref_ptr ≡ standing (yes p) l → HandsOut l k r
   hands p e b a =
       record {
@@ -37,7 +37,7 @@ module _ (l : Bor (List ℕ)) (k : ℕ) {n w : ℕ} (en : n ≡ count l.now) (ew
         place = a ∙ ap (λ (q : ℕ × ℕ). standing (yes q) l) (sym e);
       }
 
-  nothing : {r : Bor (List ℕ)} → recordAt l.now k ≡ (0, 0) → r.now ≡ [] → r.ref_ptr ≡ l.ref_ptr → HandsOut l k r
+  nothing : {r : Bor (List ℕ)} → record_at l.now k ≡ (0, 0) → r.now ≡ [] → r.ref_ptr ≡ l.ref_ptr → HandsOut l k r
   nothing e b a = hands (0, 0) e b (a ∙ ap (λ (i : ℕ). (l.ref_ptr.0, i)) (sym (zero-add l.ref_ptr.1)))
 
   pub hands_none : {r : Bor (List ℕ)} → n ≤ k → r.now ≡ [] → r.ref_ptr ≡ l.ref_ptr → HandsOut l k r
@@ -58,8 +58,8 @@ module _ (l : Bor (List ℕ)) (k : ℕ) {n w : ℕ} (en : n ≡ count l.now) (ew
 -- ---- of a sound library
 
 -- the place and the size are those of the card, and within the library
-pub record_sound : (s : List ℕ) (k : ℕ) → Sound s → k < count s → recordAt s k ≡ record_of (numbers_of s) k
-unfolding recordAt
+pub record_sound : (s : List ℕ) (k : ℕ) → Sound s → k < count s → record_at s k ≡ record_of (numbers_of s) k
+unfolding record_at
 record_sound s k g h =
     let v = inspected s g in
     let r = record_within (words_of (version s)) h in

@@ -13,12 +13,12 @@ use Rattle.directory.specs.Format.{records_at, count, directory}
 
 -- ---- what locating and finding answer
 
-abbrev pub verdictLocated : Located → Verdict (ℕ × ℕ)
-verdictLocated (Record at size) = yes (at, size)
-verdictLocated (Refused f) = no f
+abbrev pub verdict_located : Located → Verdict (ℕ × ℕ)
+verdict_located (Record at size) = yes (at, size)
+verdict_located (Refused f) = no f
 
-abbrev pub toldLocated : Located → Answer (ℕ × ℕ)
-toldLocated r = tells (verdictLocated r)
+abbrev pub told_located : Located → Answer (ℕ × ℕ)
+told_located r = tells (verdict_located r)
 
 -- among n records of k words, the place of card i's and its size, in bytes
 abbrev pub record_of : ℕ × ℕ → ℕ → ℕ × ℕ
@@ -52,12 +52,12 @@ pub record Finds (l : Bor (List ℕ)) (x : List ℕ) (r : Bor (List ℕ)) : Type
 
 -- the place and size of card k's record by the header's two numbers; no bytes, at the start, where k is none of the
 -- cards or the library ends before the record does
-unfoldable pub recordAt : List ℕ → ℕ → ℕ × ℕ
-recordAt s k =
+unfoldable pub record_at : List ℕ → ℕ → ℕ × ℕ
+record_at s k =
     let p : ℕ × ℕ = record_of (numbers_of s) k in
     cond (ltb k (count s) && leb (p.0 + p.1) (length s)) p (0, 0)
 
 -- handing out the record of card k of the library l: the bytes of r, and that they are the library's own
 pub record HandsOut (l : Bor (List ℕ)) (k : ℕ) (r : Bor (List ℕ)) : Type 0 where
-  pub bytes : r.now ≡ handed (yes (recordAt l.now k)) l.now
-  pub place : r.ref_ptr ≡ standing (yes (recordAt l.now k)) l
+  pub bytes : r.now ≡ handed (yes (record_at l.now k)) l.now
+  pub place : r.ref_ptr ≡ standing (yes (record_at l.now k)) l

@@ -6,7 +6,7 @@ use Rattle.refusal.specs.Unique.{unique_by_equation}
 use Rattle.refusal.specs.Order.{Verdict, no, yes, tells, tells_one}
 use Rattle.finding.specs.declared.Located.{Located}
 use Rattle.finding.specs.declared.Located.TheVariants.{Record, Refused}
-use Rattle.finding.specs.Answers.{toldLocated, locating, Finds, HandsOut}
+use Rattle.finding.specs.Answers.{told_located, locating, Finds, HandsOut}
 
 -- the answer that a verdict is: one whatever tells it
 
@@ -14,12 +14,12 @@ abbrev pub as_located : Verdict (ℕ × ℕ) → Located
 as_located (yes p) = Record p.0 p.1
 as_located (no f) = Refused f
 
-pub located_told : (r : Located) (v : Verdict (ℕ × ℕ)) → toldLocated r ≡ tells v → r ≡ as_located v
+pub located_told : (r : Located) (v : Verdict (ℕ × ℕ)) → told_located r ≡ tells v → r ≡ as_located v
 located_told (Record at size) v e = ap as_located (tells_one (yes (at, size)) v e)
 located_told (Refused f) v e = ap as_located (tells_one (no f) v e)
 
 pub unique_locate : (s x : List ℕ) (r r' : Located)
-    → toldLocated r ≡ tells (locating s x) → toldLocated r' ≡ tells (locating s x) → r ≡ r'
+    → told_located r ≡ tells (locating s x) → told_located r' ≡ tells (locating s x) → r ≡ r'
 unique_locate s x r r' a b =
     let v = locating s x in unique_by_equation (located_told r v a) (located_told r' v b)
 

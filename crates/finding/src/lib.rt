@@ -4,7 +4,7 @@
 ghost use Rattle.std.specs.Prelude.{◌≡◌};
 ghost use Rattle.refusal.specs.Order.{tells};
 ghost use Rattle.roll.specs.Directory.{names_in, place_of};
-ghost use Rattle.finding.specs.Answers.{toldLocated, locating, Finds, HandsOut};
+ghost use Rattle.finding.specs.Answers.{told_located, locating, Finds, HandsOut};
 
 use bytes_le::WORD_BYTES;
 use directory::{HEADER_BYTES, Inspection, NAME_BYTES};
@@ -38,7 +38,7 @@ fn search(d: &[u8], x: &[u8; NAME_BYTES]) -> usize
 
 // The place of a card's record in a library, by the card's name.
 pub fn locate(library: &[u8], name: &[u8]) -> Located
-    ensures { toldLocated result ≡ tells (locating library.now name.now) }
+    ensures { told_located result ≡ tells (locating library.now name.now) }
 {
     match directory::inspect(library) {
         Inspection::Refused(f) => Located::Refused(f),

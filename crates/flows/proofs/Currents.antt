@@ -7,13 +7,13 @@ use lib.ListN.{get_or, length}
 use lib.IntN.{ℤ, pos, nat_abs, ◌+ℤ◌}
 use Rattle.volts.specs.Volts.{given_back, span, AllNear}
 use Rattle.card.specs.declared.WorkedCard.{WorkedCard}
-use Rattle.rows.specs.declared.Outcome.{Outcome}
-use Rattle.terms.specs.declared.Ready.{Ready}
-use Rattle.terms.specs.Rows.{rows_for, branches}
-use Rattle.rows.specs.Outcome.{tick_limit}
-use Rattle.polarity.specs.Polarity.{outcome_of}
-use Rattle.polarity.proofs.Laws.{ticks_long, ticks_small}
-use Rattle.terms.specs.Ends.{from_roles, to_roles}
+use Rattle.dealing.specs.OfRowsTypes.Outcome.{Outcome}
+use Rattle.totals.specs.OfTerms.Ready.{Ready}
+use Rattle.totals.specs.OfTerms.Rows.{rows_for, branches}
+use Rattle.dealing.specs.OfRows.Outcome.{tick_limit}
+use Rattle.totals.specs.OfPolarity.Polarity.{outcome_of}
+use Rattle.totals.proofs.OfPolarity.Laws.{ticks_long, ticks_small}
+use Rattle.totals.specs.OfTerms.Ends.{from_roles, to_roles}
 use Rattle.totals.specs.Gives.{nodes_most}
 use Rattle.totals.specs.Flow.{roles_at, over_at, ticks_at, ticks_give, flow}
 use Rattle.totals.specs.inner.Sums.{More, Within, roles_give}

@@ -1,1 +1,2 @@
 pub mod Currents
+pub mod OfTerms

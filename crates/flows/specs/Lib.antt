@@ -1,2 +1,4 @@
 pub mod Back
 pub mod inner
+pub mod OfTerms
+pub mod OfPolarity

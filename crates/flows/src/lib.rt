@@ -3,18 +3,20 @@
 
 ghost use Rattle.std.specs.Prelude.{◌≡◌, map, ◌<◌, length, get_or};
 ghost use Rattle.volts.specs.Volts.{given_back};
-ghost use Rattle.terms.specs.Rows.{roles, branches};
-ghost use Rattle.rows.specs.Outcome.{is_over, drawn_by};
+ghost use Rattle.totals.specs.OfTerms.Rows.{roles, branches};
+ghost use Rattle.dealing.specs.OfRows.Outcome.{is_over, drawn_by};
 ghost use Rattle.totals.specs.Gives.{nodes_most};
 ghost use Rattle.totals.specs.Flow.{ticks_give};
 ghost use Rattle.totals.specs.inner.Sums.{More, Wired, Givable};
 ghost use Rattle.flows.specs.inner.Workable.{roles_of, deck_of, card_of, Workable, Works};
 
+use dealing::deck;
 use octave::Table;
-use polarity::{Outcome, Over};
 use refusal::Refusal;
-use terms::{BRANCHES, ROLES};
 use totals::NODES;
+pub use totals::polarity;
+use totals::polarity::{Outcome, Over};
+use totals::terms::{BRANCHES, ROLES};
 
 fn volt(volts: &[u32; NODES], n: u8) -> u32
     requires { n < nodes_most }

@@ -1,1 +1,2 @@
 pub mod CallerNumbers
+pub mod OfTotals

@@ -3,8 +3,8 @@ use Rattle.std.specs.Prelude.{Bool, true, false, cond, ◌&&◌, ◌||◌, not, 
 use Rattle.std.specs.Int.Signed.{le_z, lt_z}
 use Rattle.refusal.specs.declared.Refusal.TheVariants.{Unknown}
 use Rattle.refusal.specs.Order.{Verdict, no, yes}
-use Rattle.card.specs.declared.WorkedCard.{WorkedCard}
-use Rattle.terms.specs.Rows.{Role, C1, C3, C4, role_index}
+use Rattle.totals.specs.OfCard.WorkedCard.{WorkedCard}
+use Rattle.totals.specs.OfTerms.Rows.{Role, C1, C3, C4, role_index}
 use Rattle.totals.specs.Gives.{nodes_most}
 
 -- the last issue number

@@ -3,3 +3,4 @@ pub mod Arguments
 pub mod Pairs
 pub mod inner
 pub mod laws
+pub mod OfTotals

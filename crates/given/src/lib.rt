@@ -5,8 +5,9 @@ ghost use Rattle.std.specs.Prelude.{◌≡◌, map};
 ghost use Rattle.given.specs.Arguments.{issue_of};
 ghost use Rattle.given.specs.inner.Nodes.{node_of};
 
-use terms::ROLES;
+pub use totals;
 use totals::NODES;
+use totals::terms::ROLES;
 use whole::Int;
 
 // The last issue number.

@@ -4,15 +4,15 @@
 
 ghost use Rattle.std.specs.Prelude.{◌≡◌};
 ghost use Rattle.refusal.specs.Order.{number_told};
-ghost use Rattle.finding.specs.Answers.{verdictLocated};
-ghost use Rattle.library.specs.Answers.{verdictRead};
+ghost use Rattle.finding.specs.Answers.{verdict_located};
+ghost use Rattle.library.specs.Answers.{verdict_read};
 ghost use Rattle.host_shelf.specs.Shelf.{first_over, second_over, ReadOut, Found};
 
 use library::{Located, Reading};
 
 // What reading answers: its result, the count of cards and the version, or what was there.
 fn read_result(a: Reading) -> u32
-    ensures { result ≡ number_told (verdictRead a) }
+    ensures { result ≡ number_told (verdict_read a) }
 {
     match a {
         Reading::Cards(_, _) => 0,
@@ -21,7 +21,7 @@ fn read_result(a: Reading) -> u32
 }
 
 fn cards_over(a: Reading, was: u32) -> u32
-    ensures { result ≡ first_over (verdictRead a) was }
+    ensures { result ≡ first_over (verdict_read a) was }
 {
     match a {
         Reading::Cards(n, _) => n,
@@ -30,7 +30,7 @@ fn cards_over(a: Reading, was: u32) -> u32
 }
 
 fn version_over(a: Reading, had: u32) -> u32
-    ensures { result ≡ second_over (verdictRead a) had }
+    ensures { result ≡ second_over (verdict_read a) had }
 {
     match a {
         Reading::Cards(_, v) => v as u32,
@@ -60,7 +60,7 @@ pub fn read(
 
 // What locating answers: its result, the record's place and its size, or what was there.
 fn find_result(a: Located) -> u32
-    ensures { result ≡ number_told (verdictLocated a) }
+    ensures { result ≡ number_told (verdict_located a) }
 {
     match a {
         Located::Record { at: _, size: _ } => 0,
@@ -69,7 +69,7 @@ fn find_result(a: Located) -> u32
 }
 
 fn place_over(a: Located, was: usize) -> usize
-    ensures { result ≡ first_over (verdictLocated a) was }
+    ensures { result ≡ first_over (verdict_located a) was }
 {
     match a {
         Located::Record { at, size: _ } => at,
@@ -78,7 +78,7 @@ fn place_over(a: Located, was: usize) -> usize
 }
 
 fn size_over(a: Located, had: usize) -> usize
-    ensures { result ≡ second_over (verdictLocated a) had }
+    ensures { result ≡ second_over (verdict_located a) had }
 {
     match a {
         Located::Record { at: _, size } => size,

@@ -3,11 +3,11 @@
 
 ghost use Rattle.std.specs.Prelude.{◌≡◌, not, length};
 ghost use Rattle.volts.specs.Volts.{off_volts};
-ghost use Rattle.totals.specs.Gives.{nodes_most};
-ghost use Rattle.given.specs.Lists.{any_of};
+ghost use Rattle.slices.specs.OfTotals.Gives.{nodes_most};
+ghost use Rattle.slices.specs.OfGiven.Lists.{any_of};
 ghost use Rattle.slices.specs.Slices.{off_slices, right_lengths, KeepsVolts, Keeps};
 
-use totals::NODES;
+use slices::totals::NODES;
 use volts::Voltage;
 
 // Whether every voltage of 32 is in range.

@@ -5,7 +5,7 @@ use mathlib.Core.Bool.{true, false}
 use Rattle.refusal.specs.declared.Refusal.{Refusal}
 use Rattle.refusal.specs.declared.Refusal.TheVariants.{OutOfReach, OutOfRange}
 use Rattle.refusal.specs.Order.{yes}
-use Rattle.slices.specs.Slices.{off_slices, some_outside}
+use Rattle.model.specs.OfSlices.Slices.{off_slices, some_outside}
 use Rattle.model.specs.Board.{Board, Answered}
 use Rattle.model.specs.declared.Answer.{Answer}
 use Rattle.model.specs.Model as old

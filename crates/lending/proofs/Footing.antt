@@ -7,8 +7,8 @@ use lib.ListN.{length-map}
 use lib.IntN.{ℤ}
 use Rattle.refusal.specs.Order.{Verdict, no, yes}
 use Rattle.volts.specs.Volts.{kept_as}
-use Rattle.slices.specs.Slices.{off_slices}
-use Rattle.slices.proofs.Keeping.{volts_long, totals_long, volts_on, all_near}
+use Rattle.model.specs.OfSlices.Slices.{off_slices}
+use Rattle.model.proofs.OfSlices.Keeping.{volts_long, totals_long, volts_on, all_near}
 use Rattle.model.specs.Board.{Board, Answered}
 use Rattle.model.specs.declared.Answer.{Answer}
 use Rattle.model.specs.Desk.{Call, load, place, move, lift, withdraw, look_up, node, currents, who, sum_up}

@@ -4,3 +4,4 @@ pub mod Cases
 pub mod Stays
 pub mod Sums
 pub mod Leaves
+pub mod OfModel

@@ -7,8 +7,8 @@ use lib.IntN.{ℤ}
 use Rattle.refusal.specs.declared.Refusal.TheVariants.{OutOfReach, OutOfRange}
 use Rattle.refusal.specs.Order.{Verdict, no, yes, refuse_if, and_then}
 use Rattle.volts.specs.Volts.{given_back}
-use Rattle.slices.specs.Slices.{off_slices, some_outside}
-use Rattle.slices.proofs.Keeping.{volts_on, all_back}
+use Rattle.model.specs.OfSlices.Slices.{off_slices, some_outside}
+use Rattle.model.proofs.OfSlices.Keeping.{volts_on, all_back}
 use Rattle.model.specs.Board.{Board, Answered}
 use Rattle.model.specs.declared.Answer.{Answer}
 use Rattle.model.specs.Model.{placed, seen_on, placed_of, may_place, lifted, lifted_of, may_lift, showed_of}

@@ -4,13 +4,13 @@ use mathlib.Core.List.{List}
 use Prim.Native.Nat.{ℕ, ◌<◌, zero-le}
 use lib.ListN.{get_or, replicate, length-replicate}
 use lib.IntN.{ℤ, pos, neg_ℤ, ◌-ℤ◌, +ℤ_idl, +ℤ_idr}
-use Rattle.totals.specs.Gives.{nodes_most}
-use Rattle.totals.specs.Flow.{ticks_give, with_more}
-use Rattle.totals.specs.inner.Sums.{More, Room}
-use Rattle.totals.specs.inner.Sizes.{room_most}
+use Rattle.model.specs.OfTotals.Gives.{nodes_most}
+use Rattle.model.specs.OfTotals.Flow.{ticks_give, with_more}
+use Rattle.model.specs.OfTotals.inner.Sums.{More, Room}
+use Rattle.model.specs.OfTotals.inner.Sizes.{room_most}
 use Rattle.deck.specs.laws.Stretches.{get_or_none}
-use Rattle.slices.specs.Slices.{changed}
-use Rattle.flows.specs.Back.{ticks_back}
+use Rattle.model.specs.OfSlices.Slices.{changed}
+use Rattle.model.specs.OfFlows.Back.{ticks_back}
 use Rattle.model.proofs.Gains.{same_more}
 
 -- nothing at any node

@@ -5,7 +5,7 @@ use mathlib.Core.Bool.{Bool, true, false, not}
 use mathlib.Core.List.{List}
 use lib.IntN.{ℤ}
 use Rattle.refusal.specs.Clash.{clash}
-use Rattle.slices.specs.Slices.{some_outside, changed, StandsIn}
+use Rattle.model.specs.OfSlices.Slices.{some_outside, changed, StandsIn}
 
 module _ {totals coming going : List ℤ} {fits : Bool} {next : List ℤ} (s : StandsIn totals coming going fits next) where
   pub stood_bad : fits ≡ false → (some_outside (changed totals coming going) ≡ true) × (next ≡ totals)

@@ -3,7 +3,7 @@ use Rattle.std.specs.Prelude.{◌||◌, List, [], ℕ, replicate, ℤ, pos}
 use Rattle.refusal.specs.declared.Refusal.{Refusal}
 use Rattle.refusal.specs.declared.Refusal.TheVariants.{OutOfReach, OutOfRange}
 use Rattle.refusal.specs.Order.{Verdict, no, yes, refuse_if, and_then}
-use Rattle.slices.specs.Slices.{other_length, off_slices, some_outside}
+use Rattle.model.specs.OfSlices.Slices.{other_length, off_slices, some_outside}
 use Rattle.model.specs.Counts.{nodes_most}
 use Rattle.model.specs.Board.{Board, Answered}
 use Rattle.model.specs.declared.Answer.{Answer}

@@ -3,3 +3,4 @@ pub mod Rest
 pub mod Lending
 pub mod Reached
 pub mod inner
+pub mod OfModel

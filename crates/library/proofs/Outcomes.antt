@@ -13,7 +13,7 @@ use Rattle.refusal.specs.declared.Refusal.TheVariants.{ShortOutput}
 use Rattle.refusal.specs.Order.{Verdict, no, yes, refuse_if, tells}
 use Rattle.library.specs.declared.Reading.{Reading}
 use Rattle.library.specs.declared.Reading.TheVariants.{Cards, Refused}
-use Rattle.library.specs.Answers.{Reads, left, read, verdictRead}
+use Rattle.library.specs.Answers.{Reads, left, read, verdict_read}
 use Rattle.directory.specs.Judged.{library_judged}
 use Rattle.roll.specs.Directory.{name_bytes}
 use Rattle.roll.proofs.Names.{or_false}
@@ -47,7 +47,7 @@ words_room_lem {s} {n} {k} v w e = rw e (by_test (leb (k * n) w) refl)
     by_test false g = omega arith
 
 module _ (s ns ws : List ℕ) where
-  reads_by : (v : Verdict (ℕ × ℕ)) → read s (length ns) (length ws) ≡ v → (r : Reading) → verdictRead r ≡ v
+  reads_by : (v : Verdict (ℕ × ℕ)) → read s (length ns) (length ws) ≡ v → (r : Reading) → verdict_read r ≡ v
       → Reads s ns ws r (left v (directory s) ns) (left v (words_in (records s)) ws)
   reads_by v e r g =
       record {

@@ -12,7 +12,7 @@ use Rattle.refusal.specs.declared.Refusal.TheVariants.{ShortOutput}
 use Rattle.library.specs.declared.Writing.{Writing}
 use Rattle.library.specs.declared.Writing.TheVariants.{Bytes, Refused}
 use Rattle.directory.specs.Format.{whole_of, bytes_of_all, header_of, library_of, header_bytes, records_at}
-use Rattle.library.specs.Answers.{left, written, Writes, verdictWritten}
+use Rattle.library.specs.Answers.{left, written, Writes, verdict_written}
 use Rattle.directory.specs.Judged.{offer_judged}
 use Rattle.copying.proofs.BytesWritten.{then_part, length_header, part_from, part_put}
 use Rattle.refusal.specs.Order.{Verdict, no, refuse_if, tells, yes}
@@ -21,7 +21,7 @@ use Rattle.bytes_le.specs.Buffer.{over}
 use Rattle.directory.proofs.Offers.{Offered}
 
 module _ (v : ℕ) (ns ws l : List ℕ) where
-  writes_by : (w : Verdict ℕ) → written v ns ws (length l) ≡ w → (r : Writing) → verdictWritten r ≡ w
+  writes_by : (w : Verdict ℕ) → written v ns ws (length l) ≡ w → (r : Writing) → verdict_written r ≡ w
       → Writes v ns ws l r (left w (library_of v ns ws) l)
   writes_by w e r g = record {
     answer = ap tells (g ∙ sym e);

@@ -20,12 +20,12 @@ left (yes a) new old = over new old
 
 -- ---- what reading answers
 
-abbrev pub verdictRead : Reading → Verdict (ℕ × ℕ)
-verdictRead (reading.Cards n v) = yes (n, v)
-verdictRead (reading.Refused f) = no f
+abbrev pub verdict_read : Reading → Verdict (ℕ × ℕ)
+verdict_read (reading.Cards n v) = yes (n, v)
+verdict_read (reading.Refused f) = no f
 
-abbrev pub toldRead : Reading → Answer (ℕ × ℕ)
-toldRead r = tells (verdictRead r)
+abbrev pub told_read : Reading → Answer (ℕ × ℕ)
+told_read r = tells (verdict_read r)
 
 -- 1, 2, 3, then 5 where one of the outputs, a bytes and b words, is shorter than what it must hold; else the count of
 -- cards and the version
@@ -36,18 +36,18 @@ read s a b =
 
 -- reading s into ns and ws: the answer r, and what stands in both buffers after it
 pub record Reads (s ns ws : List ℕ) (r : Reading) (ns' ws' : List ℕ) : Type 0 where
-  pub answer : toldRead r ≡ tells (read s (length ns) (length ws))
+  pub answer : told_read r ≡ tells (read s (length ns) (length ws))
   pub names : ns' ≡ left (read s (length ns) (length ws)) (directory s) ns
   pub words : ws' ≡ left (read s (length ns) (length ws)) (words_in (records s)) ws
 
 -- ---- what writing answers
 
-abbrev pub verdictWritten : Writing → Verdict ℕ
-verdictWritten (writing.Bytes n) = yes n
-verdictWritten (writing.Refused f) = no f
+abbrev pub verdict_written : Writing → Verdict ℕ
+verdict_written (writing.Bytes n) = yes n
+verdict_written (writing.Refused f) = no f
 
-abbrev pub toldWritten : Writing → Answer ℕ
-toldWritten r = tells (verdictWritten r)
+abbrev pub told_written : Writing → Answer ℕ
+told_written r = tells (verdict_written r)
 
 -- 1, 2, 3, then 5 where the output of a bytes is shorter than the library; else the library's length
 unfoldable pub written : ℕ → List ℕ → List ℕ → ℕ → Verdict ℕ
@@ -57,5 +57,5 @@ written v ns ws a =
 
 -- writing ns and ws as a library of version v into l: the answer r, and what stands in the buffer after it
 pub record Writes (v : ℕ) (ns ws l : List ℕ) (r : Writing) (l' : List ℕ) : Type 0 where
-  pub answer : toldWritten r ≡ tells (written v ns ws (length l))
+  pub answer : told_written r ≡ tells (written v ns ws (length l))
   pub library : l' ≡ left (written v ns ws (length l)) (library_of v ns ws) l

@@ -7,7 +7,7 @@ use Rattle.library.specs.declared.Reading.{Reading}
 use Rattle.library.specs.declared.Reading.TheVariants as reading
 use Rattle.library.specs.declared.Writing.{Writing}
 use Rattle.library.specs.declared.Writing.TheVariants as writing
-use Rattle.library.specs.Answers.{toldRead, read, Reads, toldWritten, written, Writes}
+use Rattle.library.specs.Answers.{told_read, read, Reads, told_written, written, Writes}
 
 -- the answer that a verdict is: one whatever tells it
 
@@ -19,11 +19,11 @@ abbrev pub as_writing : Verdict ℕ → Writing
 as_writing (yes n) = writing.Bytes n
 as_writing (no f) = writing.Refused f
 
-pub reading_told : (r : Reading) (v : Verdict (ℕ × ℕ)) → toldRead r ≡ tells v → r ≡ as_reading v
+pub reading_told : (r : Reading) (v : Verdict (ℕ × ℕ)) → told_read r ≡ tells v → r ≡ as_reading v
 reading_told (reading.Cards n k) v e = ap as_reading (tells_one (yes (n, k)) v e)
 reading_told (reading.Refused f) v e = ap as_reading (tells_one (no f) v e)
 
-pub writing_told : (r : Writing) (v : Verdict ℕ) → toldWritten r ≡ tells v → r ≡ as_writing v
+pub writing_told : (r : Writing) (v : Verdict ℕ) → told_written r ≡ tells v → r ≡ as_writing v
 writing_told (writing.Bytes n) v e = ap as_writing (tells_one (yes n) v e)
 writing_told (writing.Refused f) v e = ap as_writing (tells_one (no f) v e)
 

@@ -13,7 +13,7 @@ use Rattle.finding.specs.declared.Located.{Located}
 use Rattle.finding.specs.declared.Located.TheVariants.{Record, Refused}
 use Rattle.directory.specs.Format.{words_of, version, count, directory, records, records_at}
 use Rattle.roll.specs.Directory.{names_in, pieces, place_of}
-use Rattle.finding.specs.Answers.{locating, handed, standing, Finds, toldLocated, recordAt, HandsOut}
+use Rattle.finding.specs.Answers.{locating, handed, standing, Finds, told_located, record_at, HandsOut}
 use Rattle.directory.specs.Judged.{Sound}
 use Rattle.directory.proofs.Headers.{known_version}
 use Rattle.finding.proofs.Locating.{located_placed, located_within}
@@ -36,7 +36,7 @@ Agree l (Record at size) p = Part l at size p
 Agree l (Refused f) p = p.now ≡ []
 
 pub find_agrees : {l : Bor (List ℕ)} {x : List ℕ} {p : Bor (List ℕ)} (r : Located)
-    → Finds l x p → toldLocated r ≡ tells (locating l.now x) → Agree l r p
+    → Finds l x p → told_located r ≡ tells (locating l.now x) → Agree l r p
 find_agrees {l} {x} {p} (Record at size) f e =
     let g : yes (at, size) ≡ locating l.now x = tells_one (yes (at, size)) (locating l.now x) e in
     let w = located_within l.now x (sym g) in
@@ -82,8 +82,8 @@ pub record_of_name : {l p r : Bor (List ℕ)} {x : List ℕ} {q : ℕ × ℕ}
 record_of_name {l} {p} {r} {x} {q} e f d =
     let g = located_placed l.now x e in
     let i = place_of (padded x) (names_in (directory l.now)) in
-    let o : recordAt l.now i ≡ q = record_sound l.now i g.sound g.held ∙ sym g.place in
-    let t : yes (recordAt l.now i) ≡ locating l.now x = ap yes o ∙ sym e in (
+    let o : record_at l.now i ≡ q = record_sound l.now i g.sound g.held ∙ sym g.place in
+    let t : yes (record_at l.now i) ≡ locating l.now x = ap yes o ∙ sym e in (
       d.bytes ∙ ap (λ (v : Verdict (ℕ × ℕ)). handed v l.now) t ∙ sym f.bytes,
       d.place ∙ ap (λ (v : Verdict (ℕ × ℕ)). standing v l) t ∙ sym f.place,
     )

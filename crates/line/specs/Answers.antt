@@ -33,19 +33,19 @@ answered (no f) = no f
 answered (yes m) = yes tt
 
 -- the name with its padding at the start of one buffer, the record at the start of the other; a refusal changes neither
-abbrev pub nameLeft : Verdict Model → List ℕ → List ℕ
-nameLeft (no f) old = old
-nameLeft (yes m) old = over (padded m.name) old
+abbrev pub name_left : Verdict Model → List ℕ → List ℕ
+name_left (no f) old = old
+name_left (yes m) old = over (padded m.name) old
 
-abbrev pub recordLeft : Verdict Model → List ℕ → List ℕ
-recordLeft (no f) old = old
-recordLeft (yes m) old = over (bytes_of_all m.words) old
+abbrev pub record_left : Verdict Model → List ℕ → List ℕ
+record_left (no f) old = old
+record_left (yes m) old = over (bytes_of_all m.words) old
 
 -- the answer r tells the verdict v, and the buffers name and rec are then name' and rec'
 pub record Leaves (v : Verdict Model) (name rec : List ℕ) (r : declared.Answer) (name' rec' : List ℕ) : Type 0 where
   pub told : told_answer r ≡ tells (answered v)
-  pub named : name' ≡ nameLeft v name
-  pub worded : rec' ≡ recordLeft v rec
+  pub named : name' ≡ name_left v name
+  pub worded : rec' ≡ record_left v rec
 
 -- what reading a line leaves
 abbrev pub Reads : List ℕ → List ℕ → List ℕ → declared.Answer → List ℕ → List ℕ → Type 0

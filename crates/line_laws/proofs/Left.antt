@@ -23,7 +23,7 @@ use Rattle.line_write.specs.declared.Written.{Written}
 use Rattle.line_write.specs.declared.Written.TheVariants as written
 use Rattle.line_write.specs.Text.{line_text, text_of}
 use Rattle.line_write.specs.Answers as write
-use Rattle.line_write.specs.Answers.{writingOf, Writes}
+use Rattle.line_write.specs.Answers.{writing_of, Writes}
 use Rattle.line_laws.proofs.Taking.{words_up}
 use Rattle.line_laws.proofs.Back.{line_after_record}
 use Rattle.line_laws.proofs.Again.{record_after_line}
@@ -46,20 +46,20 @@ number_in (refused l) = 0
 
 module _ (name rec old : List ℕ) {new : List ℕ} {n : ℕ} (w : Writes name rec old (written.Bytes n) new) where
   wrote : Wrote name rec new n
-  unfolding writingOf number_in
+  unfolding writing_of number_in
   wrote = by (text_of name rec) refl
     where
       room : (text : List ℕ) → text_of name rec ≡ yes text → (t : Bool) → ltb (length old) (length text) ≡ t
           → Wrote name rec new n
       room text e true f =
-          let z : given n ≡ tells (write.answered (writingOf name rec old)) = w.told in
-          let v : writingOf name rec old ≡ no ShortOutput = rw (e, f) in
+          let z : given n ≡ tells (write.answered (writing_of name rec old)) = w.told in
+          let v : writing_of name rec old ≡ no ShortOutput = rw (e, f) in
           clash cc
       room text e false f =
-          let v : writingOf name rec old ≡ yes text = rw (e, f) in
+          let v : writing_of name rec old ≡ yes text = rw (e, f) in
           let long : n ≡ length text =
           ap number_in (w.told ∙ ap (λ (x : Verdict (List ℕ)). tells (write.answered x)) v) in
-          let left : new ≡ over text old = w.left ∙ ap (λ (x : Verdict (List ℕ)). write.lineLeft x old) v in
+          let left : new ≡ over text old = w.left ∙ ap (λ (x : Verdict (List ℕ)). write.line_left x old) v in
           record {
             text = text;
             is_text = e;
@@ -68,8 +68,8 @@ module _ (name rec old : List ℕ) {new : List ℕ} {n : ℕ} (w : Writes name r
 
       by : (v : Verdict (List ℕ)) → text_of name rec ≡ v → Wrote name rec new n
       by (no f) e =
-          let z : given n ≡ tells (write.answered (writingOf name rec old)) = w.told in
-          let v : writingOf name rec old ≡ no f = rw e in
+          let z : given n ≡ tells (write.answered (writing_of name rec old)) = w.told in
+          let v : writing_of name rec old ≡ no f = rw e in
           clash cc
       by (yes text) e = room text e (ltb (length old) (length text)) refl
 
@@ -77,11 +77,11 @@ module _ (name rec old : List ℕ) {new : List ℕ} {n : ℕ} (w : Writes name r
 pub wrote_all : (name rec old : List ℕ) {new text : List ℕ} {r : Written} → text_of name rec ≡ yes text →
     length text ≤ length old
     → Writes name rec old r new → r ≡ written.Bytes (length text)
-unfolding writingOf
+unfolding writing_of
 wrote_all name rec old {new} {text} {r} e h w =
     by r (w.told ∙ ap (λ (x : Verdict (List ℕ)). tells (write.answered x)) v)
   where
-    v : writingOf name rec old ≡ yes text
+    v : writing_of name rec old ≡ yes text
     v = rw (e, le-ltb (length old) (length text) h)
 
     by : (r : Written) → write.told_answer r ≡ given (length text) → r ≡ written.Bytes (length text)
@@ -100,10 +100,10 @@ module _ (t nb rb : List ℕ) {nb' rb' : List ℕ} {r : answered.Answer} (m : Mo
       by (answer.Refused f) e = clash cc
 
   name_left : nb' ≡ over (padded m.name) nb
-  name_left = g.named ∙ ap (λ (x : Verdict Model). read.nameLeft x nb) e
+  name_left = g.named ∙ ap (λ (x : Verdict Model). read.name_left x nb) e
 
   record_left : rb' ≡ over (bytes_of_all m.words) rb
-  record_left = g.worded ∙ ap (λ (x : Verdict Model). read.recordLeft x rb) e
+  record_left = g.worded ∙ ap (λ (x : Verdict Model). read.record_left x rb) e
 
 has_room : (t nb rb : List ℕ) (m : Model) → line_of t ≡ yes m → name_length ≤ length nb → record_bytes ≤ length rb
     → reading_of t nb rb ≡ yes m

@@ -24,7 +24,7 @@ use Rattle.line_write.specs.declared.Written as declared
 use Rattle.line_write.specs.declared.Written.TheVariants as written
 use Rattle.keyed.specs.Keyed.{forms_up, keys_up}
 use Rattle.line_write.specs.Text.{settled, line_text, text_of}
-use Rattle.line_write.specs.Answers.{room_for, writingOf, Leaves}
+use Rattle.line_write.specs.Answers.{room_for, writing_of, Leaves}
 use Rattle.keyed.specs.inner.Parts.{KeysPut}
 use Rattle.line_write.specs.inner.Parts.{head_of, good_text}
 
@@ -95,20 +95,20 @@ asked_few x e =
     leb-true (length x) name_length (both few all (both some (few && all) (sym e)).1).0
 
 module _ (name rec line : List ℕ) where
-  pub not_wide : false ≡ is_wide rec → no Malformed ≡ writingOf name rec line
-  unfolding writingOf text_of
+  pub not_wide : false ≡ is_wide rec → no Malformed ≡ writing_of name rec line
+  unfolding writing_of text_of
   not_wide e = rw (← e) refl
 
   module _ (w : true ≡ is_wide rec) where
-    pub not_named : false ≡ asked name → no BadName ≡ writingOf name rec line
-    unfolding writingOf text_of
+    pub not_named : false ≡ asked name → no BadName ≡ writing_of name rec line
+    unfolding writing_of text_of
     not_named e = rw (← w, ← e) refl
 
     module _ (a : true ≡ asked name) where
-      pub not_settled : false ≡ settled rec → no BadExsub ≡ writingOf name rec line
-      unfolding writingOf text_of
+      pub not_settled : false ≡ settled rec → no BadExsub ≡ writing_of name rec line
+      unfolding writing_of text_of
       not_settled e = rw (← w, ← a, ← e) refl
 
-      pub good_card : true ≡ settled rec → good_text name rec line ≡ writingOf name rec line
-      unfolding writingOf text_of
+      pub good_card : true ≡ settled rec → good_text name rec line ≡ writing_of name rec line
+      unfolding writing_of text_of
       good_card e = rw (← w, ← a, ← e) refl

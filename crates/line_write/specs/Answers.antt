@@ -12,8 +12,8 @@ use Rattle.line_write.specs.Text.{text_of}
 abbrev pub room_for : List ℕ → List ℕ → Verdict (List ℕ)
 room_for line text = refuse_if (ltb (length line) (length text)) ShortOutput (yes text)
 
-unfoldable pub writingOf : List ℕ → List ℕ → List ℕ → Verdict (List ℕ)
-writingOf name rec line = and_then (text_of name rec) (room_for line)
+unfoldable pub writing_of : List ℕ → List ℕ → List ℕ → Verdict (List ℕ)
+writing_of name rec line = and_then (text_of name rec) (room_for line)
 
 abbrev pub told_answer : declared.Written → Answer ℕ
 told_answer (written.Bytes n) = given n
@@ -25,15 +25,15 @@ answered (no f) = no f
 answered (yes text) = yes (length text)
 
 -- the text at the start of the buffer; a refusal changes nothing
-abbrev pub lineLeft : Verdict (List ℕ) → List ℕ → List ℕ
-lineLeft (no f) old = old
-lineLeft (yes text) old = over text old
+abbrev pub line_left : Verdict (List ℕ) → List ℕ → List ℕ
+line_left (no f) old = old
+line_left (yes text) old = over text old
 
 -- the answer r tells the verdict v, and the buffer line is then line'
 pub record Leaves (v : Verdict (List ℕ)) (line : List ℕ) (r : declared.Written) (line' : List ℕ) : Type 0 where
   pub told : told_answer r ≡ tells (answered v)
-  pub left : line' ≡ lineLeft v line
+  pub left : line' ≡ line_left v line
 
 -- what writing a card leaves
 abbrev pub Writes : List ℕ → List ℕ → List ℕ → declared.Written → List ℕ → Type 0
-Writes name rec line r line' = Leaves (writingOf name rec line) line r line'
+Writes name rec line r line' = Leaves (writing_of name rec line) line r line'

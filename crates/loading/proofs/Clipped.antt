@@ -11,11 +11,11 @@ use lib.Seq.{get_or_at, get_or-append-add}
 use lib.Ieee.{nan, of_bits}
 use lib.Ieee.Positive.{positive, positive-finite}
 use lib.Ieee.Scale.{finite}
-use Rattle.refusal.specs.Clash.{clash}
-use Rattle.clip.specs.Numbers as number
-use Rattle.clip.specs.Limits.{tenth, wide, narrow}
-use Rattle.clip.specs.Record.{number_at, finite_up}
-use Rattle.clip.specs.Clip.{clipped_at, clipped_up}
+use Rattle.working.specs.OfRefusal.Clash.{clash}
+use Rattle.working.specs.OfClip.Numbers as number
+use Rattle.working.specs.OfClip.Limits.{tenth, wide, narrow}
+use Rattle.working.specs.OfClip.Record.{number_at, finite_up}
+use Rattle.working.specs.OfClip.Clip.{clipped_at, clipped_up}
 use Rattle.loading.specs.Numbers.{missing, numbers_for, at}
 use Rattle.loading.specs.inner.Mlf.{GoodMlf}
 use Rattle.loading.proofs.Range.{holds}

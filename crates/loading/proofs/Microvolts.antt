@@ -13,7 +13,7 @@ use lib.Ieee.Order.{round_mono}
 use lib.Ieee.Positive.{num, den}
 use lib.Ieee.Scale.{finite}
 use borrow.Author.Tests.{ltb-true, ltb-false, eqb-true, lt-ltb, le-ltb}
-use Rattle.clip.specs.Limits as limits
+use Rattle.working.specs.OfClip.Limits as limits
 use Rattle.working.specs.Work.{million}
 use Rattle.loading.specs.Knee.{five, knee_good, microvolts_of, knee_raise, knee_kept, knee_of, knee_most}
 use Rattle.loading.specs.laws.Sign.{unsigned}

@@ -6,7 +6,7 @@ use lib.Dec.{T}
 use lib.IntN.{pos, negsuc}
 use lib.Ieee.{Float, fin, binary64, of_bits, le, mul}
 use lib.Ieee.Positive.{above, positive, above_of_le, mul_mono}
-use Rattle.clip.specs.Limits.{tenth}
+use Rattle.working.specs.OfClip.Limits.{tenth}
 use Rattle.loading.specs.Octave.{ten_million, fifty_million, octave_good}
 use Rattle.loading.specs.Numbers.{mlf}
 use Rattle.loading.specs.inner.Mlf.{GoodMlf}

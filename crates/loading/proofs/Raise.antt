@@ -11,8 +11,8 @@ use lib.Ieee.Fits.{up_pos, down_pos}
 use lib.Ieee.Positive.{positive, cross→le, first_pos, num, den}
 use lib.Ieee.Scale.{finite}
 use borrow.Author.Tests.{ltb-false, ne_eqb}
-use Rattle.clip.specs.declared.limits.Rule.TheVariants.{AtLeast}
-use Rattle.clip.specs.Limits.{zero, plain_of, clip_to}
+use Rattle.working.specs.OfClip.limits.Rule.TheVariants.{AtLeast}
+use Rattle.working.specs.OfClip.Limits.{zero, plain_of, clip_to}
 
 pub zero_is : zero ≡ fin false 0 (pos 0)
 unfolding of_bits

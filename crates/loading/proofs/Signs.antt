@@ -12,9 +12,9 @@ use lib.Ieee.{sub, mul, div, lt, eq}
 use lib.Ieee.Fits.{up_pos, down_pos}
 use lib.Ieee.Scale.{finite}
 use borrow.Author.Tests.{ltb-false, eq-eqb}
-use Rattle.clip.specs.declared.limits.Rule.TheVariants.{AtLeast, Between}
-use Rattle.clip.specs.Limits as limits
-use Rattle.clip.specs.Limits.{plain_of, clip_to}
+use Rattle.working.specs.OfClip.limits.Rule.TheVariants.{AtLeast, Between}
+use Rattle.working.specs.OfClip.Limits as limits
+use Rattle.working.specs.OfClip.Limits.{plain_of, clip_to}
 use Rattle.loading.specs.laws.Sign.{unsigned}
 use Rattle.loading.proofs.Raise.{zero_is}
 

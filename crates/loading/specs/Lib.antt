@@ -4,3 +4,5 @@ pub mod Knee
 pub mod Numbers
 pub mod inner
 pub mod laws
+pub mod OfClip
+pub mod OfWorking

@@ -2,10 +2,10 @@
 use Rattle.std.specs.Prelude.{Bool, true, false, cond, ◌&&◌, ◌||◌, List, [], ◌∷◌, ◌++◌, ℕ, suc, eqb, get_or, Float}
 use Rattle.std.specs.Float.{nan, binary64}
 use Rattle.std.specs.Float.Ieee.{of_bits, lt, eq, mul}
-use Rattle.clip.specs.Numbers as number
-use Rattle.clip.specs.Limits.{zero, one, wide, narrow}
-use Rattle.clip.specs.Record.{is_wide, word_at}
-use Rattle.clip.specs.Clip.{clipped_up}
+use Rattle.working.specs.OfClip.Numbers as number
+use Rattle.working.specs.OfClip.Limits.{zero, one, wide, narrow}
+use Rattle.working.specs.OfClip.Record.{is_wide, word_at}
+use Rattle.working.specs.OfClip.Clip.{clipped_up}
 use Rattle.working.specs.declared.Parameters.{Parameters}
 use Rattle.working.specs.Work.{worked_of, all_finite}
 use Rattle.loading.specs.Octave.{second_good}

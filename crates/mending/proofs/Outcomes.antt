@@ -28,7 +28,7 @@ use Rattle.mending.specs.declared.Mending.{Mending}
 use Rattle.mending.specs.declared.Mending.TheVariants.{Set, Refused}
 use Rattle.signals.specs.Records.{icss_end, mended_all, signalling}
 use Rattle.mending.specs.Mended.{records_in, mended_of, count_of}
-use Rattle.mending.specs.Answers.{verdictMended, mending, Mends}
+use Rattle.mending.specs.Answers.{verdict_mended, mending, Mends}
 
 -- a record of either version has I_CSs
 pub has_icss : (u : ℕ) → 0 < words_of u → icss_end ≤ word_bytes * words_of u
@@ -56,7 +56,7 @@ module _ {s : List ℕ} {n k : ℕ} (v : Inspected s n k) where
       omega arith
 
 module _ (s o : List ℕ) where
-  mends_by : (v : Verdict ℕ) → mending s (length o) ≡ v → (r : Mending) → verdictMended r ≡ v
+  mends_by : (v : Verdict ℕ) → mending s (length o) ≡ v → (r : Mending) → verdict_mended r ≡ v
       → Mends s o r (left v (mended_of s) o)
   mends_by v e r g =
       record { answer = ap tells (g ∙ sym e); output = ap (λ (w : Verdict ℕ). left w (mended_of s) o) (sym e) }

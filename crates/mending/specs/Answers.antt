@@ -8,12 +8,12 @@ use Rattle.mending.specs.declared.Mending.{Mending}
 use Rattle.mending.specs.declared.Mending.TheVariants.{Set, Refused}
 use Rattle.mending.specs.Mended.{mended_of, count_of}
 
-abbrev pub verdictMended : Mending → Verdict ℕ
-verdictMended (Set n) = yes n
-verdictMended (Refused f) = no f
+abbrev pub verdict_mended : Mending → Verdict ℕ
+verdict_mended (Set n) = yes n
+verdict_mended (Refused f) = no f
 
-abbrev pub toldMended : Mending → Answer ℕ
-toldMended r = tells (verdictMended r)
+abbrev pub told_mended : Mending → Answer ℕ
+told_mended r = tells (verdict_mended r)
 
 -- 1, 2, 3, then 5 where the output of a bytes is shorter than the library; else how many cards are set
 unfoldable pub mending : List ℕ → ℕ → Verdict ℕ
@@ -21,5 +21,5 @@ mending s a = and_then (library_judged s) (λ (p : ℕ × ℕ). refuse_if (ltb a
 
 -- mending s into o: the answer r, and what stands in the buffer after it
 pub record Mends (s o : List ℕ) (r : Mending) (o' : List ℕ) : Type 0 where
-  pub answer : toldMended r ≡ tells (mending s (length o))
+  pub answer : told_mended r ≡ tells (mending s (length o))
   pub output : o' ≡ left (mending s (length o)) (mended_of s) o

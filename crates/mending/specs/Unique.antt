@@ -5,14 +5,14 @@ use Rattle.refusal.specs.Unique.{unique_by_equation}
 use Rattle.refusal.specs.Order.{Verdict, no, yes, tells, tells_one}
 use Rattle.mending.specs.declared.Mending.{Mending}
 use Rattle.mending.specs.declared.Mending.TheVariants.{Set, Refused}
-use Rattle.mending.specs.Answers.{toldMended, mending, Mends}
+use Rattle.mending.specs.Answers.{told_mended, mending, Mends}
 
 -- the answer that a verdict is: one whatever tells it
 abbrev pub as_mending : Verdict ℕ → Mending
 as_mending (yes n) = Set n
 as_mending (no f) = Refused f
 
-pub mending_told : (r : Mending) (v : Verdict ℕ) → toldMended r ≡ tells v → r ≡ as_mending v
+pub mending_told : (r : Mending) (v : Verdict ℕ) → told_mended r ≡ tells v → r ≡ as_mending v
 mending_told (Set n) v e = ap as_mending (tells_one (yes n) v e)
 mending_told (Refused f) v e = ap as_mending (tells_one (no f) v e)
 

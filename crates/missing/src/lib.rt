@@ -2,12 +2,12 @@
 #![tactic(auto)]
 
 ghost use Rattle.std.specs.Prelude.{◌≡◌, ◌<◌};
-ghost use Rattle.clip.specs.Limits.{wide};
-ghost use Rattle.clip.specs.Record.{word_at};
+ghost use Rattle.loading.specs.OfClip.Limits.{wide};
+ghost use Rattle.loading.specs.OfClip.Record.{word_at};
 ghost use Rattle.loading.specs.Numbers.{spares_good};
 ghost use Rattle.missing.specs.inner.Filled.{filled_with};
 
-use clip::{WIDTH, numbers};
+use loading::clip::{WIDTH, numbers};
 
 // The numbers that clipping gives, with what version 1 means by those that it has not: all are 0 but the polarity.
 pub fn filled(wide: bool, x: [f64; WIDTH]) -> [f64; WIDTH]

@@ -7,15 +7,15 @@ use Prim.Native.Nat.{ℕ, zero, ◌*◌, ◌<◌, zero-le}
 use lib.ListN.{length, set, replicate, length-set, length-replicate}
 use lib.IntN.{ℤ, pos}
 use Rattle.name.specs.Name.{name_length}
-use Rattle.terms.specs.Rows.{roles, branches}
-use Rattle.given.specs.Pairs.{Shift}
-use Rattle.deck.specs.Layout.{numbers_each, powers_each, ticks_each, switches_each}
-use Rattle.deck.specs.laws.Stretches.{length_written}
-use Rattle.places.specs.Gathered.{Card, Transistor, transistor_in, empty_card, empty_transistor}
-use Rattle.places.specs.laws.Change.{cards_set, cards_fresh, transistors_set, transistors_fresh}
-use Rattle.places.specs.laws.Gather.{length_transistors, transistor_there}
+use Rattle.settle.specs.OfTerms.Rows.{roles, branches}
+use Rattle.settle.specs.OfGiven.Pairs.{Shift}
+use Rattle.settle.specs.OfDeck.Layout.{numbers_each, powers_each, ticks_each, switches_each}
+use Rattle.settle.specs.OfDeck.laws.Stretches.{length_written}
+use Rattle.settle.specs.OfPlaces.Gathered.{Card, Transistor, transistor_in, empty_card, empty_transistor}
+use Rattle.settle.specs.OfPlaces.laws.Change.{cards_set, cards_fresh, transistors_set, transistors_fresh}
+use Rattle.settle.specs.OfPlaces.laws.Gather.{length_transistors, transistor_there}
 use Rattle.settle.specs.laws.Renewals.{renewed_long, renewed_at}
-use Rattle.flows.proofs.Currents.{ticks_count}
+use Rattle.settle.proofs.OfFlows.Currents.{ticks_count}
 use Rattle.model.specs.Board.{Board}
 use Rattle.model.specs.Counts.{nodes_most, cards_most, transistors_most}
 use Rattle.model.specs.Model.{cards_of, transistors_of, transistor_at, Levels, touched, settled, current_then}

@@ -16,21 +16,21 @@ use Rattle.name.specs.Name.{name_length, padded}
 use Rattle.name.proofs.Laws.{padded_long}
 use Rattle.scaling.specs.Scaled.{tick_limit}
 use Rattle.card.specs.declared.WorkedCard.{WorkedCard}
-use Rattle.terms.specs.inner.Ready.{IsReady, ready_of}
-use Rattle.terms.proofs.Laws.{made_ready}
-use Rattle.terms.specs.Rows.{roles, branches}
-use Rattle.terms.specs.Looked.{looked_at}
-use Rattle.totals.specs.inner.Sums.{Within}
-use Rattle.given.specs.Lists.{any_of}
-use Rattle.given.specs.Arguments.{issues_most, issue_of}
-use Rattle.given.specs.Pairs.{Shift}
-use Rattle.deck.specs.laws.Stretches.{get_or_none}
-use Rattle.places.specs.Gathered.{Card, Transistor, empty_card, empty_transistor, no_card, no_transistor}
-use Rattle.places.specs.Finding.{is_card, is_transistor, card_place, free_card, free_transistor, stands_on, stands_at}
-use Rattle.places.specs.laws.Members.{set_same, set_empty}
-use Rattle.places.proofs.Scans.{none_of}
-use Rattle.flows.specs.inner.Workable.{Volts}
-use Rattle.flows.proofs.Currents.{ticks_within, ticks_count}
+use Rattle.settle.specs.OfTerms.inner.Ready.{IsReady, ready_of}
+use Rattle.settle.proofs.OfTerms.Laws.{made_ready}
+use Rattle.settle.specs.OfTerms.Rows.{roles, branches}
+use Rattle.settle.specs.OfTerms.Looked.{looked_at}
+use Rattle.settle.specs.OfTotals.inner.Sums.{Within}
+use Rattle.settle.specs.OfGiven.Lists.{any_of}
+use Rattle.settle.specs.OfGiven.Arguments.{issues_most, issue_of}
+use Rattle.settle.specs.OfGiven.Pairs.{Shift}
+use Rattle.settle.specs.OfDeck.laws.Stretches.{get_or_none}
+use Rattle.settle.specs.OfPlaces.Gathered.{Card, Transistor, empty_card, empty_transistor, no_card, no_transistor}
+use Rattle.settle.specs.OfPlaces.Finding.{is_card, is_transistor, card_place, free_card, free_transistor, stands_on, stands_at}
+use Rattle.settle.specs.OfPlaces.laws.Members.{set_same, set_empty}
+use Rattle.settle.proofs.OfPlaces.Scans.{none_of}
+use Rattle.settle.specs.OfFlows.inner.Workable.{Volts}
+use Rattle.settle.proofs.OfFlows.Currents.{ticks_within, ticks_count}
 use Rattle.model.specs.Board.{Board}
 use Rattle.model.specs.Counts.{nodes_most, cards_most, transistors_most}
 use Rattle.model.specs.Verdict.{node_verdict}

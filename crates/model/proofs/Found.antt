@@ -8,9 +8,9 @@ use lib.ListN.{length, get_or}
 use lib.IntN.{ℤ, nat_abs}
 use borrow.Author.Tests.{eqb-true, eqb-false}
 use Rattle.refusal.specs.Clash.{clash}
-use Rattle.given.specs.Arguments.{none, some, off_node, some_node_off}
-use Rattle.places.specs.Gathered.{Card, Transistor, no_card, no_transistor}
-use Rattle.places.specs.Finding.{first, found_at, card_place, transistor_place}
+use Rattle.settle.specs.OfGiven.Arguments.{none, some, off_node, some_node_off}
+use Rattle.settle.specs.OfPlaces.Gathered.{Card, Transistor, no_card, no_transistor}
+use Rattle.settle.specs.OfPlaces.Finding.{first, found_at, card_place, transistor_place}
 use Rattle.model.specs.Counts.{nodes_most, cards_most, transistors_most}
 use Rattle.model.proofs.Lists.{first_passes, found_is}
 use Rattle.model.proofs.Verdicts.{on_node_lem}

@@ -12,17 +12,17 @@ use borrow.Author.Tests.{eqb-true, eqb-false, ne_eqb, eq-eqb}
 use Rattle.refusal.specs.Clash.{clash}
 use Rattle.volts.specs.Volts.{given_back, kept_as}
 use Rattle.card.specs.declared.WorkedCard.{WorkedCard}
-use Rattle.polarity.specs.Polarity.{outcome_of}
-use Rattle.totals.specs.Gives.{nodes_most}
-use Rattle.totals.specs.Flow.{roles_at, ticks_at, flow, sum_over, sum_below, with_more}
-use Rattle.totals.specs.inner.Sums.{More}
-use Rattle.slices.proofs.Passing.{more_long}
-use Rattle.given.specs.Lists.{any_of}
-use Rattle.places.specs.Gathered.{Card, Transistor, no_transistor, worked_at}
-use Rattle.places.specs.Finding.{names, stands_at}
-use Rattle.flows.specs.Back.{ticks_back}
+use Rattle.settle.specs.OfPolarity.Polarity.{outcome_of}
+use Rattle.settle.specs.OfTotals.Gives.{nodes_most}
+use Rattle.settle.specs.OfTotals.Flow.{roles_at, ticks_at, flow, sum_over, sum_below, with_more}
+use Rattle.settle.specs.OfTotals.inner.Sums.{More}
+use Rattle.settle.proofs.OfSlices.Passing.{more_long}
+use Rattle.settle.specs.OfGiven.Lists.{any_of}
+use Rattle.settle.specs.OfPlaces.Gathered.{Card, Transistor, no_transistor, worked_at}
+use Rattle.settle.specs.OfPlaces.Finding.{names, stands_at}
+use Rattle.settle.specs.OfFlows.Back.{ticks_back}
 use Rattle.settle.specs.Change.{change_by}
-use Rattle.given.specs.Pairs.{Shift, shifted_in}
+use Rattle.settle.specs.OfGiven.Pairs.{Shift, shifted_in}
 use Rattle.model.specs.Model.{shifted, touched}
 use Rattle.model.specs.inner.Sums.{place_gives, totals_of}
 use Rattle.model.proofs.NodeSums.{up_at, totals_at, are_totals}

@@ -13,18 +13,18 @@ use Rattle.refusal.specs.Order.{Verdict, no, yes}
 use Rattle.volts.specs.Volts.{given_back, kept_as}
 use Rattle.volts.specs.laws.Keeping.{near_replicate}
 use Rattle.card.specs.declared.WorkedCard.{WorkedCard}
-use Rattle.terms.specs.Rows.{roles}
-use Rattle.rows.specs.Outcome.{is_over}
-use Rattle.polarity.specs.Polarity.{outcome_of}
-use Rattle.totals.specs.Flow.{roles_at, over_at, overloads, flow, sum_over}
-use Rattle.given.specs.Arguments.{issue_of}
-use Rattle.given.specs.Pairs.{Shift}
-use Rattle.deck.specs.laws.Ups.{up_all, up_same}
-use Rattle.places.specs.Gathered.{Card, Transistor, empty_card, empty_transistor, no_card, no_transistor, worked_at}
-use Rattle.places.specs.Finding.{card_place, free_card, free_transistor}
+use Rattle.settle.specs.OfTerms.Rows.{roles}
+use Rattle.settle.specs.OfRows.Outcome.{is_over}
+use Rattle.settle.specs.OfPolarity.Polarity.{outcome_of}
+use Rattle.settle.specs.OfTotals.Flow.{roles_at, over_at, overloads, flow, sum_over}
+use Rattle.settle.specs.OfGiven.Arguments.{issue_of}
+use Rattle.settle.specs.OfGiven.Pairs.{Shift}
+use Rattle.settle.specs.OfDeck.laws.Ups.{up_all, up_same}
+use Rattle.settle.specs.OfPlaces.Gathered.{Card, Transistor, empty_card, empty_transistor, no_card, no_transistor, worked_at}
+use Rattle.settle.specs.OfPlaces.Finding.{card_place, free_card, free_transistor}
 use Rattle.settle.specs.Change.{changes}
 use Rattle.settle.specs.laws.Firsts.{first_quiet}
-use Rattle.flows.specs.inner.Workable.{Volts}
+use Rattle.settle.specs.OfFlows.inner.Workable.{Volts}
 use Rattle.model.specs.Board.{Board}
 use Rattle.model.specs.Counts.{nodes_most, cards_most, transistors_most}
 use Rattle.model.specs.Desk.{Call, load, place, move, lift, withdraw, look_up, node, currents, who, sum_up}

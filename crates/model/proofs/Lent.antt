@@ -4,14 +4,14 @@ use mathlib.Core.List.{List}
 use Prim.Native.Nat.{ℕ, ◌<◌}
 use lib.ListN.{length, get_or}
 use Rattle.scaling.specs.Scaled.{tick_limit}
-use Rattle.terms.specs.declared.Ready.{Ready}
-use Rattle.terms.specs.inner.Ready.{IsReady}
-use Rattle.terms.specs.Rows.{roles}
-use Rattle.totals.specs.inner.Sums.{Within}
-use Rattle.deck.specs.Layout.{ready_at}
-use Rattle.places.specs.Gathered.{Card, Transistor, transistor_in, no_card}
-use Rattle.places.specs.laws.Gather.{card_there, transistor_there}
-use Rattle.flows.specs.inner.Workable.{Deck, deck_of, card_of, Able}
+use Rattle.settle.specs.OfTerms.Ready.{Ready}
+use Rattle.settle.specs.OfTerms.inner.Ready.{IsReady}
+use Rattle.settle.specs.OfTerms.Rows.{roles}
+use Rattle.settle.specs.OfTotals.inner.Sums.{Within}
+use Rattle.settle.specs.OfDeck.Layout.{ready_at}
+use Rattle.settle.specs.OfPlaces.Gathered.{Card, Transistor, transistor_in, no_card}
+use Rattle.settle.specs.OfPlaces.laws.Gather.{card_there, transistor_there}
+use Rattle.settle.specs.OfFlows.inner.Workable.{Deck, deck_of, card_of, Able}
 use Rattle.settle.specs.inner.Working.{card_at, nodes_at, held_at}
 use Rattle.model.specs.Board.{Board}
 use Rattle.model.specs.Counts.{nodes_most, cards_most, transistors_most}

@@ -10,3 +10,4 @@ pub mod Footing
 pub mod Invariant
 pub mod Lent
 pub mod Whole
+pub mod OfSlices

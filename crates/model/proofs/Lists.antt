@@ -8,8 +8,8 @@ use lib.Dec.{ltb}
 use lib.ListN.{length, get_or, set, replicate}
 use borrow.Author.Tests.{ltb-true}
 use Rattle.refusal.specs.Clash.{clash}
-use Rattle.given.specs.Arguments.{none, some}
-use Rattle.places.specs.Finding.{first, found_at}
+use Rattle.settle.specs.OfGiven.Arguments.{none, some}
+use Rattle.settle.specs.OfPlaces.Finding.{first, found_at}
 
 -- what holds of the element at i, and of one put in somewhere, holds of the element at i then
 pub each_set : {A : Type 0} (P : A → Type 0) (l : List A) (n i : ℕ) (v d : A) → P v → P (get_or l i d) →

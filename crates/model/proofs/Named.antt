@@ -9,12 +9,12 @@ use lib.Dec.{eqb}
 use lib.ListN.{length, get_or, set}
 use lib.Seq.{get_or-set_same, get_or-set_other}
 use borrow.Author.Tests.{eqb-true, eqb-false, eq-eqb, ne_eqb}
-use Rattle.deck.specs.laws.Ups.{length_up, get_or_up}
-use Rattle.places.specs.Gathered.{Transistor, no_transistor}
-use Rattle.places.specs.Finding.{names, stands_at}
-use Rattle.places.specs.Sets.{member, set_of, with_place, without_place}
-use Rattle.places.specs.Naming.{at_nodes, joined, parted}
-use Rattle.places.specs.laws.Members.{member_set, set_same}
+use Rattle.settle.specs.OfDeck.laws.Ups.{length_up, get_or_up}
+use Rattle.settle.specs.OfPlaces.Gathered.{Transistor, no_transistor}
+use Rattle.settle.specs.OfPlaces.Finding.{names, stands_at}
+use Rattle.settle.specs.OfPlaces.Sets.{member, set_of, with_place, without_place}
+use Rattle.settle.specs.OfPlaces.Naming.{at_nodes, joined, parted}
+use Rattle.settle.specs.OfPlaces.laws.Members.{member_set, set_same}
 use Rattle.model.specs.Counts.{nodes_most, transistors_most}
 
 -- a fresh scan: the places of the transistors that name the node n

@@ -12,16 +12,16 @@ use lib.ListN.{length, get_or, get_or-eq_default}
 use lib.Seq.{ext_get_or}
 use lib.IntN.{ℤ, pos, nat_abs}
 use Rattle.whole.specs.laws.Biased.{below_or_not}
-use Rattle.rows.specs.inner.FromTerms.{list_up}
+use Rattle.settle.specs.OfRows.inner.FromTerms.{list_up}
 use Rattle.model.specs.Counts.{nodes_most, transistors_most}
-use Rattle.totals.specs.Flow.{flow, sum_over}
-use Rattle.places.specs.Gathered.{Card, Transistor, worked_at}
+use Rattle.settle.specs.OfTotals.Flow.{flow, sum_over}
+use Rattle.settle.specs.OfPlaces.Gathered.{Card, Transistor, worked_at}
 use Rattle.model.specs.inner.Sums.{place_gives, totals_of}
-use Rattle.totals.specs.inner.Sums.{Room}
-use Rattle.totals.specs.inner.Sizes.{flow_most}
-use Rattle.deck.specs.laws.Ups.{length_up, get_or_up}
-use Rattle.totals.proofs.Integers.{abs_add}
-use Rattle.flows.proofs.Currents.{small_flow}
+use Rattle.settle.specs.OfTotals.inner.Sums.{Room}
+use Rattle.settle.specs.OfTotals.inner.Sizes.{flow_most}
+use Rattle.settle.specs.OfDeck.laws.Ups.{length_up, get_or_up}
+use Rattle.settle.proofs.OfTotals.Integers.{abs_add}
+use Rattle.settle.proofs.OfFlows.Currents.{small_flow}
 
 -- ---- sums and tables
 

@@ -7,8 +7,8 @@ use lib.ListN.{length, set, length-set}
 use lib.IntN.{ℤ, nat_abs}
 use Rattle.volts.specs.Volts.{given_back, kept_as, off_volts, AllNear}
 use Rattle.volts.specs.laws.Keeping.{kept, near_set}
-use Rattle.given.specs.Arguments.{off_node}
-use Rattle.given.specs.Pairs.{Shift, some_pair_off, shifts_of, shifted_in}
+use Rattle.settle.specs.OfGiven.Arguments.{off_node}
+use Rattle.settle.specs.OfGiven.Pairs.{Shift, some_pair_off, shifts_of, shifted_in}
 use Rattle.model.specs.Desk.{moved_to}
 use Rattle.model.specs.Model.{shifted}
 use Rattle.model.proofs.Gains.{either_false}

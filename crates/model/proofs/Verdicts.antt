@@ -10,15 +10,15 @@ use Rattle.card.specs.declared.WorkedCard.{WorkedCard}
 use Rattle.card.specs.Judge.{judge_of}
 use Rattle.clip.specs.Record.{right_length}
 use Rattle.name.specs.Name.{asked}
-use Rattle.rows.specs.declared.Over.{Over}
-use Rattle.rows.specs.Outcome.{is_over}
+use Rattle.settle.specs.OfRowsTypes.Over.{Over}
+use Rattle.settle.specs.OfRows.Outcome.{is_over}
 use Rattle.settle.specs.declared.First.{First}
 use lib.Dec.{leb, ltb}
 use borrow.Author.Tests.{leb-false}
 use Rattle.model.specs.Counts.{nodes_most}
-use Rattle.given.specs.Arguments.{Found, none, some, off_node, some_node_off, Ties, torn}
-use Rattle.given.specs.Pairs.{are_pairs, some_pair_off, Shift, shifts_of}
-use Rattle.given.specs.inner.Nodes.{node_of}
+use Rattle.settle.specs.OfGiven.Arguments.{Found, none, some, off_node, some_node_off, Ties, torn}
+use Rattle.settle.specs.OfGiven.Pairs.{are_pairs, some_pair_off, Shift, shifts_of}
+use Rattle.settle.specs.OfGiven.inner.Nodes.{node_of}
 use Rattle.model.specs.Verdict.{load_verdict, place_verdict, move_verdict, lift_verdict, withdraw_verdict, node_verdict}
 use Rattle.model.specs.Verdict.{open_verdict}
 use Rattle.refusal.specs.Order.{Verdict, no, yes, refuse_if, and_then, passes_if}

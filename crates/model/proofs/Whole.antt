@@ -5,7 +5,7 @@ use mathlib.Core.List.{List, []}
 use Prim.Native.Nat.{ℕ}
 use lib.IntN.{ℤ}
 use Rattle.refusal.specs.Order.{Verdict, no, yes}
-use Rattle.given.specs.Pairs.{Shift}
+use Rattle.settle.specs.OfGiven.Pairs.{Shift}
 use Rattle.model.specs.Board.{Board}
 use Rattle.model.specs.declared.Answer.{Answer}
 use Rattle.model.specs.Board.{Answered}

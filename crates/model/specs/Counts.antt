@@ -1,3 +1,3 @@
 -- How many there are: the board's nodes, and its places of cards and of transistors.
-pub use Rattle.totals.specs.Gives.{nodes_most}
-pub use Rattle.places.specs.Counts.{cards_most, transistors_most}
+pub use Rattle.settle.specs.OfTotals.Gives.{nodes_most}
+pub use Rattle.settle.specs.OfPlaces.Counts.{cards_most, transistors_most}

@@ -10,13 +10,13 @@ use Rattle.name.specs.Name.{asked, padded, same}
 use Rattle.card.specs.Judge.{judge_of}
 use Rattle.clip.specs.Record.{right_length}
 use Rattle.card.specs.declared.WorkedCard.{WorkedCard}
-use Rattle.terms.specs.Rows.{roles}
-use Rattle.terms.specs.Looked.{looked_at}
-use Rattle.totals.specs.Flow.{ticks_at, flow, sum_over}
-pub use Rattle.given.specs.Lists.{keep_if}
-use Rattle.given.specs.Lists.{any_of, only, larger, largest, in_order, different}
-use Rattle.given.specs.Arguments.{Found, none, some, issue_of, off_node, some_node_off, ties_of, torn, known, used_up}
-use Rattle.given.specs.Pairs.{are_pairs, some_pair_off, Shift, shifts_of, shifted_in}
+use Rattle.settle.specs.OfTerms.Rows.{roles}
+use Rattle.settle.specs.OfTerms.Looked.{looked_at}
+use Rattle.settle.specs.OfTotals.Flow.{ticks_at, flow, sum_over}
+pub use Rattle.settle.specs.OfGiven.Lists.{keep_if}
+use Rattle.settle.specs.OfGiven.Lists.{any_of, only, larger, largest, in_order, different}
+use Rattle.settle.specs.OfGiven.Arguments.{Found, none, some, issue_of, off_node, some_node_off, ties_of, torn, known, used_up}
+use Rattle.settle.specs.OfGiven.Pairs.{are_pairs, some_pair_off, Shift, shifts_of, shifted_in}
 use Rattle.model.specs.Counts.{nodes_most, cards_most, transistors_most}
 use Rattle.model.specs.Largest.{size_at}
 use Rattle.model.specs.Faults.{Fault, refuse_first, faults_of, faults_among}

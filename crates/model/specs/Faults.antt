@@ -5,10 +5,10 @@ use Rattle.refusal.specs.declared.Refusal.{Refusal}
 use Rattle.refusal.specs.declared.Refusal.TheVariants.{Overload, Injection}
 use Rattle.refusal.specs.Order.{Verdict, no}
 use Rattle.card.specs.declared.WorkedCard.{WorkedCard}
-use Rattle.terms.specs.Rows.{Role, Row, rows_for}
-use Rattle.rows.specs.Outcome.{ratio_limit, some_above, over_ticks, ratios_in}
-use Rattle.polarity.specs.Polarity.{seen_by}
-use Rattle.totals.specs.Flow.{roles_at}
+use Rattle.settle.specs.OfTerms.Rows.{Role, Row, rows_for}
+use Rattle.settle.specs.OfRows.Outcome.{ratio_limit, some_above, over_ticks, ratios_in}
+use Rattle.settle.specs.OfPolarity.Polarity.{seen_by}
+use Rattle.settle.specs.OfTotals.Flow.{roles_at}
 
 -- a T above its limit, or a ratio above its own
 pub data Kind : Type 0 where

@@ -1,9 +1,9 @@
 -- The largest size of a branch at a node, by where the branches start and end.
 use Rattle.std.specs.Prelude.{Bool, cond, ◌||◌, List, ℕ, eqb, get_or, ℤ, pos, nat_abs}
-use Rattle.terms.specs.Rows.{branches}
-use Rattle.terms.specs.Ends.{from_roles, to_roles}
-use Rattle.rows.specs.inner.FromTerms.{list_up}
-use Rattle.given.specs.Lists.{largest}
+use Rattle.settle.specs.OfTerms.Rows.{branches}
+use Rattle.settle.specs.OfTerms.Ends.{from_roles, to_roles}
+use Rattle.settle.specs.OfRows.inner.FromTerms.{list_up}
+use Rattle.settle.specs.OfGiven.Lists.{largest}
 
 -- the branch k of a transistor on these nodes starts or ends at node n
 abbrev pub ends_at : ℕ → List ℕ → ℕ → Bool

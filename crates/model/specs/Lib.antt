@@ -6,3 +6,6 @@ pub mod Largest
 pub mod Desk
 pub mod Model
 pub mod inner
+pub mod OfTotals
+pub mod OfFlows
+pub mod OfSlices

@@ -6,23 +6,23 @@ use Rattle.refusal.specs.Order.{Verdict, no, yes}
 use Rattle.name.specs.Name.{padded, name_length}
 use Rattle.volts.specs.Volts.{given_back, kept_as}
 use Rattle.card.specs.declared.WorkedCard.{WorkedCard}
-use Rattle.terms.specs.inner.Ready.{ready_of}
-use Rattle.terms.specs.Rows.{roles, branches}
-use Rattle.terms.specs.Looked.{looked_at}
-use Rattle.totals.specs.Flow.{ticks_at, flow, over_at, with_more}
-use Rattle.given.specs.Lists.{any_of, largest, in_order, different}
-use Rattle.given.specs.Arguments.{issue_of, used_up, ties_of, wide_by}
-use Rattle.given.specs.Pairs.{Shift, shifts_of, shifted_in}
-use Rattle.deck.specs.Stretch.{written}
-use Rattle.deck.specs.Layout.{numbers_each, powers_each, ticks_each, switches_each, numbers_of, powers_of, ticks_of}
-use Rattle.deck.specs.Layout.{switches_of}
-use Rattle.places.specs.Gathered.{Card, Transistor, cards_in, transistors_in, empty_card, empty_transistor, no_card}
-use Rattle.places.specs.Gathered.{no_transistor, worked_at}
-use Rattle.places.specs.Finding.{card_place, transistor_place, free_card, free_transistor, stands_on, stands_at, highest_at}
-use Rattle.places.specs.Sets.{member, list_of}
-use Rattle.places.specs.Naming.{joined, parted}
+use Rattle.settle.specs.OfTerms.inner.Ready.{ready_of}
+use Rattle.settle.specs.OfTerms.Rows.{roles, branches}
+use Rattle.settle.specs.OfTerms.Looked.{looked_at}
+use Rattle.settle.specs.OfTotals.Flow.{ticks_at, flow, over_at, with_more}
+use Rattle.settle.specs.OfGiven.Lists.{any_of, largest, in_order, different}
+use Rattle.settle.specs.OfGiven.Arguments.{issue_of, used_up, ties_of, wide_by}
+use Rattle.settle.specs.OfGiven.Pairs.{Shift, shifts_of, shifted_in}
+use Rattle.settle.specs.OfDeck.Stretch.{written}
+use Rattle.settle.specs.OfDeck.Layout.{numbers_each, powers_each, ticks_each, switches_each, numbers_of, powers_of, ticks_of}
+use Rattle.settle.specs.OfDeck.Layout.{switches_of}
+use Rattle.settle.specs.OfPlaces.Gathered.{Card, Transistor, cards_in, transistors_in, empty_card, empty_transistor, no_card}
+use Rattle.settle.specs.OfPlaces.Gathered.{no_transistor, worked_at}
+use Rattle.settle.specs.OfPlaces.Finding.{card_place, transistor_place, free_card, free_transistor, stands_on, stands_at, highest_at}
+use Rattle.settle.specs.OfPlaces.Sets.{member, list_of}
+use Rattle.settle.specs.OfPlaces.Naming.{joined, parted}
 use Rattle.settle.specs.declared.First.{First}
-use Rattle.flows.specs.Back.{ticks_back}
+use Rattle.settle.specs.OfFlows.Back.{ticks_back}
 use Rattle.settle.specs.Change.{changes}
 use Rattle.settle.specs.First.{first_below}
 use Rattle.settle.specs.Renewed.{renewed}

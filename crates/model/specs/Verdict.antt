@@ -8,10 +8,10 @@ use Rattle.name.specs.Name.{asked}
 use Rattle.card.specs.declared.WorkedCard.{WorkedCard}
 use Rattle.card.specs.Judge.{judge_of}
 use Rattle.clip.specs.Record.{right_length}
-use Rattle.rows.specs.declared.Over.{Over}
-use Rattle.rows.specs.Outcome.{is_over, drawn_by}
-use Rattle.given.specs.Arguments.{Found, known, off_node, some_node_off, Ties, torn}
-use Rattle.given.specs.Pairs.{are_pairs, some_pair_off, Shift, shifts_of}
+use Rattle.settle.specs.OfRowsTypes.Over.{Over}
+use Rattle.settle.specs.OfRows.Outcome.{is_over, drawn_by}
+use Rattle.settle.specs.OfGiven.Arguments.{Found, known, off_node, some_node_off, Ties, torn}
+use Rattle.settle.specs.OfGiven.Pairs.{are_pairs, some_pair_off, Shift, shifts_of}
 use Rattle.settle.specs.declared.First.{First}
 
 -- Loading: 1, 2, 6, 7, 8, 19, 9, 10, 11, 17, from what the record is judged to be

@@ -5,7 +5,7 @@ use native.Mathlib.Nat.{le_of_mul-le-mul_right, lt_of_mul-lt-mul_right, mul-le-m
 use native.Mathlib.Nat.{mul-add-div_right, div-div-eq-div-mul, div-eq_of_lt-le, div-add-mod', div-le_of_le-mul}
 use native.Mathlib.Nat.{mod-lt, mod-eq_of_lt}
 use native.Mathlib.Omega.{arith}
-use Rattle.whole.specs.Scale.{held_at, stays_below}
+use Rattle.quotients.specs.OfWhole.Scale.{held_at, stays_below}
 use Rattle.quotients.specs.Quotient.{shifted_quotient}
 use Rattle.volts.specs.Volts.{span}
 use Rattle.octave.specs.declared.Reciprocal.{Reciprocal}

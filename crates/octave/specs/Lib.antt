@@ -4,3 +4,6 @@ pub mod Position
 pub mod Exponential
 pub mod inner
 pub mod laws
+pub mod OfWhole
+pub mod OfQuotients
+pub mod OfVolts

@@ -1,7 +1,7 @@
 -- The position of a voltage on the scale of an octave, and its whole and fractional parts.
 -- V is in microvolts, the octave w in nanovolts.
 use Rattle.std.specs.Prelude.{ℕ, ◌*◌, ◌≤◌, ℤ, pos, ◌*ℤ◌}
-use Rattle.whole.specs.Floor.{floor_div, floor_mod}
+use Rattle.quotients.specs.OfWhole.Floor.{floor_div, floor_mod}
 use Rattle.octave.specs.Table.{parts}
 
 -- nanovolts in a microvolt

@@ -3,7 +3,7 @@ use Rattle.std.specs.Prelude.{◌≡◌, refl, Bool, ◌&&◌, List, [], ◌∷�
 use Rattle.std.proofs.Common.{subst, suc-le-suc, mul_comm, mul-le-mul_left, mod-lt, lt_of_not-le, le_of_suc-le-suc, le_antisymm, le_trans, le_of_lt, le_of_eq, lt_irrefl, arith, leb→le, lit<}
 use Rattle.std.proofs.Math.Nat.{pow-le-pow_left, pow-le-pow_right, div-le_of_le-mul}
 use Rattle.std.proofs.Math.Facts.{and_yes}
-use Rattle.whole.specs.laws.Every.{at_each}
+use Rattle.quotients.specs.OfWhole.laws.Every.{at_each}
 
 -- points of the table in an octave
 abbrev pub points : ℕ

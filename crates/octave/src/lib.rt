@@ -9,6 +9,9 @@ ghost use Rattle.octave.specs.Position.{InRange};
 ghost use Rattle.octave.specs.Exponential.{exponential_of};
 ghost use Rattle.octave.specs.inner.Reciprocal.{reciprocal_of, no_reciprocal, place_of, Placeable, Askable};
 
+pub use quotients;
+pub use quotients::whole;
+pub use volts;
 use volts::SPAN;
 
 // Points of the table in an octave, and steps from one to the next.

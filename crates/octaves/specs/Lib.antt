@@ -1,2 +1,4 @@
 -- Words of inner contracts, in `inner`.
 pub mod inner
+pub mod OfClip
+pub mod OfLoading

@@ -2,6 +2,8 @@
 ghost use Rattle.std.specs.Prelude.{◌≡◌, true};
 ghost use Rattle.loading.specs.Knee.{knee_good, knee_of};
 
+use loading::working;
+
 // The most that V_Lr may be in size.
 const MOST: f64 = 5.0;
 

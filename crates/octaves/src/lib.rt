@@ -6,6 +6,8 @@ ghost use Rattle.std.specs.Float.Ieee.Positive.{above};
 ghost use Rattle.loading.specs.Octave.{whole_part, octave_good};
 ghost use Rattle.octaves.specs.inner.Second.{second_of};
 
+pub use loading::clip;
+
 pub mod knee; // knee.rt: V_Lr
 
 // The least octave and the most, in nanovolts, and the least second octave that is too large.

@@ -11,8 +11,8 @@ use Rattle.whole.specs.laws.Biased.{below_or_not}
 use Rattle.rows.specs.declared.Over.{Over}
 use Rattle.rows.specs.declared.Over.TheVariants.{Within, Ticks, Injection}
 use Rattle.rows.specs.declared.Outcome.{Outcome}
-use Rattle.terms.specs.declared.Terms.{Terms}
-use Rattle.terms.specs.Rows.{branches}
+use Rattle.rows.specs.OfTerms.Terms.{Terms}
+use Rattle.rows.specs.OfTerms.Rows.{branches}
 use Rattle.rows.specs.Outcome.{tick_limit, ratio_limit, some_above, outcome_at}
 use Rattle.rows.specs.inner.FromTerms.{Most, row_over, over_up, list_up, all_ticks, outcome_from}
 

@@ -11,14 +11,14 @@ use lib.IntN.{ℤ, sub_ℕ}
 use Rattle.refusal.specs.Unique.{unique_by_equation}
 use Rattle.whole.specs.laws.Biased.{below_or_not}
 use Rattle.quotients.specs.Quotient.{quotient_of}
-use Rattle.card.specs.declared.WorkedCard.{WorkedCard}
+use Rattle.rows.specs.OfCard.WorkedCard.{WorkedCard}
 use Rattle.rows.specs.declared.Over.{Over}
 use Rattle.rows.specs.declared.Over.TheVariants.{Within, Ticks, Injection}
-use Rattle.terms.specs.declared.Terms.{Terms}
-use Rattle.terms.specs.Rows.{Role, Summand, unit, root, Divisor, undivided, sum_of, exps, Row, rows_for, branches}
-use Rattle.terms.specs.Values.{ratio_of}
-use Rattle.scaling.specs.inner.Shifts.{UpTo}
-use Rattle.terms.specs.inner.Terms.{left_of, right_of, ticks_of, Counted, RowTerms, RowsAt, none, more, TermsOf}
+use Rattle.rows.specs.OfTerms.Terms.{Terms}
+use Rattle.rows.specs.OfTerms.Rows.{Role, Summand, unit, root, Divisor, undivided, sum_of, exps, Row, rows_for, branches}
+use Rattle.rows.specs.OfTerms.Values.{ratio_of}
+use Rattle.rows.specs.OfScaling.inner.Shifts.{UpTo}
+use Rattle.rows.specs.OfTerms.inner.Terms.{left_of, right_of, ticks_of, Counted, RowTerms, RowsAt, none, more, TermsOf}
 use Rattle.rows.specs.Ticks.{root_for, summand_of, divided_by, row_ticks}
 use Rattle.rows.specs.Outcome.{tick_limit, ratio_limit, some_above, ratios_in, over_ticks, first_over}
 use Rattle.rows.specs.Outcome.{outcome_at}

@@ -3,15 +3,17 @@
 
 ghost use Rattle.std.specs.Prelude.{◌≡◌, map, ◌≤◌};
 ghost use Rattle.volts.specs.Volts.{given_back};
-ghost use Rattle.terms.specs.Rows.{branches};
-ghost use Rattle.terms.specs.Values.{bias_of};
-ghost use Rattle.terms.specs.inner.Ready.{Askable};
+ghost use Rattle.rows.specs.OfTerms.Rows.{branches};
+ghost use Rattle.rows.specs.OfTerms.Values.{bias_of};
+ghost use Rattle.rows.specs.OfTerms.inner.Ready.{Askable};
 ghost use Rattle.rows.specs.Outcome.{outcome_across};
 ghost use Rattle.rows.specs.inner.FromTerms.{Most, over_up, outcome_from};
 
 use octave::Table;
+pub use rows;
+pub use rows::terms;
+use rows::terms::{BRANCHES, ROLES, Ready, TICKS_MOST, Terms};
 use rows::{Outcome, Over};
-use terms::{BRANCHES, ROLES, Ready, TICKS_MOST, Terms};
 
 // The most that a ratio's floor may be.
 const PARTS_MOST: u64 = 1099511627776;

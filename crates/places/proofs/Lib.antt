@@ -1,1 +1,2 @@
 pub mod Scans
+pub mod OfTotals

@@ -12,7 +12,7 @@ use lib.ListN.{length, get_or, drop, drop_of_length-le}
 use lib.Seq.{drop-cons, ext_get_or}
 use borrow.Author.Tests.{ltb-false}
 use Rattle.refusal.specs.Clash.{clash}
-use Rattle.rows.specs.laws.Filled.{Filled}
+use Rattle.deck.specs.OfRows.laws.Filled.{Filled}
 use Rattle.deck.specs.Stretch.{stretch}
 use Rattle.deck.specs.laws.Ups.{length_up, get_or_up}
 use Rattle.deck.specs.laws.Stretches.{length_stretch, get_or_stretch}

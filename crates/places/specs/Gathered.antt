@@ -1,11 +1,11 @@
 -- What stands at a place, gathered from the flat arrays: a card, and a transistor.
 use Rattle.std.specs.Prelude.{Bool, List, [], ℕ, ◌*◌, get_or, replicate, ℤ, pos}
 use Rattle.name.specs.Name.{name_length}
-use Rattle.card.specs.declared.WorkedCard.{WorkedCard}
-use Rattle.terms.specs.declared.Ready.{Ready}
-use Rattle.terms.specs.inner.Ready.{no_ready}
-use Rattle.rows.specs.inner.FromTerms.{list_up}
-use Rattle.terms.specs.Rows.{roles, branches}
+use Rattle.deck.specs.OfCard.WorkedCard.{WorkedCard}
+use Rattle.deck.specs.OfTerms.Ready.{Ready}
+use Rattle.deck.specs.OfTerms.inner.Ready.{no_ready}
+use Rattle.deck.specs.OfRows.inner.FromTerms.{list_up}
+use Rattle.deck.specs.OfTerms.Rows.{roles, branches}
 use Rattle.deck.specs.Stretch.{stretch}
 use Rattle.deck.specs.Layout.{ready_at}
 use Rattle.places.specs.Counts.{cards_most, transistors_most}

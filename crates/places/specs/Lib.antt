@@ -5,3 +5,8 @@ pub mod Sets
 pub mod Naming
 pub mod inner
 pub mod laws
+pub mod OfRows
+pub mod OfRowsTypes
+pub mod OfDeck
+pub mod OfTotals
+pub mod OfGiven

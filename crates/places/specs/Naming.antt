@@ -1,8 +1,8 @@
 -- The sets of places kept by node, one for each: what changes in them where a transistor comes to a place, or leaves
 -- it. Nothing is said of what they hold: that they are the places of those that name the node is a theorem over calls.
 use Rattle.std.specs.Prelude.{cond, List, ℕ, get_or}
-use Rattle.rows.specs.inner.FromTerms.{list_up}
-use Rattle.totals.specs.Gives.{nodes_most}
+use Rattle.deck.specs.OfRows.inner.FromTerms.{list_up}
+use Rattle.given.specs.OfTotals.Gives.{nodes_most}
 use Rattle.places.specs.Finding.{names}
 use Rattle.places.specs.Sets.{with_place, without_place}
 

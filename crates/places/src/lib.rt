@@ -3,8 +3,9 @@
 
 mod finds; // finds.rt: looking through the places
 
+use deck::terms::{BRANCHES, ROLES};
 pub use finds::{any_on, card_at, find_card, find_transistor, transistor_at};
-use terms::{BRANCHES, ROLES};
+pub use given::totals;
 
 pub const CARDS: usize = deck::CARDS;
 

@@ -6,11 +6,11 @@ use Prim.Native.Nat.{ℕ, zero, suc, ◌≤◌, zero-le}
 use lib.ListN.{get_or, length, length-map}
 use lib.IntN.{ℤ, pos, neg_ℤ, nat_abs}
 use Rattle.whole.specs.laws.Machine.{abs_neg}
-use Rattle.card.specs.declared.WorkedCard.{WorkedCard}
-use Rattle.scaling.specs.Scaled.{tick_limit}
-use Rattle.terms.specs.Rows.{branches}
-use Rattle.rows.specs.Outcome.{outcome_across}
-use Rattle.rows.proofs.Laws as rows
+use Rattle.outcome.specs.OfCard.WorkedCard.{WorkedCard}
+use Rattle.outcome.specs.OfScaling.Scaled.{tick_limit}
+use Rattle.outcome.specs.OfTerms.Rows.{branches}
+use Rattle.outcome.specs.OfRows.Outcome.{outcome_across}
+use Rattle.outcome.proofs.OfRows.Laws as rows
 use Rattle.polarity.specs.Polarity.{turned, seen_by, outcome_of}
 
 pub ticks_long : (c : WorkedCard) (v : List ℤ) → length (outcome_of c v).ticks ≡ branches

@@ -12,14 +12,14 @@ use Rattle.volts.specs.Volts.{volts_most, span, given_back, AllNear}
 use Rattle.volts.specs.laws.Across.{neg_sub}
 use Rattle.whole.specs.laws.Biased.{sub_eq}
 use Rattle.whole.specs.laws.Machine.{abs_neg, held, fits, held_is}
-use Rattle.card.specs.declared.WorkedCard.{WorkedCard}
-use Rattle.terms.specs.Rows.{Role, role_index}
-use Rattle.terms.specs.Values.{bias_of}
-use Rattle.terms.specs.declared.Ready.{Ready}
-use Rattle.terms.specs.inner.Ready.{Askable}
-use Rattle.rows.specs.declared.Outcome.{Outcome}
-use Rattle.rows.specs.Outcome.{outcome_across}
-use Rattle.rows.proofs.Laws.{ticks_small}
+use Rattle.outcome.specs.OfCard.WorkedCard.{WorkedCard}
+use Rattle.outcome.specs.OfTerms.Rows.{Role, role_index}
+use Rattle.outcome.specs.OfTerms.Values.{bias_of}
+use Rattle.outcome.specs.OfTerms.Ready.{Ready}
+use Rattle.outcome.specs.OfTerms.inner.Ready.{Askable}
+use Rattle.outcome.specs.OfRowsTypes.Outcome.{Outcome}
+use Rattle.outcome.specs.OfRows.Outcome.{outcome_across}
+use Rattle.outcome.proofs.OfRows.Laws.{ticks_small}
 use Rattle.polarity.specs.Polarity.{turned, seen_by, turned_outcome, outcome_of}
 use Rattle.polarity.specs.inner.Turning.{kept_turned, Turnable}
 

@@ -1,2 +1,4 @@
 pub mod Polarity
 pub mod inner
+pub mod OfRows
+pub mod OfRowsTypes

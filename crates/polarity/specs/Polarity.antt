@@ -1,11 +1,11 @@
 -- The two polarities, (4.16): for a PNP every junction's voltage is turned over before the rows see it, and every
 -- branch's current after them. No row knows of it.
 use Rattle.std.specs.Prelude.{Bool, true, false, List, map, ℤ, neg_ℤ}
-use Rattle.card.specs.declared.WorkedCard.{WorkedCard}
-use Rattle.terms.specs.Rows.{Role}
-use Rattle.terms.specs.Values.{bias_of}
-use Rattle.rows.specs.declared.Outcome.{Outcome}
-use Rattle.rows.specs.Outcome.{outcome_across}
+use Rattle.outcome.specs.OfCard.WorkedCard.{WorkedCard}
+use Rattle.outcome.specs.OfTerms.Rows.{Role}
+use Rattle.outcome.specs.OfTerms.Values.{bias_of}
+use Rattle.outcome.specs.OfRowsTypes.Outcome.{Outcome}
+use Rattle.outcome.specs.OfRows.Outcome.{outcome_across}
 
 -- a number as it is, or with its sign turned over
 abbrev pub turned : Bool → ℤ → ℤ

@@ -3,13 +3,13 @@
 
 ghost use Rattle.std.specs.Prelude.{◌≡◌, map};
 ghost use Rattle.volts.specs.Volts.{given_back, AllNear};
-ghost use Rattle.terms.specs.inner.Ready.{Askable};
+ghost use Rattle.outcome.specs.OfTerms.inner.Ready.{Askable};
 ghost use Rattle.polarity.specs.Polarity.{turned, outcome_of};
 ghost use Rattle.polarity.specs.inner.Turning.{kept_turned, Turnable};
 
 use octave::Table;
-pub use rows::{Outcome, Over};
-use terms::{BRANCHES, ROLES, Ready};
+pub use outcome::rows::{Outcome, Over};
+use outcome::terms::{BRANCHES, ROLES, Ready};
 
 // The largest kept voltage: what is kept of a voltage and of its opposite add up to it.
 const SPAN: u32 = volts::SPAN as u32;

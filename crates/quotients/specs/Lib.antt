@@ -1,2 +1,3 @@
 -- Quotients after a shift.
 pub mod Quotient
+pub mod OfWhole

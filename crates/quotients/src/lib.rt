@@ -7,6 +7,7 @@ ghost use Rattle.whole.specs.Signed.{signed_span};
 ghost use Rattle.whole.specs.Scale.{floor_scale, held_at};
 ghost use Rattle.quotients.specs.Quotient.{shifted_quotient, quotient_of, held_size, Dividing, Divisible};
 
+pub use whole;
 use whole::Int;
 
 // Binary places of a word.

@@ -1,3 +1,4 @@
 pub mod Opens
 pub mod Whole
 pub mod Shows
+pub mod OfLending

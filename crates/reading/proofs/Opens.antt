@@ -10,12 +10,12 @@ use Rattle.given.specs.Arguments.{none, some, issue_of}
 use Rattle.places.specs.Finding.{transistor_place}
 use Rattle.places.specs.inner.Flat.{number_place}
 use Rattle.places.specs.laws.Gather.{transistor_place_lem}
-use Rattle.model.specs.Board.{Board}
-use Rattle.model.specs.declared.Answer.TheVariants.{Currents, Refused}
-use Rattle.model.specs.Counts.{transistors_most}
-use Rattle.model.specs.Verdict.{open_verdict}
-use Rattle.model.specs.Model.{transistors_of, no_ticks, opened_of}
-use Rattle.model.proofs.Lent.{held_there}
+use Rattle.lending.specs.OfModel.Board.{Board}
+use Rattle.lending.specs.OfModel.Answer.TheVariants.{Currents, Refused}
+use Rattle.lending.specs.OfModel.Counts.{transistors_most}
+use Rattle.lending.specs.OfModel.Verdict.{open_verdict}
+use Rattle.lending.specs.OfModel.Model.{transistors_of, no_ticks, opened_of}
+use Rattle.lending.proofs.OfModel.Lent.{held_there}
 
 module _ (b : Board) (z : ℤ) {issues : List ℕ} (l : issues ≡ b.issues) where
   found : transistor_place (issue_of z) (transistors_of b) ≡ number_place transistors_most (issue_of z) issues

@@ -9,11 +9,11 @@ use Rattle.refusal.specs.declared.Refusal.TheVariants.{OutOfRange}
 use Rattle.volts.specs.Volts.{given_back, kept_as}
 use Rattle.given.specs.inner.Nodes.{node_of}
 use Rattle.slices.specs.Slices.{off_slices}
-use Rattle.model.specs.declared.Answer.TheVariants.{Node, Refused}
-use Rattle.model.specs.Counts.{nodes_most}
-use Rattle.model.specs.Verdict.{node_verdict}
-use Rattle.model.specs.Model.{showed_of}
-use Rattle.model.proofs.Verdicts.{off_board_lem, on_board}
+use Rattle.lending.specs.OfModel.Answer.TheVariants.{Node, Refused}
+use Rattle.lending.specs.OfModel.Counts.{nodes_most}
+use Rattle.lending.specs.OfModel.Verdict.{node_verdict}
+use Rattle.lending.specs.OfModel.Model.{showed_of}
+use Rattle.lending.proofs.OfModel.Verdicts.{off_board_lem, on_board}
 use Rattle.lending.specs.Rest.{State}
 use Rattle.lending.specs.Lending.{showed_lent}
 

@@ -4,9 +4,9 @@ use mathlib.Core.List.{List, []}
 use Prim.Native.Nat.{ℕ}
 use lib.IntN.{ℤ}
 use Rattle.refusal.specs.Order.{Verdict, no, yes}
-use Rattle.model.specs.Board.{Board}
-use Rattle.model.specs.declared.Answer.{Answer}
-use Rattle.model.specs.Model.{opened, opened_of, may_open}
+use Rattle.lending.specs.OfModel.Board.{Board}
+use Rattle.lending.specs.OfModel.Answer.{Answer}
+use Rattle.lending.specs.OfModel.Model.{opened, opened_of, may_open}
 
 pub opened_whole : (b : Board) (n : ℤ) {answer : Answer} {ticks : List ℤ} →
     (answer ≡ (opened_of b n).answer) × (ticks ≡ (opened_of b n).ticks) →

@@ -2,13 +2,13 @@
 #![tactic(auto)]
 
 ghost use Rattle.std.specs.Prelude.{◌≡◌};
-ghost use Rattle.model.specs.Board.{Board};
-ghost use Rattle.model.specs.Model.{opened_of};
+ghost use Rattle.lending.specs.OfModel.Board.{Board};
+ghost use Rattle.lending.specs.OfModel.Model.{opened_of};
 ghost use Rattle.lending.specs.Rest.{Rest};
 ghost use Rattle.lending.specs.Lending.{showed_lent};
 ghost use Rattle.lending.specs.inner.Lent.{state_with};
 
-use model::Answer;
+use lending::model::Answer;
 use places::{ALL_CURRENTS, TRANSISTORS};
 use refusal::Refusal;
 use terms::BRANCHES;

@@ -1,2 +1,3 @@
 pub mod Sums
 pub mod Standing
+pub mod OfScaling

@@ -8,7 +8,7 @@ use lib.Dec.{eqb, ltb, lit<}
 use lib.IntN.{pos, negsuc, neg_ℤ, nat_abs, sub_ℕ}
 use borrow.Author.Tests.{eqb-true, eqb-false, ne_eqb, le-ltb, ltb-true, ltb-false}
 use Rattle.refusal.specs.Clash.{clash}
-use Rattle.quotients.specs.Quotient.{shifted_quotient, quotient_up, quotient_down}
+use Rattle.scaling.specs.OfQuotients.Quotient.{shifted_quotient, quotient_up, quotient_down}
 use Rattle.whole.specs.laws.Biased.{sub_up, sub_down}
 use Rattle.scaling.specs.Scaled.{part_places, tick_limit}
 use Rattle.scaling.specs.inner.Shifts.{UpTo}

@@ -11,9 +11,9 @@ use lib.Dec.{lit<}
 use lib.Pow.{pow-add, pow_pos}
 use lib.IntN.{ℤ, pos, nat_abs, sub_ℕ, ◌+ℤ◌}
 use Rattle.whole.specs.laws.Biased.{sub_up, sub_eq, sub_add}
-use Rattle.octave.specs.declared.Exponential.{Exponential}
-use Rattle.octave.specs.Table.{places}
-use Rattle.octave.specs.Exponential.{bias}
+use Rattle.scaling.specs.OfOctaveTypes.Exponential.{Exponential}
+use Rattle.scaling.specs.OfOctave.Table.{places}
+use Rattle.scaling.specs.OfOctave.Exponential.{bias}
 use Rattle.scaling.specs.inner.Shifts.{exp_at, UpTo, Sized}
 use Rattle.scaling.proofs.Scaling.{upto_equal, upto_above}
 use Rattle.reverse.specs.Sum.{lowest, in_lowest, sum_parts, sum_limit}

@@ -1,9 +1,9 @@
 -- The sum of two exponentials, rounded downward in parts of 2^-20; a difference of T's over it; and when that is too
 -- much.
 use Rattle.std.specs.Prelude.{Bool, ◌||◌, ℕ, ◌+◌, ◌*◌, ◌-◌, ◌/◌, ◌^◌, eqb, ltb, ℤ, pos, nat_abs, ◌+ℤ◌}
-use Rattle.quotients.specs.Quotient.{quotient_of}
-use Rattle.octave.specs.Table.{places}
-use Rattle.octave.specs.Exponential.{bias}
+use Rattle.scaling.specs.OfQuotients.Quotient.{quotient_of}
+use Rattle.scaling.specs.OfOctave.Table.{places}
+use Rattle.scaling.specs.OfOctave.Exponential.{bias}
 use Rattle.scaling.specs.Scaled.{Scaled, part_places, tick_limit}
 
 -- no exponential of the desk has a power below -lowest: both are whole numbers of 2^-lowest

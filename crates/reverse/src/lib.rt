@@ -7,8 +7,10 @@ ghost use Rattle.scaling.specs.inner.Shifts.{exp_at, UpTo, Sized};
 ghost use Rattle.reverse.specs.Sum.{sum_limit, sum_parts};
 ghost use Rattle.reverse.specs.inner.Pairs.{pair_of};
 
-use octave::{BIAS, Exponential};
-use scaling::{PART_PLACES, TICKS_MOST};
+pub use scaling;
+pub use scaling::octave;
+use scaling::octave::{BIAS, Exponential};
+use scaling::{PART_PLACES, TICKS_MOST, quotients};
 
 // The most that the sum may be.
 const SUM_MOST: u64 = 8796093022208;

@@ -9,10 +9,10 @@ use lib.ListN.{get_or, length, replicate, length-replicate}
 use lib.Dec.{eqb, ltb}
 use lib.IntN.{ℤ, pos, nat_abs, sub_ℕ}
 use borrow.Author.Tests.{ltb-false}
-use Rattle.reverse.specs.Sum.{sum_limit, over_sum, sum_over}
+use Rattle.terms.specs.OfReverse.Sum.{sum_limit, over_sum, sum_over}
 use Rattle.quotients.specs.Quotient.{quotient_small}
-use Rattle.card.specs.declared.WorkedCard.{WorkedCard}
-use Rattle.card.specs.inner.Worked.{Each}
+use Rattle.terms.specs.OfCard.WorkedCard.{WorkedCard}
+use Rattle.terms.specs.OfCard.inner.Worked.{Each}
 use Rattle.terms.specs.Rows.{Role, Summand, unit, root, Divisor, undivided, sum_of, exps, Row, rows_for}
 use Rattle.terms.specs.Rows.{branches}
 use Rattle.terms.specs.Values.{value_of, tick_of, ratio_of, sum_at}

@@ -3,13 +3,13 @@ use Rattle.std.specs.Prelude.{Bool, true, false, ◌||◌, List, [], ◌∷◌, 
 use Rattle.std.proofs.Math.IntN.{sub_ℕ}
 use Rattle.refusal.specs.declared.Refusal.{Refusal}
 use Rattle.refusal.specs.declared.Refusal.TheVariants as refusal
-use Rattle.card.specs.declared.WorkedCard.{WorkedCard}
+use Rattle.terms.specs.OfCard.WorkedCard.{WorkedCard}
 use Rattle.rows.specs.declared.Over.{Over}
 use Rattle.rows.specs.declared.Over.TheVariants.{Within, Ticks, Injection}
 use Rattle.rows.specs.declared.Outcome.{Outcome}
 use Rattle.terms.specs.Rows.{Role, Divisor, undivided, sum_of, exps, Row, rows_for}
 use Rattle.terms.specs.Values.{tick_of, ratio_of, exps_over}
-pub use Rattle.scaling.specs.Scaled.{tick_limit, ratio_limit}
+pub use Rattle.terms.specs.OfScaling.Scaled.{tick_limit, ratio_limit}
 use Rattle.rows.specs.Ticks.{row_ticks}
 
 -- some number of the list is above the limit

@@ -3,9 +3,9 @@ use Rattle.std.specs.Prelude.{ℕ, suc, ◌+◌, ◌*◌, ◌^◌, ℤ}
 use Rattle.std.proofs.Math.IntN.{sub_ℕ}
 use Rattle.roots.specs.Root.{root_of}
 use Rattle.quotients.specs.Quotient.{quotient_of}
-use Rattle.card.specs.declared.WorkedCard.{WorkedCard}
+use Rattle.terms.specs.OfCard.WorkedCard.{WorkedCard}
 use Rattle.terms.specs.Rows.{Role, Summand, unit, root, Divisor, undivided, sum_of, exps, Row}
-use Rattle.scaling.specs.Scaled.{part_places}
+use Rattle.terms.specs.OfScaling.Scaled.{part_places}
 use Rattle.terms.specs.Values.{tick_of, ratio_of, exps_ticks}
 
 -- 1 in the parts of 2^-20 that ratios count

@@ -6,6 +6,7 @@ ghost use Rattle.rows.specs.Ticks.{root_for};
 ghost use Rattle.rows.specs.Outcome.{tick_limit, ratio_limit};
 ghost use Rattle.rows.specs.inner.FromTerms.{Fine, divided_of, all_ticks};
 
+pub use terms;
 use terms::{BRANCHES, PART_PLACES, TICKS_MOST, Terms};
 
 // The unit of ratios, 2^20; Q's shift; and the first size that no row's ticks have.

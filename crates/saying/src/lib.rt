@@ -6,7 +6,7 @@ ghost use Rattle.words.specs.Words.{part_of};
 ghost use Rattle.page.specs.Page.{Writes};
 ghost use Rattle.quoting.specs.Quotes.{error_line, unreadable_line, model_line};
 ghost use Rattle.answers.specs.declared.Answer.TheVariants.{Refused};
-ghost use Rattle.answers.specs.Answers.{answerLine};
+ghost use Rattle.answers.specs.Answers.{answer_line};
 
 use answers::Answer;
 use page::ROOM;
@@ -37,14 +37,14 @@ pub fn puts(text: &[u8], out: &mut [u8; ROOM], at: &mut usize)
 }
 
 pub fn put_answer(a: Answer, out: &mut [u8; ROOM], at: &mut usize)
-    ensures { Writes (answerLine a) out.old at.old out.new at.new }
+    ensures { Writes (answer_line a) out.old at.old out.new at.new }
 {
     let n = answers::answer_line(a, out, *at);
     *at = n;
 }
 
 pub fn put_refused(f: Refusal, out: &mut [u8; ROOM], at: &mut usize)
-    ensures { Writes (answerLine (Refused f)) out.old at.old
+    ensures { Writes (answer_line (Refused f)) out.old at.old
         out.new at.new }
 {
     put_answer(Answer::Refused(f), out, at);

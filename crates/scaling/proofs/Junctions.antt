@@ -5,10 +5,10 @@ use Prim.Native.Nat.{ℕ, ◌+◌, ◌*◌, ◌≤◌}
 use native.Mathlib.Omega.{arith}
 use lib.ListN.{get_or}
 use lib.IntN.{ℤ, pos, nat_abs, sub_ℕ, ◌+ℤ◌, ◌-ℤ◌}
-use Rattle.whole.specs.laws.Biased.{sub_up, sub_eq, sub_add}
-use Rattle.volts.specs.Volts.{span, given_back, across_of}
-use Rattle.volts.specs.laws.Keeping.{given_back_at}
-use Rattle.volts.specs.laws.Across.{across_is, across_near}
+use Rattle.octave.specs.OfWhole.laws.Biased.{sub_up, sub_eq, sub_add}
+use Rattle.octave.specs.OfVolts.Volts.{span, given_back, across_of}
+use Rattle.octave.specs.OfVolts.laws.Keeping.{given_back_at}
+use Rattle.octave.specs.OfVolts.laws.Across.{across_is, across_near}
 use Rattle.octave.specs.declared.Exponential.{Exponential}
 use Rattle.octave.specs.declared.Reciprocal.{Reciprocal}
 use Rattle.octave.specs.Table.{places}

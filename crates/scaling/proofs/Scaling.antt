@@ -8,9 +8,9 @@ use native.Mathlib.Omega.{arith}
 use lib.Dec.{ltb, lit<}
 use lib.IntN.{ℤ, pos, sub_ℕ, ◌+ℤ◌, ◌-ℤ◌}
 use borrow.Author.Tests.{lt-ltb}
-use Rattle.whole.specs.Scale.{floor_scale, held_at, reaches, stays_below, held_within, scale_up, scale_down}
-use Rattle.whole.specs.laws.Biased.{sub_up, sub_eq, sub_add, below_or_not}
-use Rattle.volts.specs.Volts.{span}
+use Rattle.octave.specs.OfWhole.Scale.{floor_scale, held_at, reaches, stays_below, held_within, scale_up, scale_down}
+use Rattle.octave.specs.OfWhole.laws.Biased.{sub_up, sub_eq, sub_add, below_or_not}
+use Rattle.octave.specs.OfVolts.Volts.{span}
 use Rattle.float.specs.declared.Split.{Split}
 use Rattle.float.specs.Split.{split_bias, IsSplit}
 use Rattle.octave.specs.declared.Exponential.{Exponential}

@@ -1,3 +1,7 @@
 pub mod Roles
 pub mod Scaled
 pub mod inner
+pub mod OfQuotients
+pub mod OfVolts
+pub mod OfOctave
+pub mod OfOctaveTypes

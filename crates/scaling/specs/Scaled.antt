@@ -2,7 +2,7 @@
 -- floor that a ratio counts, and how large these may be.
 use Rattle.std.specs.Prelude.{ℕ, ◌*◌, ◌^◌, ℤ, pos, ◌+ℤ◌, ◌-ℤ◌}
 use Rattle.std.proofs.Math.IntN.{sub_ℕ}
-use Rattle.whole.specs.Scale.{floor_scale}
+use Rattle.octave.specs.OfWhole.Scale.{floor_scale}
 use Rattle.octave.specs.Table.{places, mantissa_of}
 use Rattle.octave.specs.Position.{whole_of, part_of}
 use Rattle.float.specs.declared.Split.{Split}

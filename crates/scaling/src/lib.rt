@@ -3,11 +3,13 @@
 #![tactic(auto)]
 
 ghost use Rattle.std.specs.Prelude.{◌≡◌, map, get_or, pos, ◌-ℤ◌};
-ghost use Rattle.volts.specs.Volts.{given_back};
+ghost use Rattle.octave.specs.OfVolts.Volts.{given_back};
 ghost use Rattle.scaling.specs.inner.Shifts.{alone_of, through_of, Drop, IsExp, Scalable, Junction, scaled_of};
 
 use float::Split;
-use octave::{Exponential, Reciprocal, Table};
+pub use octave;
+pub use octave::quotients;
+use octave::{Exponential, Reciprocal, Table, volts, whole};
 
 // E1, B1, B2, C1, C2, C4, S, E, B, C, C3.
 pub const ROLES: usize = 11;

@@ -9,10 +9,10 @@ use lib.Pow.{pow-lt, pow_mono, shr_lt, shl_exact, shr-shr, shr_le}
 use lib.Bits.{bit_or, bit_xor, or_lt, xor_lt}
 use lib.Count.{under, count_trailing_zeros}
 use borrow.Author.Tests.{eq-eqb, ne_eqb, leb-true, leb-false}
-use Rattle.places.specs.Counts.{transistors_most}
-use Rattle.places.specs.Sets.{member, with_place, without_place}
-use Rattle.places.specs.inner.Parts.{NextIn}
-use Rattle.places.specs.laws.Members.{set_same, set_of_members, member_one, member_or, member_xor}
+use Rattle.stretches.specs.OfPlaces.Counts.{transistors_most}
+use Rattle.stretches.specs.OfPlaces.Sets.{member, with_place, without_place}
+use Rattle.stretches.specs.OfPlaces.inner.Parts.{NextIn}
+use Rattle.stretches.specs.OfPlaces.laws.Members.{set_same, set_of_members, member_one, member_or, member_xor}
 
 -- ---- one place more, and one less
 

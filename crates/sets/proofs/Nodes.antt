@@ -12,10 +12,10 @@ use lib.Seq.{drop-cons, ext_get_or, get_or-set_same, get_or-set_other}
 use borrow.Author.Tests.{eqb-true, eqb-false}
 use Rattle.rows.specs.inner.FromTerms.{list_up}
 use Rattle.deck.specs.laws.Ups.{length_up, get_or_up, up_same}
-use Rattle.totals.specs.Gives.{nodes_most}
-use Rattle.given.specs.Lists.{any_of}
-use Rattle.places.specs.Finding.{names}
-use Rattle.places.specs.Naming.{at_nodes}
+use Rattle.stretches.specs.OfTotals.Gives.{nodes_most}
+use Rattle.stretches.specs.OfGiven.Lists.{any_of}
+use Rattle.stretches.specs.OfPlaces.Finding.{names}
+use Rattle.stretches.specs.OfPlaces.Naming.{at_nodes}
 
 -- after k of the nodes
 pub record Visited (f : ℕ → ℕ) (sets₀ on : List ℕ) (k : ℕ) (sets : List ℕ) : Type 0 where

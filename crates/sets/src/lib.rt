@@ -4,15 +4,15 @@
 
 ghost use Rattle.std.specs.Prelude.{◌≡◌, ◌≤◌, ◌<◌};
 ghost use Rattle.std.specs.Int.Count.{count_trailing_zeros};
-ghost use Rattle.places.specs.Counts.{transistors_most};
-ghost use Rattle.places.specs.Sets.{size_of, with_place, without_place};
-ghost use Rattle.places.specs.Naming.{joined, parted};
-ghost use Rattle.places.specs.inner.Parts.{NextIn, Entering};
+ghost use Rattle.stretches.specs.OfPlaces.Counts.{transistors_most};
+ghost use Rattle.stretches.specs.OfPlaces.Sets.{size_of, with_place, without_place};
+ghost use Rattle.stretches.specs.OfPlaces.Naming.{joined, parted};
+ghost use Rattle.stretches.specs.OfPlaces.inner.Parts.{NextIn, Entering};
 
-use places::TRANSISTORS;
+use stretches::places::TRANSISTORS;
+use stretches::totals::NODES;
 pub use stretches::{currents_at, nodes_at, put_currents, put_name, put_nodes};
 use terms::ROLES;
-use totals::NODES;
 
 // The set with the place i in it, and without it.
 fn with(set: u64, i: usize) -> u64

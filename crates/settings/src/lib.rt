@@ -2,10 +2,11 @@
 #![tactic(auto)]
 
 ghost use Rattle.std.specs.Prelude.{◌≡◌, ◌&&◌};
-ghost use Rattle.loading.specs.Numbers.{is_switch, is_polarity, settings_good};
+ghost use Rattle.octaves.specs.OfLoading.Numbers.{is_switch, is_polarity, settings_good};
 ghost use Rattle.settings.specs.inner.Tests.{unless_passed, first_wrong};
 
-use clip::{Answer, WIDTH, numbers};
+pub use octaves;
+use octaves::clip::{Answer, WIDTH, numbers};
 use refusal::Refusal;
 
 // The polarity of a PNP.

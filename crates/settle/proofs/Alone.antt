@@ -6,10 +6,10 @@ use native.Mathlib.Omega.{arith}
 use lib.ListN.{get_or, replicate}
 use lib.IntN.{ℤ, pos, nat_abs, ◌+ℤ◌, +ℤ_idl}
 use Rattle.scaling.specs.Scaled.{tick_limit}
-use Rattle.totals.specs.Gives.{nodes_most}
-use Rattle.totals.specs.Flow.{ticks_give}
-use Rattle.totals.specs.inner.Sums.{More, Within}
-use Rattle.deck.specs.laws.Stretches.{get_or_none}
+use Rattle.places.specs.OfTotals.Gives.{nodes_most}
+use Rattle.places.specs.OfTotals.Flow.{ticks_give}
+use Rattle.places.specs.OfTotals.inner.Sums.{More, Within}
+use Rattle.places.specs.OfDeck.laws.Stretches.{get_or_none}
 use Rattle.small.specs.inner.Small.{small_most, EachSmall}
 use Rattle.flows.proofs.Currents.{ticks_small_give}
 

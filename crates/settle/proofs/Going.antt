@@ -17,20 +17,20 @@ use Rattle.refusal.specs.Clash.{clash}
 use Rattle.volts.specs.Volts.{given_back}
 use Rattle.octave.specs.Table.{entries}
 use Rattle.scaling.specs.Scaled.{tick_limit}
-use Rattle.rows.specs.declared.Over.{Over}
-use Rattle.rows.specs.declared.Outcome.{Outcome}
-use Rattle.rows.specs.Outcome.{is_over}
-use Rattle.terms.specs.Rows.{branches}
-use Rattle.totals.specs.Gives.{nodes_most}
-use Rattle.totals.specs.Flow.{flow, ticks_give, sum_below, with_more}
-use Rattle.totals.specs.inner.Sums.{More, Within, Room, Wired, Givable}
-use Rattle.totals.specs.inner.Sizes.{flow_most, room_most}
-use Rattle.totals.proofs.Integers.{abs_add, swap_inner}
-use Rattle.deck.specs.Stretch.{written}
-use Rattle.deck.specs.laws.Stretches.{length_stretch, get_or_none}
-use Rattle.deck.specs.laws.Ups.{up_same}
-use Rattle.slices.specs.Slices.{some_outside, changed, StandsIn}
-use Rattle.slices.proofs.Passing.{more_long}
+use Rattle.places.specs.OfRowsTypes.Over.{Over}
+use Rattle.places.specs.OfRowsTypes.Outcome.{Outcome}
+use Rattle.places.specs.OfRows.Outcome.{is_over}
+use Rattle.flows.specs.OfTerms.Rows.{branches}
+use Rattle.places.specs.OfTotals.Gives.{nodes_most}
+use Rattle.places.specs.OfTotals.Flow.{flow, ticks_give, sum_below, with_more}
+use Rattle.places.specs.OfTotals.inner.Sums.{More, Within, Room, Wired, Givable}
+use Rattle.places.specs.OfTotals.inner.Sizes.{flow_most, room_most}
+use Rattle.places.proofs.OfTotals.Integers.{abs_add, swap_inner}
+use Rattle.places.specs.OfDeck.Stretch.{written}
+use Rattle.places.specs.OfDeck.laws.Stretches.{length_stretch, get_or_none}
+use Rattle.places.specs.OfDeck.laws.Ups.{up_same}
+use Rattle.small.specs.OfSlices.Slices.{some_outside, changed, StandsIn}
+use Rattle.small.proofs.OfSlices.Passing.{more_long}
 use Rattle.small.specs.inner.Small.{small_most, EachSmall, Near}
 use Rattle.flows.specs.Back.{ticks_back}
 use Rattle.flows.specs.inner.Workable.{Workable, Works, card_of}

@@ -1,7 +1,7 @@
 -- What totals gain where transistors are worked at the voltages that will be.
 use Rattle.std.specs.Prelude.{Bool, cond, List, ℕ, ℤ, pos, ◌+ℤ◌}
 use Rattle.card.specs.declared.WorkedCard.{WorkedCard}
-use Rattle.totals.specs.Flow.{flow, sum_below}
+use Rattle.places.specs.OfTotals.Flow.{flow, sum_below}
 use Rattle.flows.specs.Back.{ticks_back}
 
 -- what node n gains by one transistor: the currents that it holds out, its flow as it will be in

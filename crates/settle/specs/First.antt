@@ -1,8 +1,8 @@
 -- The first transistor that overloads, by issue number, with the branch and kind by which it does.
 use Rattle.std.specs.Prelude.{Bool, cond, ◌&&◌, ℕ, zero, suc, leb}
-use Rattle.rows.specs.declared.Over.{Over}
-use Rattle.rows.specs.declared.Over.TheVariants.{Within}
-use Rattle.rows.specs.Outcome.{is_over}
+use Rattle.places.specs.OfRowsTypes.Over.{Over}
+use Rattle.places.specs.OfRowsTypes.Over.TheVariants.{Within}
+use Rattle.places.specs.OfRows.Outcome.{is_over}
 use Rattle.settle.specs.declared.First.{First}
 
 abbrev pub nobody : First

@@ -3,3 +3,13 @@ pub mod First
 pub mod Renewed
 pub mod inner
 pub mod laws
+pub mod OfTerms
+pub mod OfRows
+pub mod OfRowsTypes
+pub mod OfDeck
+pub mod OfPolarity
+pub mod OfTotals
+pub mod OfFlows
+pub mod OfGiven
+pub mod OfPlaces
+pub mod OfSlices

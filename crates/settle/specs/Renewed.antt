@@ -1,7 +1,7 @@
 -- The held currents of all places, where some places are worked anew.
 use Rattle.std.specs.Prelude.{Bool, cond, List, ℕ, zero, suc, ◌*◌, ℤ, pos}
-use Rattle.terms.specs.Rows.{branches}
-use Rattle.deck.specs.Stretch.{written}
+use Rattle.flows.specs.OfTerms.Rows.{branches}
+use Rattle.places.specs.OfDeck.Stretch.{written}
 
 -- of the n places from i on each that is worked holds its new currents, and every other place what it held
 unfoldable pub renewed : (ℕ → Bool) → (ℕ → List ℤ) → List ℤ → ℕ → ℕ → List ℤ

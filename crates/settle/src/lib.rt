@@ -6,8 +6,8 @@ ghost use Rattle.std.specs.Prelude.{◌≡◌};
 ghost use Rattle.settle.specs.First.{earlier};
 ghost use Rattle.settle.specs.inner.Working.{is_taken};
 
+use flows::polarity::Over;
 pub use flows::{is_over, put_in, refusal_of, work};
-use polarity::Over;
 
 // The first transistor that overloads, by issue number; 0 and within its limits where none does.
 #[derive(Clone, Copy)]

@@ -11,18 +11,18 @@ use Rattle.words.specs.Words.{part_of}
 use Rattle.words.proofs.Parts.{part_there}
 use Rattle.finding.specs.declared.Located.{Located}
 use Rattle.finding.specs.declared.Located.TheVariants.{Record, Refused}
-use Rattle.finding.specs.Answers.{verdictLocated, toldLocated, locating}
+use Rattle.finding.specs.Answers.{verdict_located, told_located, locating}
 use Rattle.finding.proofs.Locating.{located_within}
 use Rattle.answers.specs.declared.Answer.TheVariants as said
-use Rattle.answers.specs.Answers.{answerLine}
+use Rattle.answers.specs.Answers.{answer_line}
 use Rattle.shelving.specs.Shelf.{record_line, card_place}
 
-module _ (s x : List ℕ) {r : Located} (t : toldLocated r ≡ tells (locating s x)) where
-  verdict_is : {q : Located} → r ≡ q → locating s x ≡ verdictLocated q
-  verdict_is e = sym (tells_one (verdictLocated r) (locating s x) t) ∙ ap verdictLocated e
+module _ (s x : List ℕ) {r : Located} (t : told_located r ≡ tells (locating s x)) where
+  verdict_is : {q : Located} → r ≡ q → locating s x ≡ verdict_located q
+  verdict_is e = sym (tells_one (verdict_located r) (locating s x) t) ∙ ap verdict_located e
 
   module _ {at size : ℕ} (e : r ≡ Record at size) where
-    pub place_there : answerLine (said.Offset at) ≡ card_place x s
+    pub place_there : answer_line (said.Offset at) ≡ card_place x s
     unfolding card_place
     place_there = rw (verdict_is e)
 
@@ -38,9 +38,9 @@ module _ (s x : List ℕ) {r : Located} (t : toldLocated r ≡ tells (locating s
     record_said line p = rw (verdict_is e) (ap line (record_part p))
 
   module _ {f : Refusal} (e : r ≡ Refused f) where
-    pub place_none : answerLine (said.Refused f) ≡ card_place x s
+    pub place_none : answer_line (said.Refused f) ≡ card_place x s
     unfolding card_place
     place_none = rw (verdict_is e)
 
-    pub record_none : (line : List ℕ → List ℕ) → answerLine (said.Refused f) ≡ record_line (locating s x) line s
+    pub record_none : (line : List ℕ → List ℕ) → answer_line (said.Refused f) ≡ record_line (locating s x) line s
     record_none line = rw (verdict_is e)

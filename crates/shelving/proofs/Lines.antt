@@ -18,10 +18,10 @@ use Rattle.loading.proofs.Clipped.{long}
 use Rattle.clipped.specs.Clipped.{clip_line}
 use Rattle.line_write.specs.declared.Written.{Written}
 use Rattle.line_write.specs.declared.Written.TheVariants as written
-use Rattle.line_write.specs.Answers.{told_answer, answered, lineLeft, Leaves}
+use Rattle.line_write.specs.Answers.{told_answer, answered, line_left, Leaves}
 use Rattle.quoting.specs.Quotes.{model_line}
 use Rattle.answers.specs.declared.Answer.TheVariants as said
-use Rattle.answers.specs.Answers.{answerLine}
+use Rattle.answers.specs.Answers.{answer_line}
 use Rattle.shelving.specs.Shelf.{words_if, clip_said, written_line}
 use Rattle.shelving.proofs.Shelves.{from_start, start_part}
 
@@ -37,7 +37,7 @@ module _ {s : List ℕ} {r : Clipping} (k : Clips s r) where
       (ap (clip_line (mask_up s (width_of s)) (is_wide s))
       (take_at (clipped_up s (width_of s)) _ (width_of s) (long s (width_of s))))
 
-  pub clipping_refused : {f : Refusal} → r.answer ≡ answer.Refused f → answerLine (said.Refused f) ≡ clip_said s
+  pub clipping_refused : {f : Refusal} → r.answer ≡ answer.Refused f → answer_line (said.Refused f) ≡ clip_said s
   unfolding clip_said
   clipping_refused a = rw (clip_refused (clip_of s) k.answer a)
 
@@ -45,13 +45,13 @@ module _ {s : List ℕ} {r : Clipping} (k : Clips s r) where
 
 -- a text that was written begins the buffer
 text_there : (v : Verdict (List ℕ)) (line : List ℕ) {line' p : List ℕ} {n : ℕ} → answered v ≡ yes n
-    → line' ≡ lineLeft v line → p ≡ part_of line' 0 n → model_line p ≡ written_line v
+    → line' ≡ line_left v line → p ≡ part_of line' 0 n → model_line p ≡ written_line v
 text_there (no f) line e l p = clash cc
 text_there (yes text) line {n = n} e l p =
     let k : n ≡ length text = cc in
     ap model_line (p ∙ start_part text (drop (length text) line) l k)
 
-text_refused : (v : Verdict (List ℕ)) {f : Refusal} → answered v ≡ no f → answerLine (said.Refused f) ≡ written_line v
+text_refused : (v : Verdict (List ℕ)) {f : Refusal} → answered v ≡ no f → answer_line (said.Refused f) ≡ written_line v
 text_refused (no g) e = cc
 text_refused (yes text) e = clash cc
 
@@ -62,5 +62,5 @@ module _ {v : Verdict (List ℕ)} {line line' : List ℕ} {r : Written} (l : Lea
       text_there v line (sym (tells_one (yes n) (answered v) (ap told_answer (sym e) ∙ l.told))) l.left
       (from_start line' n p)
 
-  pub model_refused : {f : Refusal} → r ≡ written.Refused f → answerLine (said.Refused f) ≡ written_line v
+  pub model_refused : {f : Refusal} → r ≡ written.Refused f → answer_line (said.Refused f) ≡ written_line v
   model_refused {f} e = text_refused v (sym (tells_one (no f) (answered v) (ap told_answer (sym e) ∙ l.told)))

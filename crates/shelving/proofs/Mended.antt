@@ -17,12 +17,12 @@ use Rattle.directory.proofs.Verdicts.{library_yes}
 use Rattle.mending.specs.declared.Mending.{Mending}
 use Rattle.mending.specs.declared.Mending.TheVariants.{Set, Refused}
 use Rattle.mending.specs.Mended.{mended_of}
-use Rattle.mending.specs.Answers.{verdictMended, mending, Mends}
+use Rattle.mending.specs.Answers.{verdict_mended, mending, Mends}
 use Rattle.mending_laws.proofs.OneRecord.{same_part}
 use Rattle.mending_laws.proofs.Libraries.{length_stays, mended_sound}
 use Rattle.mending_laws.proofs.Mendings.{leaves}
 use Rattle.answers.specs.declared.Answer.TheVariants as said
-use Rattle.answers.specs.Answers.{answerLine}
+use Rattle.answers.specs.Answers.{answer_line}
 use Rattle.shelving.specs.Shelf.{shelf_bytes, held_of, kept_over, mending_held, mended_line, mended_shelf}
 use Rattle.shelving.proofs.Shelves.{start_part}
 
@@ -53,20 +53,20 @@ mended_held {s} {o' = o'} m =
 -- the library held on the shelf `old` is mended into o, which has room for any
 module _ (old : List ℕ) {s o o' : List ℕ} {r : Mending} (e : s ≡ held_of old) (k : length o ≡ shelf_bytes)
     (m : Mends s o r o') where
-  verdict_is : {q : Mending} → r ≡ q → mending_held old ≡ verdictMended q
+  verdict_is : {q : Mending} → r ≡ q → mending_held old ≡ verdict_mended q
   verdict_is g =
-      ap₂ mending (sym e) (sym k) ∙ sym (tells_one (verdictMended r) (mending s (length o)) m.answer)
-      ∙ ap verdictMended g
+      ap₂ mending (sym e) (sym k) ∙ sym (tells_one (verdict_mended r) (mending s (length o)) m.answer)
+      ∙ ap verdict_mended g
 
   module _ {out new : List ℕ} {at end : ℕ} where
     pub mend_taken : {n : ℕ} → r ≡ Set n → {t shelf : List ℕ} → t ≡ held_of o' → shelf ≡ kept_over t old
-        → Writes (answerLine (said.Mended n)) out at new end
+        → Writes (answer_line (said.Mended n)) out at new end
         → Writes (mended_line (mending_held old)) out at new end × (shelf ≡ mended_shelf old)
     mend_taken {n} g et ek w =
         let same : held_of o' ≡ mended_of s = mended_held (rw g at m) in
         rw (verdict_is g)
         (w, ek ∙ ap (λ (l : List ℕ). kept_over l old) (et ∙ same ∙ ap mended_of e))
 
-    pub mend_refused : {f : Refusal} → r ≡ Refused f → Writes (answerLine (said.Refused f)) out at new end
+    pub mend_refused : {f : Refusal} → r ≡ Refused f → Writes (answer_line (said.Refused f)) out at new end
         → Writes (mended_line (mending_held old)) out at new end × (old ≡ mended_shelf old)
     mend_refused g w = rw (verdict_is g) (w, refl)

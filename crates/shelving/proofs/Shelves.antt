@@ -15,10 +15,10 @@ use Rattle.page.specs.Page.{Writes}
 use Rattle.directory.specs.Format.{whole_length}
 use Rattle.library.specs.declared.Reading.{Reading}
 use Rattle.library.specs.declared.Reading.TheVariants.{Cards, Refused}
-use Rattle.library.specs.Answers.{verdictRead, read, Reads}
+use Rattle.library.specs.Answers.{verdict_read, read, Reads}
 use Rattle.library.specs.Unique.{as_reading, reading_told}
 use Rattle.answers.specs.declared.Answer.TheVariants as said
-use Rattle.answers.specs.Answers.{answerLine}
+use Rattle.answers.specs.Answers.{answer_line}
 use Rattle.shelving.specs.Shelf.{shelf_bytes, held_of, kept_over}
 use Rattle.shelving.specs.Shelf.{names_room, words_room, judged, library_line, shelf_with}
 
@@ -53,23 +53,23 @@ pub judged_told : {s ns ws ns' ws' : List ℕ} {r : Reading} → length ns ≡ n
 judged_told {s} {r = r} e f a =
     reading_told r (judged s) (a.answer ∙ ap₂ (λ (x y : ℕ). tells (read s x y)) e f)
 
-verdict_read : (v : Verdict (ℕ × ℕ)) → verdictRead (as_reading v) ≡ v
-verdict_read (no f) = refl
-verdict_read (yes p) = refl
+verdict_read_lem : (v : Verdict (ℕ × ℕ)) → verdict_read (as_reading v) ≡ v
+verdict_read_lem (no f) = refl
+verdict_read_lem (yes p) = refl
 
 -- s is what was brought, as the code has it, and r what judging it gave
 module _ {s b : List ℕ} (p : s ≡ b) {r : Reading} (e : r ≡ as_reading (judged s)) where
-  verdict_is : {q : Reading} → r ≡ q → judged b ≡ verdictRead q
-  verdict_is g = ap judged (sym p) ∙ sym (verdict_read (judged s)) ∙ ap verdictRead (sym e ∙ g)
+  verdict_is : {q : Reading} → r ≡ q → judged b ≡ verdict_read q
+  verdict_is g = ap judged (sym p) ∙ sym (verdict_read_lem (judged s)) ∙ ap verdict_read (sym e ∙ g)
 
   module _ {out new : List ℕ} {at end : ℕ} where
     pub library_taken : {n v : ℕ} → r ≡ Cards n v → (old : List ℕ) {shelf : List ℕ} → shelf ≡ kept_over s old
-        → Writes (answerLine (said.Library n)) out at new end
+        → Writes (answer_line (said.Library n)) out at new end
         → Writes (library_line (judged b)) out at new end × (shelf ≡ shelf_with b old)
     library_taken g old k w =
         rw (verdict_is g) (w, k ∙ ap (λ (l : List ℕ). kept_over l old) p)
 
     pub library_refused : {f : Refusal} → r ≡ Refused f → {shelf : List ℕ}
-        → Writes (answerLine (said.Refused f)) out at new end
+        → Writes (answer_line (said.Refused f)) out at new end
         → Writes (library_line (judged b)) out at new end × (shelf ≡ shelf_with b shelf)
     library_refused g w = rw (verdict_is g) (w, refl)

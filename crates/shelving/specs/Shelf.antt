@@ -12,10 +12,10 @@ use Rattle.clip.specs.Limits.{wide, narrow}
 use Rattle.clip.specs.Record.{is_wide, width_of}
 use Rattle.clip.specs.Clip.{clipped_up, mask_up, clip_of}
 use Rattle.clipped.specs.Clipped.{clip_line}
-use Rattle.line_write.specs.Answers.{writingOf}
+use Rattle.line_write.specs.Answers.{writing_of}
 use Rattle.quoting.specs.Quotes.{model_line}
 use Rattle.answers.specs.declared.Answer.TheVariants.{Library, Offset, Mended, Refused}
-use Rattle.answers.specs.Answers.{answerLine}
+use Rattle.answers.specs.Answers.{answer_line}
 
 -- one byte more than the longest library
 abbrev pub shelf_bytes : ℕ
@@ -53,8 +53,8 @@ judged bytes = read bytes names_room words_room
 
 -- how many cards it has, or why it is none
 abbrev pub library_line : Verdict (ℕ × ℕ) → List ℕ
-library_line (no f) = answerLine (Refused f)
-library_line (yes p) = answerLine (Library p.0)
+library_line (no f) = answer_line (Refused f)
+library_line (yes p) = answer_line (Library p.0)
 
 -- what is none leaves the shelf as it was
 abbrev pub shelf_with : List ℕ → List ℕ → List ℕ
@@ -68,8 +68,8 @@ mending_held shelf = mending (held_of shelf) shelf_bytes
 
 -- how many cards were set, or why none could be
 abbrev pub mended_line : Verdict ℕ → List ℕ
-mended_line (no f) = answerLine (Refused f)
-mended_line (yes n) = answerLine (Mended n)
+mended_line (no f) = answer_line (Refused f)
+mended_line (yes n) = answer_line (Mended n)
 
 -- the mended library takes the place of the one that was held
 abbrev pub mended_shelf : List ℕ → List ℕ
@@ -79,12 +79,12 @@ mended_shelf shelf = kept_if (mending_held shelf) (mended_of (held_of shelf)) sh
 
 -- where its record begins, or why it is not found
 abbrev pub place_line : Verdict (ℕ × ℕ) → List ℕ
-place_line (no f) = answerLine (Refused f)
-place_line (yes p) = answerLine (Offset p.0)
+place_line (no f) = answer_line (Refused f)
+place_line (yes p) = answer_line (Offset p.0)
 
 -- what is said of its record, or why it is not found
 abbrev pub record_line : Verdict (ℕ × ℕ) → (List ℕ → List ℕ) → List ℕ → List ℕ
-record_line (no f) line library = answerLine (Refused f)
+record_line (no f) line library = answer_line (Refused f)
 record_line (yes p) line library = line (handed (yes p) library)
 
 -- how many words a record has, by whether it is of version 2
@@ -93,7 +93,7 @@ words_if wider = cond wider wide narrow
 
 -- a record clipped: the mask and the numbers of as many words as it has, or why it is not taken
 abbrev pub clipping_line : Verdict (Unit {0}) → List ℕ → List ℕ
-clipping_line (no f) rec = answerLine (Refused f)
+clipping_line (no f) rec = answer_line (Refused f)
 clipping_line (yes t) rec = clip_line (mask_up rec (width_of rec)) (is_wide rec) (clipped_up rec (width_of rec))
 
 -- room for the longest model line
@@ -102,7 +102,7 @@ model_room = 640
 
 -- a model line that was written, or why it was not
 abbrev pub written_line : Verdict (List ℕ) → List ℕ
-written_line (no f) = answerLine (Refused f)
+written_line (no f) = answer_line (Refused f)
 written_line (yes text) = model_line text
 
 -- ---- what is said of a record, and of a card by its name
@@ -121,7 +121,7 @@ card_clipped name library = record_line (locating library name) clip_said librar
 
 -- a record as a model line of this name
 unfoldable pub model_said : List ℕ → List ℕ → List ℕ
-model_said name rec = written_line (writingOf name rec (replicate model_room 0))
+model_said name rec = written_line (writing_of name rec (replicate model_room 0))
 
 -- the card as a model line
 unfoldable pub card_model : List ℕ → List ℕ → List ℕ

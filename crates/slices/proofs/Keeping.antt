@@ -11,7 +11,7 @@ use borrow.Author.Tests.{eqb-true}
 use Rattle.refusal.specs.Clash.{clash}
 use Rattle.volts.specs.Volts.{off_volts, kept_as, given_back, span, AllNear}
 use Rattle.volts.specs.laws.Keeping.{kept}
-use Rattle.totals.specs.Gives.{nodes_most}
+use Rattle.given.specs.OfTotals.Gives.{nodes_most}
 use Rattle.given.specs.Lists.{any_of}
 use Rattle.slices.specs.Slices.{other_length, off_slices}
 

@@ -15,9 +15,9 @@ use Rattle.whole.specs.laws.Biased.{below_or_not}
 use Rattle.whole.specs.laws.Machine.{held}
 use Rattle.refusal.specs.Clash.{clash}
 use Rattle.volts.specs.Volts.{off_volts, kept_as}
-use Rattle.rows.specs.laws.Filled.{Filled, filled_none, filled_more, filled_all, filled_map}
-use Rattle.totals.specs.Gives.{nodes_most}
-use Rattle.totals.specs.Flow.{with_more}
+use Rattle.deck.specs.OfRows.laws.Filled.{Filled, filled_none, filled_more, filled_all, filled_map}
+use Rattle.given.specs.OfTotals.Gives.{nodes_most}
+use Rattle.given.specs.OfTotals.Flow.{with_more}
 use Rattle.given.specs.Lists.{any_of}
 use Rattle.deck.specs.laws.Stretches.{get_or_none}
 use Rattle.deck.specs.laws.Ups.{length_up, get_or_up}

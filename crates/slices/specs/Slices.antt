@@ -4,8 +4,8 @@ use Rattle.std.specs.Prelude.{◌≡◌, Bool, true, cond, not, ◌||◌, List, 
 use Rattle.std.specs.Int.Signed.{le_z, lt_z}
 use Rattle.whole.specs.Signed.{signed_span}
 use Rattle.volts.specs.Volts.{off_volts, kept_as}
-use Rattle.totals.specs.Gives.{nodes_most}
-use Rattle.totals.specs.Flow.{with_more}
+use Rattle.given.specs.OfTotals.Gives.{nodes_most}
+use Rattle.given.specs.OfTotals.Flow.{with_more}
 use Rattle.given.specs.Lists.{any_of}
 use Rattle.slices.specs.declared.Total.{Total}
 use Rattle.slices.specs.declared.Total.TheVariants.{At, Leaves}

@@ -2,6 +2,8 @@
 // totals would stand. Definitions, a type and laws; the code is in `keeping`, `standing` and `putting`.
 #![tactic(auto)]
 
+pub use given::totals;
+
 // A total as it would stand, or word that it would leave the 64-bit range.
 #[derive(Clone, Copy)]
 pub enum Total {

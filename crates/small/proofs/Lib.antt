@@ -1,1 +1,2 @@
 mod Small
+pub mod OfSlices

@@ -3,7 +3,7 @@ use Rattle.std.proofs.Common.{◌≡◌, ℕ, ◌+◌, ◌-◌, ◌*◌, ◌%◌
 use lib.Bits.{bit_or, or_add_and, and_le_l, and_le_r}
 use Rattle.whole.specs.Signed.{signed_span}
 use Rattle.whole.specs.laws.Biased.{below_or_not}
-use Rattle.totals.specs.Gives.{nodes_most}
+use Rattle.slices.specs.OfTotals.Gives.{nodes_most}
 use Rattle.small.specs.inner.Small.{small_most, Small, EachSmall}
 
 -- ---- a number raised around the end of 64 bits

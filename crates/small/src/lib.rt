@@ -2,10 +2,11 @@
 #![tactic(auto)]
 
 ghost use Rattle.std.specs.Prelude.{◌≡◌, ◌*◌, ◌<◌, true, length};
-ghost use Rattle.totals.specs.Gives.{nodes_most};
+ghost use Rattle.slices.specs.OfTotals.Gives.{nodes_most};
 ghost use Rattle.small.specs.inner.Small.{small_most, Small, EachSmall, Near, AllSmall};
 
-use totals::NODES;
+pub use slices;
+use slices::totals::NODES;
 
 // 2^61. Numbers from -2^61 up and below 2^61 are small: three of them are within 64 bits together.
 const SMALL: u64 = 2305843009213693952;

@@ -13,7 +13,7 @@ use Rattle.whole.specs.Signed.{signed_span}
 use Rattle.whole.specs.laws.Machine.{abs_neg, held, fits, held_is}
 use Rattle.totals.specs.Gives.{nodes_most}
 use Rattle.totals.proofs.Integers.{abs_add}
-use Rattle.slices.specs.Slices.{outside64}
+use Rattle.small.specs.OfSlices.Slices.{outside64}
 use Rattle.small.specs.inner.Small.{small_most, Small, SmallNode, AllSmall}
 
 -- those of a node, of all that are small

@@ -3,10 +3,10 @@
 
 ghost use Rattle.std.specs.Prelude.{◌≡◌, true, length, replicate, pos, ◌+ℤ◌, ◌-ℤ◌};
 ghost use Rattle.totals.specs.Gives.{nodes_most};
-ghost use Rattle.slices.specs.Slices.{Stands, StandsIn};
+ghost use Rattle.small.specs.OfSlices.Slices.{Stands, StandsIn};
 ghost use Rattle.small.specs.inner.Small.{Near, SmallNode, AllSmall};
 
-use slices::Total;
+use small::slices::Total;
 use totals::NODES;
 
 // What `judging::stand` has, of small numbers.

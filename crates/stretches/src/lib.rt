@@ -7,6 +7,8 @@ ghost use Rattle.terms.specs.Rows.{roles, branches};
 ghost use Rattle.deck.specs.Stretch.{stretch, written};
 ghost use Rattle.places.specs.Counts.{cards_most, transistors_most};
 
+pub use places;
+pub use places::totals;
 use places::{ALL_CURRENTS, ALL_NAMES, ALL_NODES};
 use terms::{BRANCHES, ROLES};
 

@@ -6,12 +6,12 @@ use lib.IntN.{ℤ}
 use Rattle.page.specs.Page.{Writes}
 use Rattle.sheet.specs.Lines.{sheet_line}
 use Rattle.answers.specs.declared.Answer.TheVariants.{Reading}
-use Rattle.answers.specs.Answers.{answerLine}
+use Rattle.answers.specs.Answers.{answer_line}
 
 module _ {v v' t t' : ℤ} {old new : List ℕ} {at end : ℕ} (e : v ≡ v') (f : t ≡ t') where
   pub as_row : (n : ℕ) → Writes (sheet_line n v t) old at new end → Writes (sheet_line n v' t') old at new end
   as_row n w = rw (e, f) at w
 
-  pub as_reading_lem : {n n' : ℕ} → n ≡ n' → Writes (answerLine (Reading n v t)) old at new end
-      → Writes (answerLine (Reading n' v' t')) old at new end
+  pub as_reading_lem : {n n' : ℕ} → n ≡ n' → Writes (answer_line (Reading n v t)) old at new end
+      → Writes (answer_line (Reading n' v' t')) old at new end
   as_reading_lem d w = rw (d, e, f) at w

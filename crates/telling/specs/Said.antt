@@ -8,7 +8,7 @@ use Rattle.sheet.specs.Lines.{sheet_line}
 use Rattle.spaced.specs.Spaced.{currents_line, who_line, sum_line}
 use Rattle.answers.specs.declared.Answer as answers
 use Rattle.answers.specs.declared.Answer.TheVariants as said
-use Rattle.answers.specs.Answers.{answerLine}
+use Rattle.answers.specs.Answers.{answer_line}
 use Rattle.model.specs.declared.Answer as model
 use Rattle.model.specs.declared.Answer.TheVariants as told
 
@@ -42,13 +42,13 @@ done_to (call.Read what) = said.Moved
 
 -- to a command by its call and its first number, with the currents that stand beside the answer
 unfoldable pub said_of : Call → ℤ → model.Answer → List ℤ → List ℕ
-said_of k number (told.Issue i) ticks = answerLine (issued_to k i)
-said_of k number told.Done ticks = answerLine (done_to k)
-said_of k number (told.Node u t) ticks = answerLine (said.Reading (node_number number) u t)
+said_of k number (told.Issue i) ticks = answer_line (issued_to k i)
+said_of k number told.Done ticks = answer_line (done_to k)
+said_of k number (told.Node u t) ticks = answer_line (said.Reading (node_number number) u t)
 said_of k number told.Currents ticks = currents_line ticks
 said_of k number (told.Listed n) ticks = []
 said_of k number (told.Summed t c most) ticks = sum_line t c most
-said_of k number (told.Refused f) ticks = answerLine (said.Refused f)
+said_of k number (told.Refused f) ticks = answer_line (said.Refused f)
 
 -- who names a node: the first of these issue numbers
 unfoldable pub listed_of : model.Answer → List ℕ → List ℕ
@@ -58,7 +58,7 @@ listed_of (told.Node u t) issues = []
 listed_of told.Currents issues = []
 listed_of (told.Listed n) issues = who_line (take n issues)
 listed_of (told.Summed t c most) issues = []
-listed_of (told.Refused f) issues = answerLine (said.Refused f)
+listed_of (told.Refused f) issues = answer_line (said.Refused f)
 
 -- a node's line of the sheet
 unfoldable pub row_of : ℕ → model.Answer → List ℕ

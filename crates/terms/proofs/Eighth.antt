@@ -8,13 +8,13 @@ use lib.IntN.{ℤ, pos, negsuc, ◌+ℤ◌}
 use borrow.Author.Tests.{lt-ltb}
 use Rattle.whole.specs.Scale.{floor_scale}
 use Rattle.whole.specs.laws.Biased.{sub_up}
-use Rattle.scaling.specs.Scaled.{value_at, exp_of, tick_places, tick_limit}
-use Rattle.scaling.specs.inner.Shifts.{UpTo}
+use Rattle.reverse.specs.OfScaling.Scaled.{value_at, exp_of, tick_places, tick_limit}
+use Rattle.reverse.specs.OfScaling.inner.Shifts.{UpTo}
 use Rattle.reverse.specs.declared.Pair.{Pair}
 use Rattle.reverse.specs.Sum.{sum_limit}
 use Rattle.reverse.specs.inner.Pairs.{pair_of}
 use Rattle.reverse.proofs.Standing.{stands}
-use Rattle.card.specs.declared.WorkedCard.{WorkedCard}
+use Rattle.card_laws.specs.OfCard.WorkedCard.{WorkedCard}
 use Rattle.terms.specs.Rows.{Role, B1, C4, reverse, row8}
 use Rattle.terms.specs.Values.{tick_of, sum_at}
 use Rattle.terms.specs.inner.Terms.{Whole}

@@ -5,11 +5,11 @@ use Prim.Native.Nat.{ℕ, zero, suc, ◌≤◌, zero-le}
 use lib.Dec.{lit≤}
 use lib.ListN.{get_or, replicate}
 use Rattle.refusal.specs.Order.{yes}
-use Rattle.volts.specs.Volts.{volts_most, span}
-use Rattle.octave.specs.Table.{entries}
-use Rattle.card.specs.declared.WorkedCard.{WorkedCard}
-use Rattle.card.specs.Judge.{judge_of}
-use Rattle.card.specs.inner.Worked.{IsWorked}
+use Rattle.reverse.specs.OfVolts.Volts.{volts_most, span}
+use Rattle.reverse.specs.OfOctave.Table.{entries}
+use Rattle.card_laws.specs.OfCard.WorkedCard.{WorkedCard}
+use Rattle.card_laws.specs.OfCard.Judge.{judge_of}
+use Rattle.card_laws.specs.OfCard.inner.Worked.{IsWorked}
 use Rattle.card_laws.proofs.WorkedCards.{judged_is_worked}
 use Rattle.terms.specs.Rows.{roles}
 use Rattle.terms.specs.inner.Ready.{ready_of, IsReady, Askable}

@@ -9,21 +9,21 @@ use lib.Dec.{lit≤}
 use lib.IntN.{ℤ}
 use Rattle.float.specs.declared.Split.{Split}
 use Rattle.float.specs.Split.{IsSplit}
-use Rattle.octave.specs.declared.Exponential.{Exponential}
-use Rattle.octave.specs.Position.{InRange}
-use Rattle.octave.specs.laws.Places.{exponential_size, exponent_small}
-use Rattle.octave.specs.inner.Reciprocal.{IsReciprocal, equals_reciprocal, reciprocal_octave}
-use Rattle.card.specs.declared.WorkedCard.{WorkedCard}
-use Rattle.card.specs.inner.Worked.{IsWorked}
+use Rattle.reverse.specs.OfOctaveTypes.Exponential.{Exponential}
+use Rattle.reverse.specs.OfOctave.Position.{InRange}
+use Rattle.reverse.specs.OfOctave.laws.Places.{exponential_size, exponent_small}
+use Rattle.reverse.specs.OfOctave.inner.Reciprocal.{IsReciprocal, equals_reciprocal, reciprocal_octave}
+use Rattle.card_laws.specs.OfCard.WorkedCard.{WorkedCard}
+use Rattle.card_laws.specs.OfCard.inner.Worked.{IsWorked}
 use Rattle.terms.specs.declared.Ready.{Ready}
 use Rattle.terms.specs.Rows.{roles}
 use Rattle.terms.specs.Values.{doubled_octave, knee_volts}
-use Rattle.scaling.specs.Scaled.{value_at, exp_of, times, whole_ticks, whole_parts, tick_limit, ratio_limit}
-use Rattle.scaling.specs.inner.Shifts.{alone_of, exp_at}
+use Rattle.reverse.specs.OfScaling.Scaled.{value_at, exp_of, times, whole_ticks, whole_parts, tick_limit, ratio_limit}
+use Rattle.reverse.specs.OfScaling.inner.Shifts.{alone_of, exp_at}
 use Rattle.reverse.specs.Sum.{sum_parts, sum_limit}
 use Rattle.terms.specs.inner.Ready.{ready_of, IsReady, Askable}
-use Rattle.scaling.specs.inner.Shifts.{UpTo, IsExp, Scalable, Junction, scaled_of, more_parts}
-use Rattle.scaling.proofs.Scaling.{ticks_upto, parts_upto, alone_upto, exponential_is}
+use Rattle.reverse.specs.OfScaling.inner.Shifts.{UpTo, IsExp, Scalable, Junction, scaled_of, more_parts}
+use Rattle.reverse.proofs.OfScaling.Scaling.{ticks_upto, parts_upto, alone_upto, exponential_is}
 
 -- both octaves are in range
 pub octave_in : {c : WorkedCard} → IsWorked c → InRange c.octave

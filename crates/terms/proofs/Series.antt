@@ -9,13 +9,13 @@ use lib.Dec.{lit<}
 use lib.ListN.{length, get_or}
 use lib.IntN.{ℤ, pos, sub_ℕ, ◌+ℤ◌, ◌-ℤ◌}
 use Rattle.whole.specs.laws.Biased.{sub_up, sub_down, sub_eq, below_or_not}
-use Rattle.volts.specs.Volts.{span, given_back, across_of}
-use Rattle.volts.specs.laws.Keeping.{given_back_at}
-use Rattle.volts.specs.laws.Across.{across_is}
+use Rattle.reverse.specs.OfVolts.Volts.{span, given_back, across_of}
+use Rattle.reverse.specs.OfVolts.laws.Keeping.{given_back_at}
+use Rattle.reverse.specs.OfVolts.laws.Across.{across_is}
 use Rattle.float.specs.declared.Split.{Split}
-use Rattle.scaling.specs.Scaled.{value_at, times, whole_number, tick_places, whole_ticks, tick_limit}
-use Rattle.scaling.specs.inner.Shifts.{UpTo, through_of}
-use Rattle.scaling.proofs.Scaling.{upto_equal, through_upto}
+use Rattle.reverse.specs.OfScaling.Scaled.{value_at, times, whole_number, tick_places, whole_ticks, tick_limit}
+use Rattle.reverse.specs.OfScaling.inner.Shifts.{UpTo, through_of}
+use Rattle.reverse.proofs.OfScaling.Scaling.{upto_equal, through_upto}
 use Rattle.terms.specs.Values.{rise}
 use Rattle.terms.specs.inner.Terms.{Lead, Led}
 use Rattle.terms.proofs.Eighth.{nothing}

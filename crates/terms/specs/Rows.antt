@@ -1,7 +1,7 @@
 -- The branches of a transistor as data: where each starts and ends, the T's it counts, and what it is divided by.
 -- No branch is written anywhere else in specs/.
 use Rattle.std.specs.Prelude.{Bool, true, false, List, [], ◌∷◌, ◌++◌, ℕ, length}
-pub use Rattle.scaling.specs.Roles.{Role, E1, B1, B2, C1, C2, C4, S, E, B, C, C3, all_roles, roles, role_index}
+pub use Rattle.reverse.specs.OfScaling.Roles.{Role, E1, B1, B2, C1, C2, C4, S, E, B, C, C3, all_roles, roles, role_index}
 
 -- the worked values of a card
 pub data Value : Type 0 where

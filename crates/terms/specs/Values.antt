@@ -1,9 +1,9 @@
 -- From volts to T's, ratios and sums: the numbers that the rows' terms and divisors stand for.
 use Rattle.std.specs.Prelude.{Bool, cond, ◌&&◌, List, ℕ, ◌*◌, ltb, get_or, ℤ, pos, negsuc, ◌-ℤ◌}
 use Rattle.std.proofs.Math.IntN.{sub_ℕ}
-use Rattle.volts.specs.Volts.{span}
-use Rattle.card.specs.declared.WorkedCard.{WorkedCard}
-use Rattle.scaling.specs.Scaled.{Scaled, value_at, exp_of, times, whole_number, whole_ticks, whole_parts}
+use Rattle.reverse.specs.OfVolts.Volts.{span}
+use Rattle.card_laws.specs.OfCard.WorkedCard.{WorkedCard}
+use Rattle.reverse.specs.OfScaling.Scaled.{Scaled, value_at, exp_of, times, whole_number, whole_ticks, whole_parts}
 use Rattle.reverse.specs.Sum.{sum_parts, over_sum, sum_over}
 use Rattle.terms.specs.Rows.{Role, role_index, Value, s_n, bulk, side, nonideal, ex, sub, sf, r_ex, r_sub, reverse}
 use Rattle.terms.specs.Rows.{g_e, g_bc, g_cc, g_blx, g_bli, Span, plain, second, Term, alone, across, through}

@@ -4,11 +4,14 @@
 
 pub mod roles; // roles.rt: the roles by their numbers
 
-use card::WorkedCard;
-use octave::{Exponential, Reciprocal};
+pub use card_laws::card;
+use card_laws::card::WorkedCard;
+pub use reverse;
 use reverse::Pair;
+use reverse::octave::{Exponential, Reciprocal};
+pub use reverse::scaling;
+pub use reverse::scaling::{PART_PLACES, ROLES, TICKS_MOST};
 pub use roles::{C1, C3, C4};
-pub use scaling::{PART_PLACES, ROLES, TICKS_MOST};
 
 pub const BRANCHES: usize = 13;
 

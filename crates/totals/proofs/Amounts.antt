@@ -16,8 +16,8 @@ use borrow.Author.Tests.{eqb-true, eqb-false}
 use mir.Syntax.{w64}
 use mir.Val.{SFits}
 use Rattle.whole.specs.laws.Biased.{below_or_not}
-use Rattle.scaling.specs.Scaled.{tick_limit}
-use Rattle.terms.specs.Rows.{Row, role_index, roles, branches}
+use Rattle.ends.specs.OfScaling.Scaled.{tick_limit}
+use Rattle.ends.specs.OfTerms.Rows.{Row, role_index, roles, branches}
 use Rattle.totals.specs.Gives.{nodes_most, at_node, rows_give}
 use Rattle.totals.specs.inner.Sums.{More, Within, Room, Wired, ends, ends_give, spread}
 use Rattle.totals.specs.inner.Sizes.{flow_most, room_most, handed_most}

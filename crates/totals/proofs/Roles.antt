@@ -10,9 +10,9 @@ use lib.Dec.{eqb, lit<}
 use lib.ListN.{length, get_or, replicate, length-map}
 use lib.IntN.{ℤ, pos, neg_ℤ, ◌+ℤ◌, +ℤ_idl, +ℤ_idr, +ℤ_assoc, neg_ℤ-+ℤ}
 use borrow.Author.Tests.{eqb-true, eqb-false, ne_eqb}
-use Rattle.terms.specs.Rows.{Role, E1, B1, B2, C1, C2, C4, S, E, B, C, C3, Row, role_index, roles, branches}
-use Rattle.scaling.specs.Scaled.{tick_limit}
-use Rattle.terms.specs.Ends.{froms_of, tos_of}
+use Rattle.ends.specs.OfTerms.Rows.{Role, E1, B1, B2, C1, C2, C4, S, E, B, C, C3, Row, role_index, roles, branches}
+use Rattle.ends.specs.OfScaling.Scaled.{tick_limit}
+use Rattle.ends.specs.OfTerms.Ends.{froms_of, tos_of}
 use Rattle.totals.specs.Gives.{nodes_most, at_node, rows_give}
 use Rattle.totals.specs.inner.Sums.{More, Within, Room, Wired, Givable, ends, ends_give, spread, roles_give}
 use Rattle.totals.specs.inner.Sizes.{flow_most, room_most}

@@ -1,12 +1,12 @@
 -- What a transistor does at given voltages: whether it overloads, the currents of its branches, and what it adds to a
 -- node. And totals with more at each node.
 use Rattle.std.specs.Prelude.{Bool, false, List, [], ◌∷◌, map, ℕ, zero, suc, get_or, ℤ, pos, ◌+ℤ◌}
-use Rattle.card.specs.declared.WorkedCard.{WorkedCard}
-use Rattle.rows.specs.declared.Over.{Over}
-use Rattle.terms.specs.Rows.{rows_for}
-use Rattle.rows.specs.Outcome.{is_over}
+use Rattle.ends.specs.OfCard.WorkedCard.{WorkedCard}
+use Rattle.polarity.specs.OfRowsTypes.Over.{Over}
+use Rattle.ends.specs.OfTerms.Rows.{rows_for}
+use Rattle.polarity.specs.OfRows.Outcome.{is_over}
 use Rattle.polarity.specs.Polarity.{outcome_of}
-use Rattle.rows.specs.inner.FromTerms.{list_up}
+use Rattle.polarity.specs.OfRows.inner.FromTerms.{list_up}
 use Rattle.totals.specs.Gives.{nodes_most, rows_give}
 
 -- the voltages of its roles

@@ -1,6 +1,6 @@
 -- What the branches of a transistor give to the nodes on which its roles stand.
 use Rattle.std.specs.Prelude.{cond, List, [], ◌∷◌, ℕ, eqb, get_or, ℤ, pos, ◌+ℤ◌, ◌-ℤ◌}
-use Rattle.terms.specs.Rows.{Row, role_index}
+use Rattle.ends.specs.OfTerms.Rows.{Row, role_index}
 
 -- how many nodes there are
 abbrev pub nodes_most : ℕ

@@ -2,14 +2,16 @@
 #![tactic(auto)]
 
 ghost use Rattle.std.specs.Prelude.{ℕ, ◌≤◌, ◌<◌, get_or, nat_abs, pos};
-ghost use Rattle.terms.specs.Rows.{roles, branches};
-ghost use Rattle.scaling.specs.Scaled.{tick_limit};
-ghost use Rattle.terms.specs.Ends.{from_roles, to_roles};
+ghost use Rattle.ends.specs.OfTerms.Rows.{roles, branches};
+ghost use Rattle.ends.specs.OfScaling.Scaled.{tick_limit};
+ghost use Rattle.ends.specs.OfTerms.Ends.{from_roles, to_roles};
 ghost use Rattle.totals.specs.Gives.{nodes_most, at_node};
 ghost use Rattle.totals.specs.inner.Sizes.{flow_most, room_most, handed_most};
 ghost use Rattle.totals.specs.inner.Sums.{More, Within, Room, Wired, Givable, ends, ends_give, spread, roles_give};
 
-use terms::{BRANCHES, ROLES};
+pub use ends::terms;
+use ends::terms::{BRANCHES, ROLES};
+pub use polarity;
 
 // The nodes.
 pub const NODES: usize = 32;

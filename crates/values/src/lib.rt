@@ -3,14 +3,14 @@
 
 ghost use Rattle.std.specs.Prelude.{map};
 ghost use Rattle.volts.specs.Volts.{given_back};
-ghost use Rattle.terms.specs.Values.{bias_of};
-ghost use Rattle.terms.specs.inner.Ready.{Askable};
-ghost use Rattle.terms.specs.inner.Terms.{TermsOf};
+ghost use Rattle.apart.specs.OfTerms.Values.{bias_of};
+ghost use Rattle.apart.specs.OfTerms.inner.Ready.{Askable};
+ghost use Rattle.apart.specs.OfTerms.inner.Terms.{TermsOf};
 
+use apart::scaling::{PARTS, exponential, faint, scaled};
+use apart::terms::roles::{B1, B2, C1, C2, C4, E1, S};
+use apart::terms::{ROLES, Ready, Terms};
 use octave::Table;
-use scaling::{PARTS, exponential, faint, scaled};
-use terms::roles::{B1, B2, C1, C2, C4, E1, S};
-use terms::{ROLES, Ready, Terms};
 
 // The T's and ratios of all rows: each exponential is worked once. These four arrays are the rows as the code has them.
 pub fn all_terms(t: &Table, r: Ready, v: &[u32; ROLES]) -> Terms

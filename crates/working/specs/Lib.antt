@@ -1,1 +1,3 @@
 pub mod Work
+pub mod OfRefusal
+pub mod OfClip

@@ -5,6 +5,9 @@ ghost use Rattle.std.specs.Prelude.{◌≡◌};
 ghost use Rattle.std.specs.Float.Ieee.Scale.{finite};
 ghost use Rattle.working.specs.Work.{conductance_of, worked_of, values_of, all, all_finite};
 
+pub use clip;
+use clip::float;
+
 // How many values are worked.
 const VALUES: usize = 15;
 

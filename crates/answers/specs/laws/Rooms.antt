@@ -10,7 +10,7 @@ use Rattle.refusal.specs.declared.Refusal.TheVariants.{BadKey, BadNumber, KeyMis
 use Rattle.refusal.specs.Told.{told}
 use Rattle.sheet.specs.laws.LinesFit.{told_long}
 use Rattle.answers.specs.declared.Answer.TheVariants.{Refused}
-use Rattle.answers.specs.Answers.{answerLine}
+use Rattle.answers.specs.Answers.{answer_line}
 
 -- a refusal tells its number, and two values at most
 told_few : (f : Refusal) → length (told f) ≤ 3
@@ -39,6 +39,6 @@ told_few KeyMissing = lit≤ tt
 told_few BadLine = lit≤ tt
 
 -- the answer to what is refused
-pub refused_room : (f : Refusal) → length (answerLine (Refused f)) ≤ 71
-unfolding answerLine
+pub refused_room : (f : Refusal) → length (answer_line (Refused f)) ≤ 71
+unfolding answer_line
 refused_room f = told_long (told f) (told_few f)

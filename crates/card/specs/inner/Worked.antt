@@ -3,8 +3,8 @@ use Rattle.std.specs.Prelude.{List, [], ◌∷◌, ℕ, ◌≤◌}
 use Rattle.float.specs.declared.Split.{Split}
 use Rattle.float.specs.Split.{IsSplit}
 use Rattle.card.specs.declared.WorkedCard.{WorkedCard}
-use Rattle.loading.specs.Octave.{octave_least, octave_most, second_most}
-use Rattle.loading.specs.Knee.{knee_most}
+use Rattle.drawn.specs.OfLoading.Octave.{octave_least, octave_most, second_most}
+use Rattle.drawn.specs.OfLoading.Knee.{knee_most}
 
 -- a thing that holds of every element of a list
 abbrev pub Each : {A : Type 0} → (A → Type 0) → List A → Type 0

@@ -4,11 +4,11 @@ use Rattle.std.proofs.Common.{ap, ◌∙◌}
 use Rattle.std.specs.Float.Ieee.{eq}
 use Rattle.refusal.specs.declared.Refusal.TheVariants.{Malformed, NotFinite}
 use Rattle.refusal.specs.Order.{refuse_if, number_told, number_if, number_first, then_if}
-use Rattle.clip.specs.Record.{right_length, width_of, finite_up}
-use Rattle.clip.specs.Clip.{clip_of}
-use Rattle.loading.specs.Octave.{octave_good}
-use Rattle.loading.specs.Numbers.{judged_numbers, level, level504, octave, spares_good, settings_good, icss_below}
-use Rattle.loading.specs.Numbers.{within_reach}
+use Rattle.card.specs.OfClip.Record.{right_length, width_of, finite_up}
+use Rattle.card.specs.OfClip.Clip.{clip_of}
+use Rattle.card.specs.OfLoading.Octave.{octave_good}
+use Rattle.card.specs.OfLoading.Numbers.{judged_numbers, level, level504, octave, spares_good, settings_good, icss_below}
+use Rattle.card.specs.OfLoading.Numbers.{within_reach}
 use Rattle.card.specs.Judge.{judge_numbers, judge_of}
 
 -- the name and the board apart: on clipped numbers, then from the bytes

@@ -3,13 +3,13 @@ use Rattle.std.specs.Prelude.{◌≡◌, true, List, ℕ, ◌≤◌, ◌<◌}
 use Rattle.std.specs.Float.Ieee.Scale.{finite}
 use Rattle.refusal.specs.Order.{Verdict, no, yes}
 use Rattle.card.specs.declared.WorkedCard.{WorkedCard}
-use Rattle.clip.specs.Numbers as number
-use Rattle.clip.specs.Limits.{zero, one, wide, narrow}
-use Rattle.clip.specs.Record.{is_wide, is_narrow, word_at, number_at}
-use Rattle.clip.specs.Clip.{clipped_at}
-use Rattle.loading.specs.Knee.{knee_good}
-use Rattle.working.specs.Work.{worked_of, leads_of, all}
-use Rattle.loading.specs.Numbers.{judged_numbers, parameters_of, spares_good}
+use Rattle.card.specs.OfClip.Numbers as number
+use Rattle.card.specs.OfClip.Limits.{zero, one, wide, narrow}
+use Rattle.card.specs.OfClip.Record.{is_wide, is_narrow, word_at, number_at}
+use Rattle.card.specs.OfClip.Clip.{clipped_at}
+use Rattle.card.specs.OfLoading.Knee.{knee_good}
+use Rattle.card.specs.OfWorking.Work.{worked_of, leads_of, all}
+use Rattle.card.specs.OfLoading.Numbers.{judged_numbers, parameters_of, spares_good}
 
 -- s is of version 1 and t of version 2, with the same sixteen words; of its own words t has numbers, I_Br is 0 when
 -- clipped, the polarity is +1, the spare words are good, V_Lr is within 5 V, and each resistor has a finite conductance

@@ -3,8 +3,8 @@ use Rattle.std.specs.Prelude.{◌≡◌, Bool, List, ℕ, ◌+◌, ◌*◌, ◌<
 use Rattle.std.proofs.Math.Path.{refl}
 use Rattle.std.proofs.Math.Bool.{false}
 use Rattle.std.proofs.Common.{arith}
-use Rattle.terms.specs.declared.Ready.{Ready}
-use Rattle.terms.specs.inner.Ready.{no_ready}
+use Rattle.rows.specs.OfTerms.Ready.{Ready}
+use Rattle.rows.specs.OfTerms.inner.Ready.{no_ready}
 use Rattle.deck.specs.Stretch.{written}
 use Rattle.deck.specs.Layout.{
   cards_most,

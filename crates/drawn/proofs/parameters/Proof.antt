@@ -4,8 +4,8 @@ use mathlib.Core.Path.{◌≡◌, ap, ◌∙◌}
 use mathlib.Core.Bool.{Bool, cond}
 use lib.Ieee.{Float}
 use borrow.Author.Rules.{rules}
-use Rattle.clip.specs.Numbers as number
-use Rattle.clip.specs.Limits.{zero}
+use Rattle.loading.specs.OfClip.Numbers as number
+use Rattle.loading.specs.OfClip.Limits.{zero}
 use Rattle.loading.specs.Numbers.{at}
 use Rattle.drawn.proofs.parameters.Statement.{statement}
 use Rattle.drawn.proofs.parameters.Tie as tie

@@ -3,8 +3,8 @@ use Prim.Native.Nat.{ℕ, ◌≤◌, ◌-◌}
 use native.Mathlib.Omega.{arith}
 use lib.ListN.{get_or}
 use borrow.Author.Rules.{rules}
-use Rattle.terms.specs.Rows.{roles}
-use Rattle.rows.specs.laws.Filled.{Filled, filled_none, filled_more, filled_map}
+use Rattle.totals.specs.OfTerms.Rows.{roles}
+use Rattle.dealing.specs.OfRows.laws.Filled.{Filled, filled_none, filled_more, filled_map}
 use Rattle.flows.proofs.role_volts.Statement.{statement}
 use Rattle.flows.proofs.role_volts.Tie as tie
 

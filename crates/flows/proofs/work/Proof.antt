@@ -4,8 +4,8 @@ use mathlib.Core.List.{List}
 use Prim.Native.Nat.{ℕ}
 use lib.ListN.{length, length-map}
 use Rattle.volts.specs.Volts.{AllNear}
-use Rattle.terms.specs.inner.Ready.{IsReady}
-use Rattle.terms.specs.Rows.{roles}
+use Rattle.totals.specs.OfTerms.inner.Ready.{IsReady}
+use Rattle.totals.specs.OfTerms.Rows.{roles}
 use Rattle.flows.proofs.Currents.{roles_near, works, outcome_works}
 use Rattle.flows.proofs.work.Statement.{statement}
 use Rattle.flows.proofs.work.Tie as tie

@@ -3,12 +3,12 @@ use Rattle.std.specs.Prelude.{◌≡◌, Bool, List, map, ℕ, ◌<◌, get_or, 
 use Rattle.volts.specs.Volts.{AllNear}
 use Rattle.octave.specs.Table.{entries}
 use Rattle.card.specs.declared.WorkedCard.{WorkedCard}
-use Rattle.terms.specs.inner.Ready.{IsReady}
-use Rattle.terms.specs.Rows.{roles}
-use Rattle.rows.specs.declared.Outcome.{Outcome}
+use Rattle.totals.specs.OfTerms.inner.Ready.{IsReady}
+use Rattle.totals.specs.OfTerms.Rows.{roles}
+use Rattle.dealing.specs.OfRowsTypes.Outcome.{Outcome}
 use Rattle.totals.specs.Gives.{nodes_most}
 use Rattle.totals.specs.Flow.{over_at, ticks_at}
-use Rattle.deck.specs.Layout.{ready_at, cards_most}
+use Rattle.dealing.specs.OfDeck.Layout.{ready_at, cards_most}
 
 -- the kept voltages of a transistor's roles
 abbrev pub roles_of : List ℕ → List ℕ → List ℕ

@@ -5,8 +5,8 @@ use native.Mathlib.Omega.{arith}
 use lib.ListN.{length, get_or}
 use lib.IntN.{pos}
 use borrow.Author.Rules.{rules}
-use Rattle.terms.specs.Rows.{roles}
-use Rattle.rows.specs.laws.Filled.{Filled, filled_none, filled_more, filled_map}
+use Rattle.totals.specs.OfTerms.Rows.{roles}
+use Rattle.totals.specs.OfRows.laws.Filled.{Filled, filled_none, filled_more, filled_map}
 use Rattle.given.specs.inner.Nodes.{node_of}
 use Rattle.whole.specs.laws.Machine.{held}
 use Rattle.given.proofs.nodes_of.Statement.{statement}

@@ -3,16 +3,16 @@ use mathlib.Core.Path.{sym, ap, ◌∙◌}
 use borrow.Author.Rules.{rules}
 use Rattle.refusal.specs.Order.{number_told}
 use Rattle.finding.specs.declared.Located.{Located}
-use Rattle.finding.specs.Answers.{verdictLocated}
+use Rattle.finding.specs.Answers.{verdict_located}
 use Rattle.host_shelf.proofs.find_result.Statement.{statement}
 use Rattle.host_shelf.proofs.find_result.Tie as tie
 
 returns : tie.Need-returns-in-Record
-returns c = sym (ap (λ (x : Located). number_told (verdictLocated x)) c.in-Record.is)
+returns c = sym (ap (λ (x : Located). number_told (verdict_located x)) c.in-Record.is)
 
 returns_2 : tie.Need-returns-in-Refused
 returns_2 c =
-    c.number.ensures ∙ sym (ap (λ (x : Located). number_told (verdictLocated x)) c.in-Refused.is)
+    c.number.ensures ∙ sym (ap (λ (x : Located). number_told (verdict_located x)) c.in-Refused.is)
 
 pub find_result_spec : {M : Type 1} → statement M
 find_result_spec =

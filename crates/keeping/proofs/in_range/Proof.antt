@@ -7,7 +7,7 @@ use lib.IntN.{pos}
 use borrow.Author.Rules.{rules}
 use Rattle.volts.specs.laws.Keeping.{kept_is, outside_is}
 use Rattle.whole.specs.laws.Machine.{held}
-use Rattle.totals.specs.Gives.{nodes_most}
+use Rattle.slices.specs.OfTotals.Gives.{nodes_most}
 use Rattle.slices.proofs.Passing.{AllOn, on_none, on_more, off_at, all_on, one_off}
 use Rattle.keeping.proofs.in_range.Statement.{statement}
 use Rattle.keeping.proofs.in_range.Tie as tie

@@ -7,7 +7,7 @@ use lib.IntN.{pos}
 use borrow.Author.Rules.{rules}
 use Rattle.volts.specs.laws.Keeping.{kept_is, outside_is}
 use Rattle.whole.specs.laws.Machine.{held}
-use Rattle.totals.specs.Gives.{nodes_most}
+use Rattle.slices.specs.OfTotals.Gives.{nodes_most}
 use Rattle.slices.proofs.Passing.{Passing, passing_none, passing_more, off_at, kept_at, kept_all, kept_none}
 use Rattle.keeping.proofs.keep_slice.Statement.{statement}
 use Rattle.keeping.proofs.keep_slice.Tie as tie

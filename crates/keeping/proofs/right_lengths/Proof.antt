@@ -6,7 +6,7 @@ use lib.Dec.{eqb}
 use lib.ListN.{length}
 use lib.IntN.{ℤ}
 use borrow.Author.Tests.{eq-eqb, ne_eqb}
-use Rattle.totals.specs.Gives.{nodes_most}
+use Rattle.slices.specs.OfTotals.Gives.{nodes_most}
 use Rattle.slices.specs.Slices.{right_lengths}
 use Rattle.keeping.proofs.right_lengths.Statement.{statement}
 use Rattle.keeping.proofs.right_lengths.Tie as tie

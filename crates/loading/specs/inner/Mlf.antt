@@ -2,7 +2,7 @@
 use Rattle.std.specs.Prelude.{List, T, Float}
 use Rattle.std.specs.Float.Ieee.{le}
 use Rattle.std.specs.Float.Ieee.Scale.{finite}
-use Rattle.clip.specs.Limits.{tenth}
+use Rattle.working.specs.OfClip.Limits.{tenth}
 use Rattle.loading.specs.Numbers.{mlf}
 
 pub record GoodMlf (x : List Float) : Type 0 where

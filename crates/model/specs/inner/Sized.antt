@@ -1,8 +1,8 @@
 -- A board's arrays are as long as they are declared; its voltages and totals are spoken of elsewhere.
 use Rattle.std.specs.Prelude.{◌≡◌, ◌*◌, length}
 use Rattle.name.specs.Name.{name_length}
-use Rattle.terms.specs.Rows.{roles, branches}
-use Rattle.deck.specs.Layout.{numbers_each, powers_each, ticks_each, switches_each}
+use Rattle.settle.specs.OfTerms.Rows.{roles, branches}
+use Rattle.settle.specs.OfDeck.Layout.{numbers_each, powers_each, ticks_each, switches_each}
 use Rattle.model.specs.Board.{Board}
 use Rattle.model.specs.Counts.{nodes_most, cards_most, transistors_most}
 

@@ -1,9 +1,9 @@
 -- Totals worked anew from what stands.
 use Rattle.std.specs.Prelude.{cond, List, ℕ, eqb, ℤ, pos}
-use Rattle.rows.specs.inner.FromTerms.{list_up}
-use Rattle.totals.specs.Gives.{nodes_most}
-use Rattle.totals.specs.Flow.{flow, sum_over}
-use Rattle.places.specs.Gathered.{Card, Transistor, worked_at}
+use Rattle.settle.specs.OfRows.inner.FromTerms.{list_up}
+use Rattle.settle.specs.OfTotals.Gives.{nodes_most}
+use Rattle.settle.specs.OfTotals.Flow.{flow, sum_over}
+use Rattle.settle.specs.OfPlaces.Gathered.{Card, Transistor, worked_at}
 
 -- what a place adds to node n: nothing where it is empty
 unfoldable pub place_gives : List Card → List ℤ → ℕ → Transistor → ℤ

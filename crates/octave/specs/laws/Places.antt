@@ -5,8 +5,8 @@ use Rattle.std.proofs.Common.{subst, ◌∙◌, inl, inr, add-one}
 use Rattle.std.proofs.Math.Nat.{add-mul-div_right, div-eq_of_lt-le, div-add-mod', mod-lt, div-le_of_le-mul}
 use native.Mathlib.Omega.{arith}
 use Rattle.std.proofs.Math.IntN.{pos, negsuc, nat_abs, sub_ℕ}
-use Rattle.whole.specs.laws.Biased.{below_or_not, sub_up, sub_down, sub_add, turned}
-use Rattle.whole.specs.Floor.{floor_div, floor_mod, floor_rest}
+use Rattle.quotients.specs.OfWhole.laws.Biased.{below_or_not, sub_up, sub_down, sub_add, turned}
+use Rattle.quotients.specs.OfWhole.Floor.{floor_div, floor_mod, floor_rest}
 use Rattle.volts.specs.Volts.{span}
 use Rattle.octave.specs.declared.Exponential.{Exponential}
 use Rattle.octave.specs.Table.{parts, mantissa_of, mantissa_size, IsMantissa}

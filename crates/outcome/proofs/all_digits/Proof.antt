@@ -1,7 +1,7 @@
 -- `all_digits` has looked at the first k rows.
 use Prim.Native.Nat.{◌≤◌, ◌-◌}
 use native.Mathlib.Omega.{arith}
-use Rattle.terms.specs.Rows.{branches}
+use Rattle.rows.specs.OfTerms.Rows.{branches}
 use Rattle.outcome.proofs.Loops.{MostTo, most_none, most_more, most_all}
 use borrow.Author.Rules.{rules}
 use Rattle.outcome.proofs.all_digits.Statement.{statement}

@@ -2,7 +2,7 @@
 use Prim.Native.Nat.{◌≤◌, ◌-◌}
 use native.Mathlib.Omega.{arith}
 use lib.ListN.{get_or}
-use Rattle.terms.specs.Rows.{branches}
+use Rattle.rows.specs.OfTerms.Rows.{branches}
 use Rattle.rows.proofs.Tests.{none_above, first_above, second_above}
 use Rattle.outcome.proofs.Loops.{Looked, looked_none, over_ticks_lem, over_injection, looked_more, looked_all}
 use borrow.Author.Rules.{rules}

@@ -1,7 +1,7 @@
 -- `outcome` meets its contract: ticks where no row overloads, else the first that does.
 use mathlib.Core.Path.{◌≡◌, sym, ◌∙◌}
 use Rattle.rows.specs.declared.Over.TheVariants.{Within}
-use Rattle.terms.specs.Rows.{branches}
+use Rattle.rows.specs.OfTerms.Rows.{branches}
 use Rattle.rows.specs.inner.FromTerms.{over_up}
 use Rattle.outcome.proofs.RowLaws.{fine}
 use Rattle.outcome.proofs.Loops.{outcome_within, outcome_ticks, outcome_injection}

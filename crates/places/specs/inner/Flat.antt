@@ -2,8 +2,8 @@
 -- highest, and who names a node.
 use Rattle.std.specs.Prelude.{Bool, false, cond, List, ℕ, ◌+◌, ◌*◌, eqb, get_or}
 use Rattle.name.specs.Name.{name_length}
-use Rattle.terms.specs.Rows.{roles}
-use Rattle.rows.specs.inner.FromTerms.{list_up}
+use Rattle.deck.specs.OfTerms.Rows.{roles}
+use Rattle.deck.specs.OfRows.inner.FromTerms.{list_up}
 use Rattle.deck.specs.Stretch.{stretch}
 use Rattle.deck.specs.Layout.{switches_each}
 use Rattle.given.specs.Lists.{any_of, largest}

@@ -1,8 +1,8 @@
 -- A place or none as a number, the next place of a set, and what joining and leaving the sets of nodes asks.
 use Rattle.std.specs.Prelude.{◌≡◌, true, false, List, ℕ, ◌≤◌, ◌<◌, length}
-use Rattle.terms.specs.Rows.{roles}
-use Rattle.totals.specs.Gives.{nodes_most}
-use Rattle.totals.specs.inner.Sums.{Wired}
+use Rattle.deck.specs.OfTerms.Rows.{roles}
+use Rattle.given.specs.OfTotals.Gives.{nodes_most}
+use Rattle.given.specs.OfTotals.inner.Sums.{Wired}
 use Rattle.given.specs.Arguments.{Found, none, some}
 use Rattle.places.specs.Counts.{transistors_most}
 use Rattle.places.specs.Sets.{member}

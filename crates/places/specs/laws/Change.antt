@@ -4,8 +4,8 @@ use Rattle.std.proofs.Common.{sym, ◌∙◌, arith, get_or-set_other}
 use Rattle.std.proofs.Math.Path.{ap}
 use Rattle.std.proofs.Math.Seq.{get_or-set_same}
 use Rattle.name.specs.Name.{name_length}
-use Rattle.terms.specs.Rows.{roles, branches}
-use Rattle.rows.specs.inner.FromTerms.{list_up}
+use Rattle.deck.specs.OfTerms.Rows.{roles, branches}
+use Rattle.deck.specs.OfRows.inner.FromTerms.{list_up}
 use Rattle.deck.specs.Stretch.{written}
 use Rattle.deck.specs.Layout.{numbers_each, powers_each, ticks_each, switches_each}
 use Rattle.deck.specs.Layout.{numbers_of, powers_of, ticks_of, switches_of}

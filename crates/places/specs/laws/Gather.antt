@@ -5,13 +5,13 @@ use Rattle.std.proofs.Common.{sym, ◌∙◌, zero-add, arith, ltb-true, ltb-fal
 use Rattle.std.proofs.Math.Bool.{cond}
 use Prim.Native.Nat.{ℕ, zero, suc, ◌+◌, ◌*◌, ◌<◌}
 use Rattle.std.proofs.Math.ListN.{get_or-eq_default}
-use Rattle.rows.specs.inner.FromTerms.{list_up}
+use Rattle.deck.specs.OfRows.inner.FromTerms.{list_up}
 use Rattle.deck.specs.Layout.{switches_each, ready_at}
 use Rattle.deck.specs.laws.Ups.{length_up, get_or_up}
 use Rattle.deck.specs.laws.Laid.{ready_joined, ready_close, ready_wide}
 use Rattle.given.specs.Lists.{any_of, larger, largest}
-use Rattle.card.specs.declared.WorkedCard.{WorkedCard}
-use Rattle.card.specs.Judge.{no_worked}
+use Rattle.deck.specs.OfCard.WorkedCard.{WorkedCard}
+use Rattle.deck.specs.OfCard.Judge.{no_worked}
 use Rattle.given.specs.Arguments.{none, ties_of}
 use Rattle.places.specs.Counts.{cards_most, transistors_most}
 use Rattle.places.specs.Gathered.{Card, card_in, cards_in, no_card, worked_at}

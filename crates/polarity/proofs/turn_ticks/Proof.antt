@@ -7,8 +7,8 @@ use native.Mathlib.Omega.{arith}
 use lib.ListN.{get_or}
 use lib.IntN.{pos}
 use borrow.Author.Rules.{rules}
-use Rattle.terms.specs.Rows.{branches}
-use Rattle.rows.specs.laws.Filled.{Filled, filled_none, filled_more, filled_map}
+use Rattle.outcome.specs.OfTerms.Rows.{branches}
+use Rattle.outcome.specs.OfRows.laws.Filled.{Filled, filled_none, filled_more, filled_map}
 use Rattle.polarity.specs.Polarity.{turned}
 use Rattle.polarity.proofs.Turned.{map_same, turned_fits, turned_is}
 use Rattle.polarity.proofs.turn_ticks.Statement.{statement}

@@ -6,8 +6,8 @@ use mathlib.Core.Path.{refl, sym, ap, ◌∙◌}
 use mathlib.Core.Bool.{Bool, true}
 use mathlib.Core.List.{map}
 use borrow.Author.Rules.{rules}
-use Rattle.terms.specs.Rows.{roles}
-use Rattle.rows.specs.laws.Filled.{Filled, filled_none, filled_more, filled_map}
+use Rattle.outcome.specs.OfTerms.Rows.{roles}
+use Rattle.outcome.specs.OfRows.laws.Filled.{Filled, filled_none, filled_more, filled_map}
 use Rattle.polarity.specs.inner.Turning.{kept_turned}
 use Rattle.polarity.proofs.Turned.{map_same}
 use Rattle.polarity.proofs.turn_volts.Statement.{statement}

@@ -1,7 +1,7 @@
 -- Turning over as the code does it: kept voltages, and ticks that are not near the ends of 64 bits.
 use Rattle.std.specs.Prelude.{Bool, true, false, List, ℕ, ◌-◌, ◌≤◌, get_or, ℤ, pos, nat_abs}
 use Rattle.volts.specs.Volts.{span}
-use Rattle.scaling.specs.Scaled.{tick_limit}
+use Rattle.outcome.specs.OfScaling.Scaled.{tick_limit}
 
 -- what is kept of a voltage, or of its opposite
 abbrev pub kept_turned : Bool → ℕ → ℕ

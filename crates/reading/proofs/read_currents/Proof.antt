@@ -9,7 +9,7 @@ use Rattle.given.specs.Arguments.{issue_of, some}
 use Rattle.places.specs.inner.Parts.{place_or}
 use Rattle.places.specs.inner.Flat.{first_at, number_place}
 use Rattle.places.specs.laws.Founds.{not_there, is_there}
-use Rattle.model.specs.Counts.{transistors_most}
+use Rattle.lending.specs.OfModel.Counts.{transistors_most}
 use Rattle.reading.proofs.Opens.{opens_none, opens_it}
 use Rattle.reading.proofs.read_currents.Statement.{statement}
 use Rattle.reading.proofs.read_currents.Tie as tie

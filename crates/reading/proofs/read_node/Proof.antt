@@ -13,7 +13,7 @@ use Rattle.volts.specs.Volts.{off_volts, kept_as, given_back}
 use Rattle.volts.specs.laws.Keeping.{given_back_at}
 use Rattle.given.specs.Lists.{any_of}
 use Rattle.given.specs.inner.Nodes.{node_of}
-use Rattle.model.specs.Counts.{nodes_most}
+use Rattle.lending.specs.OfModel.Counts.{nodes_most}
 use Rattle.slices.specs.Slices.{off_slices}
 use Rattle.slices.proofs.Keeping.{slices_off, slices_on, volts_long, totals_long, volts_on, all_back}
 use Rattle.lending.specs.inner.Lent.{state_with}

@@ -2,7 +2,7 @@
 use Rattle.std.specs.Prelude.{◌≡◌, Bool, false, cond, ◌||◌, ℕ, suc, ◌-◌, ◌^◌, ◌<◌, eqb, ltb}
 use Rattle.std.proofs.Math.IntN.{sub_ℕ}
 use Rattle.whole.specs.Scale.{held_at}
-use Rattle.quotients.specs.Quotient.{shifted_quotient}
+use Rattle.scaling.specs.OfQuotients.Quotient.{shifted_quotient}
 use Rattle.scaling.specs.Scaled.{part_places, tick_limit}
 use Rattle.reverse.specs.declared.Pair.{Pair}
 use Rattle.reverse.specs.Sum.{sum_limit, over_sum, sum_over}

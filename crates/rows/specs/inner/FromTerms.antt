@@ -4,7 +4,7 @@ use Rattle.std.proofs.Math.IntN.{sub_ℕ}
 use Rattle.quotients.specs.Quotient.{quotient_of}
 use Rattle.terms.specs.declared.Terms.{Terms}
 use Rattle.terms.specs.Rows.{branches}
-use Rattle.scaling.specs.Scaled.{tick_limit, ratio_limit}
+use Rattle.terms.specs.OfScaling.Scaled.{tick_limit, ratio_limit}
 use Rattle.rows.specs.declared.Over.{Over}
 use Rattle.rows.specs.declared.Over.TheVariants.{Within}
 use Rattle.rows.specs.declared.Outcome.{Outcome}

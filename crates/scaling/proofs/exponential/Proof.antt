@@ -1,6 +1,6 @@
 -- `scaling::exponential` meets its contract: the exponential of the difference of two kept voltages.
 use borrow.Author.Rules.{rules}
-use Rattle.volts.specs.laws.Keeping.{near_at}
+use Rattle.octave.specs.OfVolts.laws.Keeping.{near_at}
 use Rattle.scaling.proofs.Junctions.{junction_asked, junction_is}
 use Rattle.scaling.proofs.exponential.Statement.{statement}
 use Rattle.scaling.proofs.exponential.Tie as tie

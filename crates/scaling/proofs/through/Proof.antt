@@ -4,7 +4,7 @@ use Prim.Native.Nat.{◌*◌, ◌≤◌}
 use native.Mathlib.Nat.{mul-le-mul}
 use native.Mathlib.Omega.{arith}
 use borrow.Author.Rules.{rules}
-use Rattle.volts.specs.Volts.{span}
+use Rattle.octave.specs.OfVolts.Volts.{span}
 use Rattle.scaling.proofs.Scaling.{through_is}
 use Rattle.scaling.proofs.through.Statement.{statement}
 use Rattle.scaling.proofs.through.Tie as tie

@@ -1,8 +1,8 @@
 -- Products as the code has them, shifted down: right up to their limits, and above them only known to be above.
 use Rattle.std.specs.Prelude.{◌≡◌, List, ℕ, suc, ◌+◌, ◌-◌, ◌*◌, ◌/◌, ◌^◌, ◌≤◌, ◌<◌, ltb, length, ℤ}
 use Rattle.std.proofs.Math.IntN.{sub_ℕ}
-use Rattle.whole.specs.Scale.{held_at}
-use Rattle.volts.specs.Volts.{span, AllNear}
+use Rattle.octave.specs.OfWhole.Scale.{held_at}
+use Rattle.octave.specs.OfVolts.Volts.{span, AllNear}
 use Rattle.float.specs.declared.Split.{Split}
 use Rattle.float.specs.Split.{IsSplit}
 use Rattle.octave.specs.declared.Exponential.{Exponential}

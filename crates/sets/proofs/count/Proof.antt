@@ -3,10 +3,10 @@ use mathlib.Core.Path.{ap, ◌∙◌}
 use Prim.Native.Nat.{ℕ}
 use lib.Count.{ones}
 use borrow.Author.Rules.{rules}
-use Rattle.places.specs.Counts.{transistors_most}
-use Rattle.places.specs.Sets.{member}
-use Rattle.places.specs.laws.Members.{set_of_members}
-use Rattle.places.specs.laws.Walks.{ones_list}
+use Rattle.stretches.specs.OfPlaces.Counts.{transistors_most}
+use Rattle.stretches.specs.OfPlaces.Sets.{member}
+use Rattle.stretches.specs.OfPlaces.laws.Members.{set_of_members}
+use Rattle.stretches.specs.OfPlaces.laws.Walks.{ones_list}
 use Rattle.sets.proofs.count.Statement.{statement}
 use Rattle.sets.proofs.count.Tie as tie
 

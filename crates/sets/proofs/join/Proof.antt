@@ -5,9 +5,9 @@ use native.Mathlib.Omega.{arith}
 use lib.ListN.{get_or}
 use borrow.Author.Rules.{rules}
 use Rattle.terms.specs.Rows.{roles}
-use Rattle.totals.specs.Gives.{nodes_most}
-use Rattle.places.specs.Sets.{with_place}
-use Rattle.places.specs.laws.Members.{with_again}
+use Rattle.stretches.specs.OfTotals.Gives.{nodes_most}
+use Rattle.stretches.specs.OfPlaces.Sets.{with_place}
+use Rattle.stretches.specs.OfPlaces.laws.Members.{with_again}
 use Rattle.sets.proofs.Nodes.{Visited, visited_none, visited_more, visited_all}
 use Rattle.sets.proofs.join.Statement.{statement}
 use Rattle.sets.proofs.join.Tie as tie

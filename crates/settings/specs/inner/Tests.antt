@@ -3,10 +3,10 @@ use Rattle.std.specs.Prelude.{Bool, true, false, not, List, Float}
 use Rattle.std.specs.Float.Ieee.{eq}
 use Rattle.refusal.specs.declared.Refusal.{Refusal}
 use Rattle.refusal.specs.declared.Refusal.TheVariants.{WrongLevel, BadExsub, NegativeIcss, BadOctave}
-use Rattle.clip.specs.declared.Answer.{Answer}
-use Rattle.clip.specs.declared.Answer.TheVariants as answer
-use Rattle.loading.specs.Octave.{octave_good}
-use Rattle.loading.specs.Numbers.{level, level504, settings_good, icss_below, octave}
+use Rattle.octaves.specs.OfClip.Answer.{Answer}
+use Rattle.octaves.specs.OfClip.Answer.TheVariants as answer
+use Rattle.octaves.specs.OfLoading.Octave.{octave_good}
+use Rattle.octaves.specs.OfLoading.Numbers.{level, level504, settings_good, icss_below, octave}
 
 -- what comes after a test that passes, or the refusal that it draws
 abbrev pub unless_passed : Bool → Refusal → Answer → Answer

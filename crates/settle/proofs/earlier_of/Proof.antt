@@ -4,8 +4,8 @@ use mathlib.Core.Bool.{true, false}
 use Prim.Native.Nat.{ℕ, ◌≤◌, ◌<◌}
 use borrow.Author.Rules.{rules}
 use borrow.Author.Tests.{le-leb, lt-leb}
-use Rattle.rows.specs.declared.Over.{Over}
-use Rattle.rows.specs.Outcome.{is_over}
+use Rattle.places.specs.OfRowsTypes.Over.{Over}
+use Rattle.places.specs.OfRows.Outcome.{is_over}
 use Rattle.settle.specs.declared.First.{First}
 use Rattle.settle.specs.First.{earlier}
 use Rattle.settle.proofs.earlier_of.Statement.{statement}

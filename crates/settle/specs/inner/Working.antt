@@ -4,14 +4,14 @@ use Rattle.volts.specs.Volts.{given_back}
 use Rattle.octave.specs.Table.{entries}
 use Rattle.scaling.specs.Scaled.{tick_limit}
 use Rattle.card.specs.declared.WorkedCard.{WorkedCard}
-use Rattle.rows.specs.declared.Over.{Over}
-use Rattle.rows.specs.Outcome.{is_over}
-use Rattle.terms.specs.Rows.{roles, branches}
-use Rattle.totals.specs.Gives.{nodes_most}
-use Rattle.totals.specs.Flow.{over_at, ticks_at, ticks_give, sum_below, with_more}
-use Rattle.totals.specs.inner.Sums.{Within}
-use Rattle.deck.specs.Stretch.{stretch}
-use Rattle.slices.specs.Slices.{some_outside}
+use Rattle.places.specs.OfRowsTypes.Over.{Over}
+use Rattle.places.specs.OfRows.Outcome.{is_over}
+use Rattle.flows.specs.OfTerms.Rows.{roles, branches}
+use Rattle.places.specs.OfTotals.Gives.{nodes_most}
+use Rattle.places.specs.OfTotals.Flow.{over_at, ticks_at, ticks_give, sum_below, with_more}
+use Rattle.places.specs.OfTotals.inner.Sums.{Within}
+use Rattle.places.specs.OfDeck.Stretch.{stretch}
+use Rattle.small.specs.OfSlices.Slices.{some_outside}
 use Rattle.flows.specs.inner.Workable.{Volts, Deck, card_of, Able}
 use Rattle.places.specs.Counts.{transistors_most}
 use Rattle.places.specs.Sets.{member}

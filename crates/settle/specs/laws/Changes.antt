@@ -2,7 +2,7 @@
 use Rattle.std.specs.Prelude.{◌≡◌, refl, Bool, true, false, cond, List, ℕ, zero, suc, ◌<◌, ℤ, pos, ◌+ℤ◌}
 use Rattle.std.proofs.Common.{arith}
 use Rattle.card.specs.declared.WorkedCard.{WorkedCard}
-use Rattle.totals.specs.Flow.{sum_below}
+use Rattle.places.specs.OfTotals.Flow.{sum_below}
 use Rattle.settle.specs.Change.{change_by, changes}
 
 pub changes_same : (p q : ℕ → Bool) (c d : ℕ → WorkedCard) (on at : ℕ → List ℕ) (held own : ℕ → List ℤ) (will : List ℤ)

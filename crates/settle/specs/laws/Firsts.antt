@@ -9,8 +9,8 @@ use native.Mathlib.Omega.{arith}
 use Rattle.std.proofs.Math.Dec.{eqb}
 use borrow.Author.Tests.{eqb-true, eqb-false, leb-true, leb-false}
 use Rattle.refusal.specs.Clash.{clash}
-use Rattle.rows.specs.declared.Over.{Over}
-use Rattle.rows.specs.Outcome.{is_over}
+use Rattle.places.specs.OfRowsTypes.Over.{Over}
+use Rattle.places.specs.OfRows.Outcome.{is_over}
 use Rattle.settle.specs.declared.First.{First}
 use Rattle.settle.specs.First.{earlier, first_below}
 

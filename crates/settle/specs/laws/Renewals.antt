@@ -7,9 +7,9 @@ use Prim.Native.Nat.{ℕ, zero, suc, ◌+◌, ◌*◌, ◌≤◌, ◌<◌}
 use native.Mathlib.Omega.{arith}
 use Rattle.std.proofs.Math.ListN.{length}
 use Rattle.std.proofs.lemmas.Bool.{eqb-false}
-use Rattle.terms.specs.Rows.{branches}
-use Rattle.deck.specs.Stretch.{stretch, written}
-use Rattle.deck.specs.laws.Stretches.{length_written, stretch_written, stretch_apart}
+use Rattle.flows.specs.OfTerms.Rows.{branches}
+use Rattle.places.specs.OfDeck.Stretch.{stretch, written}
+use Rattle.places.specs.OfDeck.laws.Stretches.{length_written, stretch_written, stretch_apart}
 use Rattle.settle.specs.Renewed.{renewed}
 
 module _ (worked : ℕ → Bool) (new : ℕ → List ℤ) (held : List ℤ) where

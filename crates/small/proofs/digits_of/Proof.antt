@@ -1,7 +1,7 @@
 -- `digits_of` has the digits of the first k numbers.
 use Rattle.std.proofs.Common.{◌≡◌, ◌-◌, ◌≤◌, get_or, pos, arith, rules}
 use Rattle.whole.specs.laws.Machine.{held}
-use Rattle.totals.specs.Gives.{nodes_most}
+use Rattle.slices.specs.OfTotals.Gives.{nodes_most}
 use Rattle.small.proofs.Small.{SmallTo, small_none, small_more, small_all}
 use Rattle.small.proofs.digits_of.Statement.{statement}
 use Rattle.small.proofs.digits_of.Tie as tie

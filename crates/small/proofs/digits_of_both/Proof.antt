@@ -1,7 +1,7 @@
 -- `digits_of_both` has the digits of the first k numbers of either list.
 use Rattle.std.proofs.Common.{◌≡◌, ◌-◌, ◌≤◌, get_or, pos, arith, rules}
 use Rattle.whole.specs.laws.Machine.{held}
-use Rattle.totals.specs.Gives.{nodes_most}
+use Rattle.slices.specs.OfTotals.Gives.{nodes_most}
 use Rattle.small.proofs.Small.{SmallTo, small_none, small_beside, small_more, small_all}
 use Rattle.small.proofs.digits_of_both.Statement.{statement}
 use Rattle.small.proofs.digits_of_both.Tie as tie

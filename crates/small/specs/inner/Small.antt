@@ -1,6 +1,6 @@
 -- Numbers so small that a total, what comes in and less what goes out, stays within 64 bits.
 use Rattle.std.specs.Prelude.{ℕ, ◌^◌, ◌<◌, ◌≤◌, List, ℤ, pos, slice_index_or, unsigned_abs}
-use Rattle.totals.specs.Gives.{nodes_most}
+use Rattle.slices.specs.OfTotals.Gives.{nodes_most}
 
 -- three of this size are below 2^63 together
 abbrev pub small_most : ℕ

@@ -7,8 +7,8 @@ use lib.IntN.{pos, ◌+ℤ◌, ◌-ℤ◌}
 use borrow.Author.Rules.{rules}
 use Rattle.whole.specs.laws.Machine.{held}
 use Rattle.totals.specs.Gives.{nodes_most}
-use Rattle.slices.proofs.Passing.{Passing, passing_none, passing_more, would_at, out_at, out_by, in_by}
-use Rattle.slices.proofs.Passing.{stood_all, stood_none}
+use Rattle.small.proofs.OfSlices.Passing.{Passing, passing_none, passing_more, would_at, out_at, out_by, in_by}
+use Rattle.small.proofs.OfSlices.Passing.{stood_all, stood_none}
 use Rattle.standing.proofs.stand_each.Statement.{statement}
 use Rattle.standing.proofs.stand_each.Tie as tie
 

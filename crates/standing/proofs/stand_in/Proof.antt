@@ -4,7 +4,7 @@ use lib.ListN.{length}
 use borrow.Author.Rules.{rules}
 use borrow.Author.Tests.{not-true, not-false}
 use Rattle.totals.specs.Gives.{nodes_most}
-use Rattle.slices.proofs.Passing.{stood_long, stays_in, stands_in}
+use Rattle.small.proofs.OfSlices.Passing.{stood_long, stays_in, stands_in}
 use Rattle.standing.proofs.stand_in.Statement.{statement}
 use Rattle.standing.proofs.stand_in.Tie as tie
 

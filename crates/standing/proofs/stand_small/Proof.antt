@@ -5,7 +5,7 @@ use lib.ListN.{get_or}
 use lib.IntN.{pos}
 use borrow.Author.Rules.{rules}
 use Rattle.totals.specs.Gives.{nodes_most}
-use Rattle.slices.proofs.Passing.{Passing, passing_none, passing_more, would_at, out_at, stood_all}
+use Rattle.small.proofs.OfSlices.Passing.{Passing, passing_none, passing_more, would_at, out_at, stood_all}
 use Rattle.small.specs.inner.Small.{SmallNode}
 use Rattle.standing.proofs.Small.{node_small, sum_inside, node_held, sum_held}
 use Rattle.standing.proofs.stand_small.Statement.{statement}

@@ -11,7 +11,7 @@ use mir.Val.{SFits}
 use borrow.Author.Rules.{rules}
 use Rattle.whole.specs.laws.Biased.{below_or_not}
 use Rattle.totals.specs.Gives.{nodes_most}
-use Rattle.slices.proofs.Passing.{still_all}
+use Rattle.small.proofs.OfSlices.Passing.{still_all}
 use Rattle.standing.proofs.stand_still.Statement.{statement}
 use Rattle.standing.proofs.stand_still.Tie as tie
 

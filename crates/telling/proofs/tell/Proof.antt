@@ -4,7 +4,7 @@ use mir.Syntax.{w64}
 use mir.ValLaws.{to_z-of_z}
 use borrow.Author.Rules.{rules}
 use Rattle.page.proofs.Pages.{as_bytes, write_nothing}
-use Rattle.answers.specs.Answers.{answerLine}
+use Rattle.answers.specs.Answers.{answer_line}
 use Rattle.telling.specs.Said.{node_number, said_of}
 use Rattle.telling.proofs.Written.{as_reading_lem}
 use Rattle.telling.proofs.tell.Tie as tie
@@ -14,13 +14,13 @@ returns : tie.Need-returns-in-Issue
 unfolding said_of
 returns c =
     let i = c.before.before.before in
-    rw i.in-Issue.is (as_bytes (ap answerLine i.issued.ensures) c.put_answer.ensures)
+    rw i.in-Issue.is (as_bytes (ap answer_line i.issued.ensures) c.put_answer.ensures)
 
 returns_2 : tie.Need-returns-in-Done
 unfolding said_of
 returns_2 c =
     let d = c.before.before.before in
-    rw d.in-Done.is (as_bytes (ap answerLine d.done.ensures) c.put_answer-in-Done.ensures)
+    rw d.in-Done.is (as_bytes (ap answer_line d.done.ensures) c.put_answer-in-Done.ensures)
 
 returns_3 : tie.Need-returns-in-Node
 unfolding said_of

@@ -1,13 +1,13 @@
 -- What is worked once for a card, and what working its terms asks.
 use Rattle.std.specs.Prelude.{◌≡◌, List, ℕ, length}
-use Rattle.volts.specs.Volts.{AllNear}
-use Rattle.octave.specs.Table.{entries}
-use Rattle.octave.specs.Exponential.{exponential_of}
-use Rattle.octave.specs.inner.Reciprocal.{reciprocal_of, no_reciprocal}
-use Rattle.card.specs.declared.WorkedCard.{WorkedCard}
-use Rattle.card.specs.Judge.{no_worked}
-use Rattle.card.specs.inner.Worked.{IsWorked}
-use Rattle.scaling.specs.inner.Shifts.{alone_of}
+use Rattle.reverse.specs.OfVolts.Volts.{AllNear}
+use Rattle.reverse.specs.OfOctave.Table.{entries}
+use Rattle.reverse.specs.OfOctave.Exponential.{exponential_of}
+use Rattle.reverse.specs.OfOctave.inner.Reciprocal.{reciprocal_of, no_reciprocal}
+use Rattle.card_laws.specs.OfCard.WorkedCard.{WorkedCard}
+use Rattle.card_laws.specs.OfCard.Judge.{no_worked}
+use Rattle.card_laws.specs.OfCard.inner.Worked.{IsWorked}
+use Rattle.reverse.specs.OfScaling.inner.Shifts.{alone_of}
 use Rattle.terms.specs.declared.Ready.{Ready}
 use Rattle.terms.specs.Rows.{roles}
 use Rattle.terms.specs.Values.{doubled_octave, knee_volts}

@@ -1,13 +1,13 @@
 -- The rows' T's and ratios as the code has them: right up to their limits, and above them only known to be above.
 use Rattle.std.specs.Prelude.{◌≡◌, false, ◌||◌, List, [], ◌∷◌, ℕ, suc, ◌^◌, ◌<◌, length, get_or, ℤ}
 use Rattle.std.proofs.Math.IntN.{sub_ℕ}
-use Rattle.volts.specs.Volts.{AllNear}
+use Rattle.reverse.specs.OfVolts.Volts.{AllNear}
 use Rattle.float.specs.declared.Split.{Split}
 use Rattle.float.specs.Split.{IsSplit}
-use Rattle.scaling.specs.Scaled.{value_at, times, whole_number, whole_ticks, tick_limit, ratio_limit}
-use Rattle.scaling.specs.inner.Shifts.{UpTo}
-use Rattle.card.specs.declared.WorkedCard.{WorkedCard}
-use Rattle.card.specs.inner.Worked.{IsWorked}
+use Rattle.reverse.specs.OfScaling.Scaled.{value_at, times, whole_number, whole_ticks, tick_limit, ratio_limit}
+use Rattle.reverse.specs.OfScaling.inner.Shifts.{UpTo}
+use Rattle.card_laws.specs.OfCard.WorkedCard.{WorkedCard}
+use Rattle.card_laws.specs.OfCard.inner.Worked.{IsWorked}
 use Rattle.terms.specs.declared.Terms.{Terms}
 use Rattle.terms.specs.declared.Leads.{Leads}
 use Rattle.reverse.specs.declared.Pair.{Pair}

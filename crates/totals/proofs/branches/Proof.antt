@@ -5,7 +5,7 @@ use native.Mathlib.Omega.{arith}
 use lib.ListN.{get_or}
 use lib.IntN.{pos}
 use borrow.Author.Rules.{rules}
-use Rattle.terms.specs.Rows.{roles, branches}
+use Rattle.ends.specs.OfTerms.Rows.{roles, branches}
 use Rattle.totals.specs.inner.Sums.{More, ends_give}
 use Rattle.whole.specs.laws.Machine.{held, held_is}
 use Rattle.totals.proofs.Amounts.{ends_none, ends_more, fair_next}

@@ -5,7 +5,7 @@ use native.Mathlib.Omega.{arith}
 use lib.ListN.{get_or}
 use lib.IntN.{pos}
 use borrow.Author.Rules.{rules}
-use Rattle.terms.specs.Rows.{roles}
+use Rattle.ends.specs.OfTerms.Rows.{roles}
 use Rattle.totals.specs.Gives.{nodes_most}
 use Rattle.totals.specs.inner.Sums.{More, spread}
 use Rattle.whole.specs.laws.Machine.{held, held_is}

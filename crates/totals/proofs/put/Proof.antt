@@ -2,7 +2,7 @@
 use mathlib.Core.Path.{sym, subst}
 use mathlib.Core.Bool.{false}
 use borrow.Author.Rules.{rules}
-use Rattle.terms.specs.Rows.{rows_for, roles}
+use Rattle.ends.specs.OfTerms.Rows.{rows_for, roles}
 use Rattle.totals.specs.inner.Sums.{Wired}
 use Rattle.totals.proofs.Roles.{wired_froms, wired_tos, room_nothing, amounts_within, amounts_out}
 use Rattle.totals.proofs.put.Statement.{statement}

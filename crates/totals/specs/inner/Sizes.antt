@@ -2,8 +2,8 @@
 -- what they have.
 use Rattle.std.specs.Prelude.{ℕ, suc, ◌+◌, ◌*◌, ◌-◌}
 use Rattle.whole.specs.Signed.{signed_span}
-use Rattle.scaling.specs.Scaled.{tick_limit}
-use Rattle.terms.specs.Rows.{roles, branches}
+use Rattle.ends.specs.OfScaling.Scaled.{tick_limit}
+use Rattle.ends.specs.OfTerms.Rows.{roles, branches}
 
 -- what a transistor gives to a node, or has at a role: a branch counts once there
 abbrev pub flow_most : ℕ

@@ -2,8 +2,8 @@
 -- each role to its node.
 use Rattle.std.specs.Prelude.{◌≡◌, List, ℕ, zero, suc, ◌≤◌, ◌<◌, get_or, length, ℤ, pos, nat_abs, ◌+ℤ◌, ◌-ℤ◌}
 use Rattle.std.proofs.Common.{sym, ◌∙◌, ext_get_or}
-use Rattle.scaling.specs.Scaled.{tick_limit}
-use Rattle.terms.specs.Rows.{roles, branches}
+use Rattle.ends.specs.OfScaling.Scaled.{tick_limit}
+use Rattle.ends.specs.OfTerms.Rows.{roles, branches}
 use Rattle.totals.specs.Gives.{nodes_most, at_node}
 use Rattle.totals.specs.inner.Sizes.{room_most}
 

@@ -1,13 +1,13 @@
 -- `values::all_terms` meets its contract: each term with the exponential that it names, worked once; row by row.
 use lib.Dec.{lit<, lit≤}
 use borrow.Author.Rules.{rules}
-use Rattle.terms.specs.Rows.{row1, row2, row3, row4, row5, row6, row7, row8}
-use Rattle.terms.specs.Rows.{row9, row10, row11, row12, row13}
-use Rattle.terms.specs.inner.Terms.{none, more}
-use Rattle.scaling.proofs.Scaling.{upto_zero}
-use Rattle.terms.proofs.Readied.{Splits, splits, plain_octave, second_octave}
-use Rattle.terms.proofs.Readied.{own_bulk, own_side, own_nonideal, own_ex, own_sf}
-use Rattle.terms.proofs.Readied.{plain_junction, second_junction, ticks_at_lem, parts_at}
+use Rattle.apart.specs.OfTerms.Rows.{row1, row2, row3, row4, row5, row6, row7, row8}
+use Rattle.apart.specs.OfTerms.Rows.{row9, row10, row11, row12, row13}
+use Rattle.apart.specs.OfTerms.inner.Terms.{none, more}
+use Rattle.apart.proofs.OfScaling.Scaling.{upto_zero}
+use Rattle.apart.proofs.OfTerms.Readied.{Splits, splits, plain_octave, second_octave}
+use Rattle.apart.proofs.OfTerms.Readied.{own_bulk, own_side, own_nonideal, own_ex, own_sf}
+use Rattle.apart.proofs.OfTerms.Readied.{plain_junction, second_junction, ticks_at_lem, parts_at}
 use Rattle.values.proofs.all_terms.Statement.{statement}
 use Rattle.values.proofs.all_terms.Tie as tie
 

@@ -8,7 +8,7 @@ use borrow.Author.Rules.{rules}
 use borrow.Author.Tests.{eqb-true}
 use Rattle.float.specs.declared.Split.{Split}
 use Rattle.float.specs.Split.{IsSplit}
-use Rattle.card.specs.declared.WorkedCard.{WorkedCard}
+use Rattle.terms.specs.OfCard.WorkedCard.{WorkedCard}
 use Rattle.terms.specs.Rows.{roles}
 use Rattle.terms.specs.inner.Terms.{Lead, Wired}
 use Rattle.terms.proofs.Readied.{splits}

@@ -5,8 +5,8 @@ use mathlib.Core.List.{List}
 use lib.Ieee.{Float}
 use borrow.Author.Rules.{rules}
 use Rattle.refusal.specs.Order.{tells}
-use Rattle.loading.specs.Octave.{octave_good}
-use Rattle.loading.specs.Numbers.{octave}
+use Rattle.drawn.specs.OfLoading.Octave.{octave_good}
+use Rattle.drawn.specs.OfLoading.Numbers.{octave}
 use Rattle.card.specs.Judge.{reach_of, judge_numbers}
 use Rattle.card.proofs.Chain.{goes_on, stops}
 use Rattle.card.proofs.judging.judge_numbers.Statement.{statement}

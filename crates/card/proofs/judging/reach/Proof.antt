@@ -5,12 +5,12 @@ use mathlib.Core.List.{List}
 use lib.Ieee.{Float}
 use borrow.Author.Rules.{rules}
 use borrow.Author.Tests.{not-true, not-false}
-use Rattle.octaves.specs.declared.Octave.TheVariants.{Nanovolts}
-use Rattle.working.specs.Work.{worked_of, all_finite}
-use Rattle.loading.specs.Knee.{knee_good}
-use Rattle.loading.specs.Numbers.{vlr, product, parameters_of}
-use Rattle.octaves.specs.inner.Second.{second_of}
-use Rattle.loading.proofs.Product.{product_above, mlf_positive}
+use Rattle.settings.specs.OfOctaves.Octave.TheVariants.{Nanovolts}
+use Rattle.drawn.specs.OfWorking.Work.{worked_of, all_finite}
+use Rattle.drawn.specs.OfLoading.Knee.{knee_good}
+use Rattle.drawn.specs.OfLoading.Numbers.{vlr, product, parameters_of}
+use Rattle.settings.specs.OfOctaves.inner.Second.{second_of}
+use Rattle.drawn.proofs.OfLoading.Product.{product_above, mlf_positive}
 use Rattle.card.proofs.Chain.{second_out, knee_out, not_all, taken}
 use Rattle.card.proofs.judging.reach.Statement.{statement}
 use Rattle.card.proofs.judging.reach.Tie as tie

@@ -1,0 +1,3 @@
+-- What is handed on.
+pub mod OfScaling
+pub mod OfTerms

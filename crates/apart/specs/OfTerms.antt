@@ -1,0 +1,4 @@
+-- What of `terms` this crate hands on to those that do not list it.
+pub use Rattle.terms.specs.Rows
+pub use Rattle.terms.specs.Values
+pub use Rattle.terms.specs.inner

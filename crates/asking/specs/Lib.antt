@@ -1,0 +1,5 @@
+-- What each call that a command makes gives.
+pub mod Asked
+pub mod Unique
+pub mod OfBoard
+pub mod OfFetching

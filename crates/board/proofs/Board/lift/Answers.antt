@@ -1,0 +1,22 @@
+-- `lift` lends its arrays beside the slices, and what comes back is the next board.
+use mir.Syntax.{w64}
+use mir.ValLaws.{to_z-of_z}
+use Rattle.board.specs.Promise.{model_of}
+use Rattle.board.proofs.Reaches.{after_lift}
+use Rattle.board.proofs.Whole.{own_standing}
+use Rattle.board.proofs.Board.lift.Goals as goal
+
+pub lift-answer-requires : goal.lift-answer-requires
+lift-answer-requires c = (model_of c.args.self, c.requires, own_standing (model_of c.args.self))
+
+pub returns-clause-value : goal.returns-clause-value
+returns-clause-value c =
+    (after_lift c.args.self c.requires c.args.volts.now c.args.totals.now c.args.transistor
+    (to_z-of_z w64 c.args.transistor c.ranges.transistor)
+    (c.lift-answer.ensures (model_of c.args.self) c.requires (own_standing (model_of c.args.self)))).0
+
+pub returns-clause-reached : goal.returns-clause-reached
+returns-clause-reached c =
+    (after_lift c.args.self c.requires c.args.volts.now c.args.totals.now c.args.transistor
+    (to_z-of_z w64 c.args.transistor c.ranges.transistor)
+    (c.lift-answer.ensures (model_of c.args.self) c.requires (own_standing (model_of c.args.self)))).1.0

@@ -1,0 +1,18 @@
+-- `move_all` lends its arrays beside the slices, and what comes back is the next board.
+use Rattle.board.specs.Promise.{model_of}
+use Rattle.board.proofs.Reaches.{after_move}
+use Rattle.board.proofs.Whole.{own_lends}
+use Rattle.board.proofs.Board.move_all.Goals as goal
+
+pub move_all-answer-requires : goal.move_all-answer-requires
+move_all-answer-requires c = (model_of c.args.self, c.requires, own_lends (model_of c.args.self))
+
+pub returns-clause-value : goal.returns-clause-value
+returns-clause-value c =
+    (after_move c.args.self c.requires c.args.volts.now c.args.totals.now c.args.pairs.now
+    (c.move_all-answer.ensures (model_of c.args.self) c.requires (own_lends (model_of c.args.self)))).0
+
+pub returns-clause-reached : goal.returns-clause-reached
+returns-clause-reached c =
+    (after_move c.args.self c.requires c.args.volts.now c.args.totals.now c.args.pairs.now
+    (c.move_all-answer.ensures (model_of c.args.self) c.requires (own_lends (model_of c.args.self)))).1.0

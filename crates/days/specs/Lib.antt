@@ -1,0 +1,9 @@
+pub mod Perm
+pub mod Stands
+pub mod Fitted
+pub mod Numbers
+pub mod Promised
+pub mod Singly
+pub mod Rising
+pub mod Told
+pub mod Bare

@@ -1,0 +1,4 @@
+-- What is handed on.
+pub mod OfRows
+pub mod OfRowsTypes
+pub mod OfDeck

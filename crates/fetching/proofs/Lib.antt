@@ -1,0 +1,3 @@
+-- Laws over plain values that the proofs of functions cite.
+mod Laws
+pub mod OfBoard

@@ -1,0 +1,3 @@
+-- A card loaded from where it is written.
+pub mod Fetched
+pub mod OfBoard

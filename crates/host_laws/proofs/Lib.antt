@@ -1,0 +1,4 @@
+pub mod Unique
+pub mod Refused
+pub mod RefusedAsks
+pub mod InPlace

@@ -1,0 +1,2 @@
+mod Lifting
+mod Lent

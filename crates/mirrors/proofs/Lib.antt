@@ -1,0 +1,3 @@
+-- Theorems on polarity.
+pub mod Currents
+pub mod Totals

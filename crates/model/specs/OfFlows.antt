@@ -1,0 +1,2 @@
+-- What of `flows` this crate hands on to those that do not list it.
+pub use Rattle.settle.specs.OfFlows.Back

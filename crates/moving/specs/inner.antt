@@ -1,0 +1,2 @@
+-- Words of inner contracts: the answer to a move.
+pub mod Told

@@ -1,0 +1,2 @@
+-- Laws over plain values that the proofs of functions cite.
+mod Obeys

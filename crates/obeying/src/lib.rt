@@ -1,0 +1,69 @@
+// A command obeyed, but for what reads a file: whom it asks does what it says, and the answer is put to the bytes that
+// wait. Voltages and totals stand in two slices that are lent to the board.
+#![tactic(auto)]
+
+ghost use Rattle.evening.specs.OfBoard.Promise.{state_in, Reached};
+ghost use Rattle.obeying.specs.Obeyed.{obeyed_of, Obeys};
+
+use asks::Asks;
+pub use evening::board;
+use evening::board::Board;
+use page::ROOM;
+use script::{Command, MOST_BYTES};
+use shelving::MOST;
+use totals::NODES;
+
+// A command, by whether it may poke; the bytes that its hex digits spell begin `spelled`.
+pub fn obey(
+    board: Board,
+    volts: &mut [i64; NODES],
+    totals: &mut [i64; NODES],
+    pokes: bool,
+    c: Command,
+    line: &[u8],
+    spelled: &[u8; MOST_BYTES],
+    held: &mut [u8; MOST],
+    out: &mut [u8; ROOM],
+    at: &mut usize,
+) -> Board
+    requires { Reached board }
+    ensures obeys { Obeys (obeyed_of (state_in board volts.old totals.old) held.old
+        pokes c line.now spelled.now)
+        result volts.new totals.new held.new
+        out.old at.old out.new at.new }
+    ensures reached { Reached result }
+{
+    let words = c.words;
+    let v = c.numbers;
+    let verb = c.verb;
+    match asks::asked_by(verb) {
+        Asks::Board(call) => calling::make(
+            board,
+            volts,
+            totals,
+            call,
+            c,
+            line,
+            spelled,
+            shelving::held(held),
+            out,
+            at,
+        ),
+        Asks::Who => {
+            evening::list_node(board, v[0], out, at);
+            board
+        }
+        Asks::Sheet => {
+            evening::put_sheet(board, volts, totals, out, at);
+            board
+        }
+        Asks::Slices => {
+            poking::poke(pokes, c, line, volts, totals, out, at);
+            board
+        }
+        Asks::Apart(what) => {
+            shelving::obey_apart(what, words, line, held, out, at);
+            board
+        }
+    }
+}

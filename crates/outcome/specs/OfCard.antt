@@ -1,0 +1,2 @@
+-- What of `card` this crate hands on to those that do not list it.
+pub use Rattle.rows.specs.OfCard.WorkedCard

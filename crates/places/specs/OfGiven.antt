@@ -1,0 +1,5 @@
+-- What of `given` this crate hands on to those that do not list it.
+pub use Rattle.given.specs.Arguments
+pub use Rattle.given.specs.Lists
+pub use Rattle.given.specs.Pairs
+pub use Rattle.given.specs.inner

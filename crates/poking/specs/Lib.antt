@@ -1,0 +1,2 @@
+-- What a poke writes and says.
+pub mod Poked

@@ -1,0 +1,2 @@
+-- What of `lending` this crate hands on to the proofs of those that do not list it.
+pub use Rattle.lending.proofs.Footing

@@ -1,0 +1,2 @@
+-- What of `octave` this crate hands on to those that do not list it.
+pub use Rattle.scaling.specs.OfOctaveTypes.Exponential

@@ -1,0 +1,3 @@
+mod Insertion
+mod Listing
+pub mod Tells

@@ -1,0 +1,3 @@
+-- What of `card` this crate hands on to those that do not list it.
+pub use Rattle.terms.specs.OfCard.Judge
+pub use Rattle.terms.specs.OfCard.WorkedCard

@@ -1,0 +1,3 @@
+-- What of `scaling` this crate hands on to those that do not list it.
+pub use Rattle.terms.specs.OfScaling.Scaled
+pub use Rattle.terms.specs.OfScaling.inner

@@ -1,0 +1,3 @@
+-- The theorems over scripts.
+pub mod Own
+pub mod Scripts

@@ -1,0 +1,2 @@
+-- A script obeyed.
+pub mod Script

@@ -1,0 +1,3 @@
+mod PlacingTests
+mod Placing
+mod Lent

@@ -1,0 +1,2 @@
+-- What of `places` this crate hands on to the proofs of those that do not list it.
+pub use Rattle.places.proofs.Scans

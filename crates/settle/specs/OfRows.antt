@@ -1,0 +1,3 @@
+-- What of `rows` this crate hands on to those that do not list it.
+pub use Rattle.places.specs.OfRows.Outcome
+pub use Rattle.places.specs.OfRows.inner

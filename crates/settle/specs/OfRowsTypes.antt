@@ -1,0 +1,2 @@
+-- What of `rows` this crate hands on to those that do not list it.
+pub use Rattle.places.specs.OfRowsTypes.Over

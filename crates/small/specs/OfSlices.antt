@@ -1,0 +1,2 @@
+-- What of `slices` this crate hands on to those that do not list it.
+pub use Rattle.slices.specs.Slices

@@ -1,0 +1,2 @@
+-- What of `given` this crate hands on to those that do not list it.
+pub use Rattle.places.specs.OfGiven.Lists

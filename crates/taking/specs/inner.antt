@@ -1,0 +1,2 @@
+-- Words of the contracts: where loading's tests lead.
+pub mod Loading

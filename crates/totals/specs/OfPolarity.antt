@@ -1,0 +1,2 @@
+-- What of `polarity` this crate hands on to those that do not list it.
+pub use Rattle.polarity.specs.Polarity
