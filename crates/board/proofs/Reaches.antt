@@ -49,6 +49,12 @@ next_fits k = let h = (footing_reached k).footed.numbered in record { fits = ome
 handed_on : (l : Lent) {r : Answered} → r ≡ handed_as l → lending.Reached l.state.rest → Reached r.board
 handed_on l e k = subst (λ (x : Answered). Reached x.board) (sym e) k
 
+-- so that what any call gives is reached, whatever the slices hold
+pub reached_by : {b : Board} {r : Answered} → Reached b → (volts totals : List ℤ) (c : Call) →
+    r ≡ handed_as (lent_of (state_with (model_of b) volts totals) c) → Reached r.board
+reached_by {b} k volts totals c e =
+    handed_on (lent_of (state_with (model_of b) volts totals) c) e (one_more volts totals c k)
+
 -- ---- a fresh board
 
 fresh_there : (volts totals : List ℤ) (v : Verdict Answer) → (fresh_by volts totals v).state.rest ≡ fresh_rest
@@ -94,40 +100,37 @@ module _ (volts totals : List ℤ) {b : Board} (e : b ≡ board_of fresh_rest) {
 -- ---- calls that take no slices
 
 module _ {b : Board} {r : Answered} (k : Reached b) where
-  gives : (c : Call) → r ≡ handed_as (lent_of (state_with (model_of b) [] []) c) → Reached r.board
-  gives c e = handed_on (lent_of (state_with (model_of b) [] []) c) e (one_more [] [] c k)
-
   pub after_load : (name bytes : List ℕ) {a : model.Answered} → r ≡ given_as a →
       a ≡ loaded_of (bare (model_of b)) name bytes → Allows (loaded_of (bare (model_of b)) name bytes) r
   unfolding lent_of
-  after_load name bytes e d = let w = e ∙ ap given_as d in (w, gives (load name bytes) w)
+  after_load name bytes e d = let w = e ∙ ap given_as d in (w, reached_by k [] [] (load name bytes) w)
 
   pub after_withdraw : (n : ℤ) {a : model.Answered} → r ≡ given_as a → a ≡ withdrawn_of (bare (model_of b)) n →
       Allows (withdrawn_of (bare (model_of b)) n) r
   unfolding lent_of
-  after_withdraw n e d = let w = e ∙ ap given_as d in (w, gives (withdraw n) w)
+  after_withdraw n e d = let w = e ∙ ap given_as d in (w, reached_by k [] [] (withdraw n) w)
 
   pub after_look : (name : List ℕ) {a : model.Answered} → r ≡ given_as a → a ≡ looked_of (bare (model_of b)) name →
       Allows (looked_of (bare (model_of b)) name) r
   unfolding lent_of
-  after_look name e d = let w = e ∙ ap given_as d in (w, gives (look_up name) w)
+  after_look name e d = let w = e ∙ ap given_as d in (w, reached_by k [] [] (look_up name) w)
 
   pub after_currents : (n : ℤ) {a : model.Answered} → r ≡ given_as a → a ≡ opened_of (bare (model_of b)) n →
       Allows (opened_of (bare (model_of b)) n) r
   unfolding lent_of
-  after_currents n e d = let w = e ∙ ap given_as d in (w, gives (currents n) w)
+  after_currents n e d = let w = e ∙ ap given_as d in (w, reached_by k [] [] (currents n) w)
 
   pub after_sum : (n : ℤ) {a : model.Answered} → r ≡ given_as a → a ≡ summed_of (bare (model_of b)) n →
       Allows (summed_of (bare (model_of b)) n) r
   unfolding lent_of
-  after_sum n e d = let w = e ∙ ap given_as d in (w, gives (sum_up n) w)
+  after_sum n e d = let w = e ∙ ap given_as d in (w, reached_by k [] [] (sum_up n) w)
 
   pub after_list : (n : ℤ) (old : List ℕ) {new : List ℕ} {a : model.Answered} → r ≡ given_as a →
       a ≡ listed_of (bare (model_of b)) n (length old) →
       new ≡ over (listed_of (bare (model_of b)) n (length old)).list old →
       AllowsList (listed_of (bare (model_of b)) n (length old)) old r new
   unfolding lent_of
-  after_list n old e d l = let w = e ∙ ap given_as d in (w, (gives (who n (length old)) w, l))
+  after_list n old e d l = let w = e ∙ ap given_as d in (w, (reached_by k [] [] (who n (length old)) w, l))
 
 -- ---- calls that take them, from what was left in the arrays that were lent; a number is handed on as `given`
 
@@ -175,10 +178,3 @@ module _ (b : Board) (k : Reached b) (volts totals : List ℤ) where
   after_node n e {answer} l =
       let w = showed_lent_whole found n (l ∙ ap (λ (m : ℤ). (showed_lent found m).answer) e) in
       (w, handed_on (showed_lent found n) w (one_more volts totals (node n) k))
-
--- a pair handed on as another two numbers
-pub same_pair : (s : State) {r : Answered} {v t : List ℤ} {a b n microvolts : ℤ} → a ≡ n → b ≡ microvolts →
-    AllowsBoth (moved_lent s (a ∷ b ∷ [])) r v t → AllowsBoth (moved_lent s (n ∷ microvolts ∷ [])) r v t
-same_pair s {r} {v} {t} {a} {b} {n} e f p =
-    subst (λ (x : ℤ). AllowsBoth (moved_lent s (n ∷ x ∷ [])) r v t) f
-    (subst (λ (x : ℤ). AllowsBoth (moved_lent s (x ∷ b ∷ [])) r v t) e p)

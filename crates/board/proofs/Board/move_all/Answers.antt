@@ -1,6 +1,8 @@
 -- `move_all` lends its arrays beside the slices, and what comes back is the next board.
+use Rattle.model.specs.Desk.{move}
+use Rattle.reading.specs.OfLending.Lending.{lent_of}
 use Rattle.board.specs.Promise.{model_of}
-use Rattle.board.proofs.Reaches.{after_move}
+use Rattle.board.proofs.Reaches.{after_move, reached_by}
 use Rattle.board.proofs.Whole.{own_lends}
 use Rattle.board.proofs.Board.move_all.Goals as goal
 
@@ -13,6 +15,5 @@ returns-clause-value c =
     (c.move_all-answer.ensures (model_of c.args.self) c.requires (own_lends (model_of c.args.self)))).0
 
 pub returns-clause-reached : goal.returns-clause-reached
-returns-clause-reached c =
-    (after_move c.args.self c.requires c.args.volts.now c.args.totals.now c.args.pairs.now
-    (c.move_all-answer.ensures (model_of c.args.self) c.requires (own_lends (model_of c.args.self)))).1.0
+unfolding lent_of
+returns-clause-reached c = reached_by c.requires c.args.volts.now c.args.totals.now (move c.args.pairs.now) (returns-clause-value c)

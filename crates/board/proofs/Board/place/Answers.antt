@@ -5,8 +5,10 @@ use borrow.Author.Rules.{rules}
 use mir.Syntax.{w64}
 use mir.ValLaws.{to_z-of_z}
 use Rattle.terms.specs.Rows.{roles}
+use Rattle.model.specs.Desk.{place}
+use Rattle.reading.specs.OfLending.Lending.{lent_of}
 use Rattle.board.specs.Promise.{model_of}
-use Rattle.board.proofs.Reaches.{next_fits, after_place}
+use Rattle.board.proofs.Reaches.{next_fits, after_place, reached_by}
 use Rattle.board.proofs.Whole.{own_lends_places}
 use Rattle.board.proofs.Board.place.Goals as goal
 
@@ -24,8 +26,5 @@ returns-clause-value c =
     (c.place-answer.ensures (model_of c.args.self) c.requires (own_lends_places (model_of c.args.self)))).0
 
 pub returns-clause-reached : goal.returns-clause-reached
-returns-clause-reached c =
-    let long : length c.args.nodes ≡ roles = search rules in
-    (after_place c.args.self c.requires c.args.volts.now c.args.totals.now c.args.card c.args.nodes
-    long (to_z-of_z w64 c.args.card c.ranges.card)
-    (c.place-answer.ensures (model_of c.args.self) c.requires (own_lends_places (model_of c.args.self)))).1.0
+unfolding lent_of
+returns-clause-reached c = reached_by c.requires c.args.volts.now c.args.totals.now (place c.args.card c.args.nodes (search rules)) (returns-clause-value c)

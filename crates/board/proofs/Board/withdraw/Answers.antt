@@ -4,8 +4,11 @@ use mir.Syntax.{w64}
 use mir.ValLaws.{to_z-of_z}
 use Rattle.model.specs.Model.{withdrawn_of}
 use Rattle.reading.specs.OfLending.Rest.{bare}
+use mathlib.Core.List.{[]}
+use Rattle.model.specs.Desk.{withdraw}
+use Rattle.reading.specs.OfLending.Lending.{lent_of}
 use Rattle.board.specs.Promise.{model_of}
-use Rattle.board.proofs.Reaches.{after_withdraw}
+use Rattle.board.proofs.Reaches.{after_withdraw, reached_by}
 use Rattle.taking.proofs.OfHolding.Whole.{own_cards, withdrawn_whole}
 use Rattle.board.proofs.Board.withdraw.Goals as goal
 
@@ -17,8 +20,5 @@ returns-clause-value c =
     ∙ ap (withdrawn_of b) (to_z-of_z w64 c.args.card c.ranges.card))).0
 
 pub returns-clause-reached : goal.returns-clause-reached
-returns-clause-reached c =
-    let b = bare (model_of c.args.self) in
-    (after_withdraw c.requires c.args.card refl
-    (withdrawn_whole b _ (c.withdraw-answer.ensures b (own_cards b) refl refl)
-    ∙ ap (withdrawn_of b) (to_z-of_z w64 c.args.card c.ranges.card))).1
+unfolding lent_of
+returns-clause-reached c = reached_by c.requires [] [] (withdraw c.args.card) (returns-clause-value c)
