@@ -1,6 +1,7 @@
--- The refusals that tell a number alone.
-use mathlib.Core.Path.{◌≡◌, refl}
-use mathlib.Core.List.{[]}
+-- The refusals that tell a number alone, and those that tell who overloads in which branch.
+use mathlib.Core.Path.{◌≡◌, refl, sym, ap}
+use mathlib.Core.Logic.{◌⊎◌, inl, inr}
+use mathlib.Core.List.{[], ◌∷◌}
 use Prim.Native.Nat.{ℕ}
 use Rattle.refusal.specs.declared.Refusal.{Refusal}
 use Rattle.refusal.specs.declared.Refusal.TheVariants.{Malformed, BadName, NameTwice, NameNotHeld, ShortOutput}
@@ -35,3 +36,7 @@ no_values BadKey o j = refl
 no_values BadNumber o j = refl
 no_values KeyMissing o j = refl
 no_values BadLine o j = refl
+
+pub two_values : {f : Refusal} {i b : ℕ} → (f ≡ Overload i b) ⊎ (f ≡ Injection i b) → (i ∷ b ∷ []) ≡ values_of f
+two_values (inl e) = sym (ap values_of e)
+two_values (inr e) = sym (ap values_of e)

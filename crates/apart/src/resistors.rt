@@ -36,7 +36,7 @@ fn lead(g: Split, v: &[u32; ROLES], p: usize, q: usize) -> Pair
 fn none_of(a: u32, b: u32, c: u32, d: u32, e: u32) -> bool
     ensures { result ≡ eqb (a + b + c + d + e) 0 }
 {
-    a as u64 + b as u64 + c as u64 + d as u64 + e as u64 == 0
+    a == 0 && b == 0 && c == 0 && d == 0 && e == 0
 }
 
 // All five; a card that has none is left at once.

@@ -81,7 +81,7 @@ fn ask_reading(board: Board, volts: &[i64], totals: &[i64], what: Reads, number:
 }
 
 // Nodes moved together, by as many numbers as the line has.
-fn ask_moves(board: Board, volts: &mut [i64], totals: &mut [i64], list: Series) -> Answered
+fn ask_moves(board: Board, volts: &mut [i64], totals: &mut [i64], list: Option<Series>) -> Answered
     requires { Reached board }
     ensures value { result
         ≡ handed_as (moved_lent (state_in board volts.old totals.old) (pairs_in list)) }
@@ -91,8 +91,10 @@ fn ask_moves(board: Board, volts: &mut [i64], totals: &mut [i64], list: Series) 
     ensures totals_after { totals.new
         ≡ (moved_lent (state_in board volts.old totals.old) (pairs_in list)).state.totals }
 {
-    let numbers = list.numbers;
-    board.move_all(volts, totals, asks::first(&numbers, list.count))
+    match list {
+        Some(l) => board.move_all(volts, totals, asks::first(&l.numbers, l.count)),
+        None => board.move_all(volts, totals, &[]),
+    }
 }
 
 // A call of the board; the bytes that the line's hex digits spell begin `spelled`.
@@ -130,10 +132,7 @@ pub fn ask(
             )
         }
         Call::Change(what) => ask_change(board, volts, totals, what, v, words.count),
-        Call::Moves => {
-            let list = c.list;
-            ask_moves(board, volts, totals, list)
-        }
+        Call::Moves => ask_moves(board, volts, totals, c.list),
         Call::Read(what) => ask_reading(board, volts, totals, what, v[0]),
     }
 }

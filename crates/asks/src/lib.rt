@@ -1,7 +1,7 @@
 // Whom a command asks, and which of its numbers it hands over.
 #![tactic(auto)]
 
-ghost use Rattle.std.specs.Prelude.{◌≡◌, take, drop};
+ghost use Rattle.std.specs.Prelude.{◌≡◌, take};
 ghost use Rattle.asks.specs.Asks.{asks_of};
 ghost use Rattle.asks.specs.Numbers.{nodes_in};
 
@@ -103,20 +103,7 @@ pub fn asked_by(v: Verb) -> Asks
 pub fn first(numbers: &[i64], n: usize) -> &[i64]
     ensures { result.now ≡ take n numbers.now }
 {
-    if n < numbers.len() {
-        return &numbers[0..n];
-    }
-    numbers
-}
-
-// The numbers after the first.
-fn after_first(numbers: &[i64]) -> &[i64]
-    ensures { result.now ≡ drop 1 numbers.now }
-{
-    if numbers.len() == 0 {
-        return numbers;
-    }
-    &numbers[1..]
+    &numbers[..n.min(numbers.len())]
 }
 
 // The nodes that a placing names, after its card's number: of all roles where its line has the most words, else of
@@ -124,9 +111,11 @@ fn after_first(numbers: &[i64]) -> &[i64]
 pub fn nodes_in(numbers: &[i64], words: usize) -> &[i64]
     ensures { result.now ≡ nodes_in numbers.now words }
 {
-    let nodes = after_first(numbers);
-    if words == MOST_WORDS {
-        return first(nodes, ROLES);
-    }
-    first(nodes, FEW_ROLES)
+    let nodes = numbers.get(1..).unwrap_or_default();
+    let roles = if words == MOST_WORDS {
+        ROLES
+    } else {
+        FEW_ROLES
+    };
+    first(nodes, roles)
 }

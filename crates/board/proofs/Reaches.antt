@@ -9,16 +9,20 @@ use lib.IntN.{ℤ}
 use mir.Syntax.{w32}
 use mir.Val.{Fits}
 use Rattle.bytes_le.specs.Buffer.{over}
+use Rattle.std.specs.Prelude.{Result, Ok, Err}
+use Rattle.std.specs.Result.{result_and, result_unwrap_or}
+use Rattle.refusal.specs.declared.Refusal.{Refusal}
 use Rattle.refusal.specs.declared.Refusal.TheVariants.{OutOfRange}
 use Rattle.refusal.specs.Order.{Verdict, no, yes, refuse_if}
-use borrow.Author.Tests.{not-true, not-false}
 use Rattle.slices.specs.Slices.{other_length, Clears}
 use Rattle.terms.specs.Rows.{roles}
 use Rattle.model.specs.Board as model
 use Rattle.model.specs.declared.Answer.{Answer}
-use Rattle.model.specs.declared.Answer.TheVariants.{Done, Refused}
+use Rattle.model.specs.declared.Answer.TheVariants.{Done, Currents}
+use Rattle.model.specs.Answering.{answer_of}
 use Rattle.model.specs.Desk.{Call, load, place, move, lift, withdraw, look_up, node, currents, who, sum_up}
 use Rattle.model.specs.Model.{no_ticks, loaded_of, withdrawn_of, looked_of, opened_of, listed_of, summed_of}
+use Rattle.reading.specs.Reading.{told_currents, told_ticks}
 use Rattle.reading.specs.OfLending.Rest.{Rest, State, bare}
 use Rattle.reading.specs.OfLending.Lending.{Lent, fresh_rest, fresh_by, fresh_lent, placed_lent, moved_lent, lifted_lent}
 use Rattle.reading.specs.OfLending.Lending.{showed_lent, lent_of}
@@ -55,6 +59,17 @@ pub reached_by : {b : Board} {r : Answered} → Reached b → (volts totals : Li
 reached_by {b} k volts totals c e =
     handed_on (lent_of (state_with (model_of b) volts totals) c) e (one_more volts totals c k)
 
+-- ---- what reading a transistor comes to, by the library's words
+
+pub currents_so : (r : Result (List ℤ) Refusal) {x : Result Answer Refusal} → x ≡ result_and r (Ok Currents) →
+    answer_of x ≡ told_currents r
+currents_so (Ok ticks) e = rw e
+currents_so (Err f) e = rw e
+
+pub ticks_so : (r : Result (List ℤ) Refusal) → result_unwrap_or r no_ticks ≡ told_ticks r
+ticks_so (Ok ticks) = refl
+ticks_so (Err f) = refl
+
 -- ---- a fresh board
 
 fresh_there : (volts totals : List ℤ) (v : Verdict Answer) → (fresh_by volts totals v).state.rest ≡ fresh_rest
@@ -77,25 +92,28 @@ module _ (volts totals : List ℤ) {b : Board} (e : b ≡ board_of fresh_rest) {
         ),
       )
 
-  pub fresh_done : {good : Bool} → Clears volts totals good v t → good ≡ true →
-      AllowsBoth (fresh_lent volts totals) (record { board = b; answer = Done; ticks = no_ticks }) v t
+  pub fresh_so : {r : Result (Unit {0}) Refusal} → Clears volts totals r v t → {a : Answer} →
+      a ≡ answer_of (result_and r (Ok Done)) →
+      AllowsBoth (fresh_lent volts totals) (record { board = b; answer = a; ticks = no_ticks }) v t
   unfolding fresh_lent
-  fresh_done k g =
-      let on = not-true (other_length volts || other_length totals) (sym k.told ∙ g) in
-      by_verdict (yes Done)
-      (ap (λ (x : Bool). fresh_by volts totals (refuse_if x OutOfRange (yes Done))) on)
-      (ap (λ (x : Board). record { board = x; answer = Done; ticks = no_ticks }) e) (k.volts_are ∙ rw on)
-      (k.totals_are ∙ rw on)
+  fresh_so {r} k {a} f = go (other_length volts || other_length totals) refl
+    where
+      told : (x : Result (Unit {0}) Refusal) → r ≡ x → a ≡ answer_of (result_and x (Ok Done))
+      told x e = f ∙ ap (λ (y : Result (Unit {0}) Refusal). answer_of (result_and y (Ok Done))) e
 
-  pub fresh_refused : {good : Bool} → Clears volts totals good v t → good ≡ false →
-      AllowsBoth (fresh_lent volts totals) (record { board = b; answer = Refused OutOfRange; ticks = no_ticks }) v t
-  unfolding fresh_lent
-  fresh_refused k g =
-      let off = not-false (other_length volts || other_length totals) (sym k.told ∙ g) in
-      by_verdict (no OutOfRange)
-      (ap (λ (x : Bool). fresh_by volts totals (refuse_if x OutOfRange (yes Done))) off)
-      (ap (λ (x : Board). record { board = x; answer = Refused OutOfRange; ticks = no_ticks }) e) (k.volts_are ∙ rw off)
-      (k.totals_are ∙ rw off)
+      handed_so : {g : Answer} → a ≡ g →
+          ◌≡◌ {A = Answered} (record { board = b; answer = a; ticks = no_ticks })
+          (record { board = board_of fresh_rest; answer = g; ticks = no_ticks })
+      handed_so p = rw (p, e)
+
+      go : (off : Bool) → other_length volts || other_length totals ≡ off →
+          AllowsBoth (fresh_lent volts totals) (record { board = b; answer = a; ticks = no_ticks }) v t
+      go true o =
+          by_verdict (no OutOfRange) (ap (λ (x : Bool). fresh_by volts totals (refuse_if x OutOfRange (yes Done))) o)
+          (handed_so (told (Err OutOfRange) (k.told ∙ rw o))) (k.volts_are ∙ rw o) (k.totals_are ∙ rw o)
+      go false o =
+          by_verdict (yes Done) (ap (λ (x : Bool). fresh_by volts totals (refuse_if x OutOfRange (yes Done))) o)
+          (handed_so (told (Ok tt) (k.told ∙ rw o))) (k.volts_are ∙ rw o) (k.totals_are ∙ rw o)
 
 -- ---- calls that take no slices
 

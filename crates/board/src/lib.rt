@@ -12,15 +12,13 @@ ghost use Rattle.reading.specs.OfLending.Lending.{fresh_rest, fresh_lent, placed
 ghost use Rattle.board.specs.Promise.{model_of, board_of, state_in, given_as, handed_as, Reached};
 
 pub use model::Answer;
-use refusal::Refusal;
 use taking::holding;
 use terms::{BRANCHES, ROLES};
 
 // Flat arrays of numbers, so that each can be lent. The first six hold the cards by their places; then come the
 // transistors, with a set of their places for each node; what a move changes stands last.
-// A method that changes arrays on one side of `next` alone reads it and puts it back: there the compiler parts the
-// struct, and what does not change is not copied. `next` has 64 bits, though 32 hold every number, so that what follows
-// it begins at a multiple of eight: a part that begins between two is copied more often.
+// `next` has 64 bits, though 32 hold every number, so that what follows it begins at a multiple of eight: a part that
+// begins between two is copied more often.
 #[repr(C)]
 #[derive(Clone, Copy)]
 pub struct Board {
@@ -86,52 +84,37 @@ impl Board {
         ensures totals_after { totals.new ≡ (fresh_lent volts.old totals.old).state.totals }
     {
         let board = Board::empty();
-        let answer = if putting::clear(volts, totals) {
-            Answer::Done
-        } else {
-            Answer::Refused(Refusal::OutOfRange)
-        };
+        let cleared = putting::clear(volts, totals);
         Answered {
             board,
-            answer,
+            answer: model::answer_of(cleared.and(Ok(Answer::Done))),
             ticks: [0i64; BRANCHES],
         }
     }
 
     // A card under a name: 1, 2, 6, 7, 8, 19, 9, 10, 11, 17. It gets the next issue number.
+    // (written into its callers, which saves them a copy of the board: docs/HOST.md)
+    #[inline(always)]
     pub fn load(mut self, name: &[u8], bytes: &[u8]) -> Answered
         requires { Reached self }
         ensures value { result ≡ given_as (loaded_of (bare (model_of self)) name.now bytes.now) }
         ensures reached { Reached result.board }
     {
-        let mut numbers = self.numbers;
-        let mut powers = self.powers;
-        let mut ticks = self.ticks;
-        let mut switches = self.switches;
-        let mut names = self.names;
-        let mut held = self.held;
-        let mut issue = self.next as u32;
-        let answer = taking::load(
-            &mut numbers,
-            &mut powers,
-            &mut ticks,
-            &mut switches,
-            &mut names,
-            &mut held,
-            &mut issue,
-            name,
-            bytes,
+        let all = &mut self;
+        let numbers = &mut all.numbers;
+        let powers = &mut all.powers;
+        let ticks = &mut all.ticks;
+        let switches = &mut all.switches;
+        let names = &mut all.names;
+        let held = &mut all.held;
+        let mut issue = all.next as u32;
+        let loaded = taking::load(
+            numbers, powers, ticks, switches, names, held, &mut issue, name, bytes,
         );
-        self.numbers = numbers;
-        self.powers = powers;
-        self.ticks = ticks;
-        self.switches = switches;
-        self.names = names;
-        self.held = held;
         self.next = issue as u64;
         Answered {
             board: self,
-            answer,
+            answer: model::answer_of(loaded),
             ticks: [0i64; BRANCHES],
         }
     }
@@ -152,46 +135,27 @@ impl Board {
         ensures totals_after { totals.new ≡ (placed_lent (state_in self volts.now totals.old)
             card nodes).state.totals }
     {
-        let numbers = self.numbers;
-        let powers = self.powers;
-        let ticks = self.ticks;
-        let switches = self.switches;
-        let held = self.held;
-        let mut next = self.next as u32;
-        let mut issues = self.issues;
-        let mut cards = self.cards;
-        let mut seats = self.seats;
-        let mut on = self.nodes;
-        let mut naming = self.naming;
-        let mut currents = self.currents;
-        let answer = place_aside::place(
-            &mut issues,
-            &mut cards,
-            &mut seats,
-            &mut on,
-            &mut naming,
-            &mut currents,
-            &mut next,
-            &numbers,
-            &powers,
-            &ticks,
-            &switches,
-            &held,
-            volts,
-            totals,
-            card,
-            nodes,
+        let all = &mut self;
+        let numbers = &all.numbers;
+        let powers = &all.powers;
+        let ticks = &all.ticks;
+        let switches = &all.switches;
+        let held = &all.held;
+        let mut next = all.next as u32;
+        let issues = &mut all.issues;
+        let cards = &mut all.cards;
+        let seats = &mut all.seats;
+        let on = &mut all.nodes;
+        let naming = &mut all.naming;
+        let currents = &mut all.currents;
+        let placed = place_aside::place(
+            issues, cards, seats, on, naming, currents, &mut next, numbers, powers, ticks,
+            switches, held, volts, totals, card, nodes,
         );
         self.next = next as u64;
-        self.issues = issues;
-        self.cards = cards;
-        self.seats = seats;
-        self.nodes = on;
-        self.naming = naming;
-        self.currents = currents;
         Answered {
             board: self,
-            answer,
+            answer: model::answer_of(placed),
             ticks: [0i64; BRANCHES],
         }
     }
@@ -199,6 +163,8 @@ impl Board {
     // Nodes moved together, by a list of a node, its microvolts, a node, its microvolts and so on, the last pair of a
     // node holding: 13 for the slices, 1 where it is not 1 to 32 pairs, 13 for any pair, 15 or 18 where some transistor
     // would overload at the end, 10.
+    // (written into its callers, as `load` is)
+    #[inline(always)]
     pub fn move_all(mut self, volts: &mut [i64], totals: &mut [i64], pairs: &[i64]) -> Answered
         requires { Reached self }
         ensures value { result ≡ handed_as (moved_lent (state_in self volts.old totals.old)
@@ -209,25 +175,23 @@ impl Board {
         ensures totals_after { totals.new ≡ (moved_lent (state_in self volts.old totals.old)
             pairs.now).state.totals }
     {
-        let numbers = self.numbers;
-        let powers = self.powers;
-        let ticks = self.ticks;
-        let switches = self.switches;
-        let issues = self.issues;
-        let seats = self.seats;
-        let nodes = self.nodes;
-        let naming = self.naming;
-        let number = self.next;
-        let mut held = self.currents;
-        let answer = move_aside::move_all(
-            volts, totals, &mut held, &numbers, &powers, &ticks, &switches, &issues, &seats,
-            &nodes, &naming, pairs,
+        let all = &mut self;
+        let numbers = &all.numbers;
+        let powers = &all.powers;
+        let ticks = &all.ticks;
+        let switches = &all.switches;
+        let issues = &all.issues;
+        let seats = &all.seats;
+        let nodes = &all.nodes;
+        let naming = &all.naming;
+        let held = &mut all.currents;
+        let moved = move_aside::move_all(
+            volts, totals, held, numbers, powers, ticks, switches, issues, seats, nodes, naming,
+            pairs,
         );
-        self.next = number;
-        self.currents = held;
         Answered {
             board: self,
-            answer,
+            answer: model::answer_of(moved),
             ticks: [0i64; BRANCHES],
         }
     }
@@ -261,34 +225,19 @@ impl Board {
         ensures totals_after { totals.new ≡ (lifted_lent (state_in self volts.now totals.old)
             transistor).state.totals }
     {
-        let number = self.next;
-        let mut issues = self.issues;
-        let mut cards = self.cards;
-        let mut seats = self.seats;
-        let mut nodes = self.nodes;
-        let mut sets = self.naming;
-        let mut left = self.currents;
-        let answer = lift_aside::lift(
-            &mut issues,
-            &mut cards,
-            &mut seats,
-            &mut nodes,
-            &mut sets,
-            &mut left,
-            volts,
-            totals,
-            transistor,
+        let all = &mut self;
+        let issues = &mut all.issues;
+        let cards = &mut all.cards;
+        let seats = &mut all.seats;
+        let nodes = &mut all.nodes;
+        let sets = &mut all.naming;
+        let left = &mut all.currents;
+        let lifted = lift_aside::lift(
+            issues, cards, seats, nodes, sets, left, volts, totals, transistor,
         );
-        self.next = number;
-        self.issues = issues;
-        self.cards = cards;
-        self.seats = seats;
-        self.nodes = nodes;
-        self.naming = sets;
-        self.currents = left;
         Answered {
             board: self,
-            answer,
+            answer: model::answer_of(lifted),
             ticks: [0i64; BRANCHES],
         }
     }
@@ -299,34 +248,21 @@ impl Board {
         ensures value { result ≡ given_as (withdrawn_of (bare (model_of self)) card) }
         ensures reached { Reached result.board }
     {
-        let issues = self.issues;
-        let cards = self.cards;
-        let mut numbers = self.numbers;
-        let mut powers = self.powers;
-        let mut ticks = self.ticks;
-        let mut switches = self.switches;
-        let mut names = self.names;
-        let mut left = self.held;
-        let answer = holding::withdraw(
-            &mut numbers,
-            &mut powers,
-            &mut ticks,
-            &mut switches,
-            &mut names,
-            &mut left,
-            &issues,
-            &cards,
-            card,
+        let all = &mut self;
+        let issues = &all.issues;
+        let cards = &all.cards;
+        let numbers = &mut all.numbers;
+        let powers = &mut all.powers;
+        let ticks = &mut all.ticks;
+        let switches = &mut all.switches;
+        let names = &mut all.names;
+        let left = &mut all.held;
+        let withdrawn = holding::withdraw(
+            numbers, powers, ticks, switches, names, left, issues, cards, card,
         );
-        self.numbers = numbers;
-        self.powers = powers;
-        self.ticks = ticks;
-        self.switches = switches;
-        self.names = names;
-        self.held = left;
         Answered {
             board: self,
-            answer,
+            answer: model::answer_of(withdrawn),
             ticks: [0i64; BRANCHES],
         }
     }
@@ -337,12 +273,12 @@ impl Board {
         ensures value { result ≡ given_as (looked_of (bare (model_of self)) name.now) }
         ensures reached { Reached result.board }
     {
-        let held = self.held;
-        let names = self.names;
-        let answer = looking::look_up(&held, &names, name);
+        let held = &self.held;
+        let names = &self.names;
+        let found = looking::look_up(held, names, name);
         Answered {
             board: self,
-            answer,
+            answer: model::answer_of(found),
             ticks: [0i64; BRANCHES],
         }
     }
@@ -354,10 +290,10 @@ impl Board {
         ensures value { result ≡ handed_as (showed_lent (state_in self volts.now totals.now) node) }
         ensures reached { Reached result.board }
     {
-        let answer = reading::read_node(volts, totals, node);
+        let shown = reading::read_node(volts, totals, node);
         Answered {
             board: self,
-            answer,
+            answer: model::answer_of(shown),
             ticks: [0i64; BRANCHES],
         }
     }
@@ -368,15 +304,13 @@ impl Board {
         ensures value { result ≡ given_as (opened_of (bare (model_of self)) transistor) }
         ensures reached { Reached result.board }
     {
-        let standing = self.issues;
-        let currents = self.currents;
-        let reading = reading::read_currents(&standing, &currents, transistor);
-        let answer = reading.answer;
-        let ticks = reading.ticks;
+        let standing = &self.issues;
+        let currents = &self.currents;
+        let read = reading::read_currents(standing, currents, transistor);
         Answered {
             board: self,
-            answer,
-            ticks,
+            answer: model::answer_of(read.and(Ok(Answer::Currents))),
+            ticks: read.unwrap_or([0i64; BRANCHES]),
         }
     }
 
@@ -389,12 +323,12 @@ impl Board {
         ensures list_after { list.new
             ≡ over (listed_of (bare (model_of self)) node (length list.old)).list list.old }
     {
-        let given = self.issues;
-        let naming = self.naming;
-        let answer = roster::list_node(&given, &naming, node, list);
+        let given = &self.issues;
+        let naming = &self.naming;
+        let listed = roster::list_node(given, naming, node, list);
         Answered {
             board: self,
-            answer,
+            answer: model::answer_of(listed),
             ticks: [0i64; BRANCHES],
         }
     }
@@ -406,14 +340,14 @@ impl Board {
         ensures value { result ≡ given_as (summed_of (bare (model_of self)) node) }
         ensures reached { Reached result.board }
     {
-        let kinds = self.cards;
-        let nodes = self.nodes;
-        let naming = self.naming;
-        let currents = self.currents;
-        let answer = summary::sum_up(&kinds, &nodes, &naming, &currents, node);
+        let kinds = &self.cards;
+        let nodes = &self.nodes;
+        let naming = &self.naming;
+        let currents = &self.currents;
+        let summed = summary::sum_up(kinds, nodes, naming, currents, node);
         Answered {
             board: self,
-            answer,
+            answer: model::answer_of(summed),
             ticks: [0i64; BRANCHES],
         }
     }

@@ -1,20 +1,20 @@
 -- The voltages of the roles, kept one after the other: all of them, or none where one is outside its range.
 use mathlib.Core.Path.{◌≡◌, refl, sym, ap, subst, ◌∙◌}
-use mathlib.Core.Bool.{Bool, true, false, not, ◌||◌}
+use mathlib.Core.Bool.{Bool, true, false, cond, ◌||◌}
 use mathlib.Core.List.{List, [], ◌∷◌, map}
 use Prim.Native.Nat.{ℕ, zero, suc, ◌+◌, ◌≤◌, ◌<◌, zero-le}
 use mathlib.Core.Logic.{◌⊎◌, inl, inr}
 use native.Mathlib.Omega.{arith}
 use lib.ListN.{length, get_or, set}
 use lib.IntN.{ℤ, pos}
-use borrow.Author.Tests.{not-true, not-false}
+use Rattle.std.specs.Prelude.{Some, None}
+use Rattle.refusal.specs.Clash.{clash}
 use Rattle.whole.specs.laws.Biased.{below_or_not}
 use Rattle.volts.specs.Volts.{span, off_volts, some_off, kept_as, given_back, AllNear}
 use Rattle.volts.specs.laws.Keeping.{KeptIs, kept}
-use Rattle.branch.specs.declared.answering.Keeping.{Keeping}
 use Rattle.terms.specs.Rows.{roles}
 use Rattle.rows.specs.inner.FromTerms.{list_up}
-use Rattle.branch.specs.inner.Replied.{Keeps}
+use Rattle.branch.specs.inner.Replied.{all_kept}
 use Rattle.rows.specs.laws.Filled.{Filled, filled_none, filled_more, filled_all, up_map}
 use Rattle.rows.proofs.Tests.{never}
 
@@ -65,12 +65,9 @@ one_off (v ∷ volts) (suc k) h e = or_true (off_volts v) (one_off volts k (omeg
 
 -- ---- once they are
 
-module _ {volts : List ℤ} (long : length volts ≡ roles) where
-  pub keeps_all : {k : ℕ} {r : List ℕ} → roles ≤ k → KeptUp volts k r →
-      Keeps volts (record { within = true; volts = r })
-  keeps_all {k} {r} h up =
-      let on = none_off volts (λ i q. up.on i (omega arith)) in
-      record { within = ap not (sym on); kept = λ e. filled_all h up.filled ∙ all }
+module _ (volts : List ℤ) (long : length volts ≡ roles) where
+  pub keeps_all : {k : ℕ} {r : List ℕ} → roles ≤ k → KeptUp volts k r → Some r ≡ all_kept volts
+  keeps_all {k} {r} h up = rw (none_off volts (λ i q. up.on i (omega arith))) (ap Some (filled_all h up.filled ∙ all))
     where
       same : (i : ℕ) → get_or volts (0 + i) (pos 0) ≡ get_or volts i (pos 0)
       same i = let e : 0 + i ≡ i = omega arith in rw e
@@ -78,9 +75,8 @@ module _ {volts : List ℤ} (long : length volts ≡ roles) where
       all : list_up (λ (i : ℕ). kept_as (get_or volts i (pos 0))) roles 0 ≡ map kept_as volts
       all = rw (← long) (up_map kept_as (pos 0) volts volts 0 same)
 
-  pub keeps_none : {k : ℕ} {r : List ℕ} → k < roles → off_volts (get_or volts k (pos 0)) ≡ true →
-      Keeps volts (record { within = false; volts = r })
-  keeps_none {k} h e = record { within = ap not (sym (one_off volts k (omega arith) e)); kept = λ f. never (sym f) }
+  pub keeps_none : {k : ℕ} → k < roles → off_volts (get_or volts k (pos 0)) ≡ true → None ≡ all_kept volts
+  keeps_none {k} h e = rw (one_off volts k (omega arith) e)
 
 -- ---- what is kept comes back, and is near
 
@@ -97,15 +93,21 @@ near_each [] e k = zero-le
 near_each (v ∷ volts) e zero = (kept v (neither (off_volts v) (some_off volts) e).first).near
 near_each (v ∷ volts) e (suc k) = near_each volts (neither (off_volts v) (some_off volts) e).second k
 
-module _ {volts : List ℤ} {k : Keeping} (h : Keeps volts k) where
-  pub within_on : k.within ≡ true → some_off volts ≡ false
-  within_on w = not-true (some_off volts) (sym h.within ∙ w)
+-- what is kept of voltages that are all within their range, by the result of the code
+pub record Back (volts : List ℤ) (l : List ℕ) : Type 0 where
+  pub on : some_off volts ≡ false
+  pub back : map given_back l ≡ volts
+  pub near : AllNear l
 
-  pub outside_off : k.within ≡ false → some_off volts ≡ true
-  outside_off w = not-false (some_off volts) (sym h.within ∙ w)
-
-  pub within_back : k.within ≡ true → map given_back k.volts ≡ volts
-  within_back w = ap (map given_back) (h.kept w) ∙ back_all volts (within_on w)
-
-  pub within_near : k.within ≡ true → AllNear k.volts
-  within_near w = subst AllNear (sym (h.kept w)) (record { each = near_each volts (within_on w) })
+pub kept_back : (volts : List ℤ) {l : List ℕ} → all_kept volts ≡ Some l → Back volts l
+kept_back volts {l} e = go (some_off volts) refl e
+  where
+    go : (t : Bool) → some_off volts ≡ t → cond t None (Some (map kept_as volts)) ≡ Some l → Back volts l
+    go true o f = clash cc
+    go false o f =
+        let same : map kept_as volts ≡ l = cc in
+        record {
+          on = o;
+          back = ap (map given_back) (sym same) ∙ back_all volts o;
+          near = subst AllNear same (record { each = near_each volts o });
+        }

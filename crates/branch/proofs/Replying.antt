@@ -1,72 +1,43 @@
--- From an outcome, from kept voltages and from what loading says to a reply.
-use mathlib.Core.Path.{◌≡◌, refl, sym, ap, subst, ◌∙◌}
-use mathlib.Core.Bool.{true, false}
-use mathlib.Core.List.{List, map}
-use Prim.Native.Nat.{ℕ}
-use lib.IntN.{ℤ}
+-- From an outcome to its verdict, and from what loading says of a record to what is promised of a reply.
+use Rattle.std.proofs.Common.{◌≡◌, ap, List, ℕ, Some, Result, Ok, Err}
+use Rattle.std.specs.Prelude.{ℤ}
 use Rattle.refusal.specs.declared.Refusal.{Refusal}
-use Rattle.refusal.specs.declared.Refusal.TheVariants.{OutOfRange}
-use Rattle.refusal.specs.Order.{Verdict, no, yes, tells}
-use Rattle.volts.specs.Volts.{given_back}
+use Rattle.refusal.specs.Order.{no, yes, verdict, tells}
 use Rattle.card.specs.declared.WorkedCard.{WorkedCard}
-use Rattle.card.specs.Judge.{judge_of}
+use Rattle.card.specs.Judge.{judge_of, told_judged}
+use Rattle.card.specs.inner.Worked.{IsWorked}
+use Rattle.card_laws.specs.laws.Unique.{judged_card, judged_refused}
+use Rattle.card_laws.proofs.WorkedCards.{judged_is_worked}
 use Rattle.rows.specs.declared.Over.{Over}
-use Rattle.rows.specs.declared.Over.TheVariants.{Within}
-use Rattle.rows.specs.declared.Outcome.{Outcome}
-use Rattle.branch.specs.declared.Admission.TheVariants.{Given}
-use Rattle.branch.specs.declared.Reply.{Reply}
-use Rattle.branch.specs.declared.answering.Keeping.{Keeping}
-use Rattle.rows.specs.Outcome.{is_over, drawn_by}
-use Rattle.polarity.specs.Polarity.{outcome_of}
-use Rattle.branch.specs.Currents.{at_outcome, at_seen, at_volts, currents_of, told_reply, ticks_or, Replies}
-use Rattle.branch.specs.inner.Replied.{refused_reply, reply_of, Keeps}
-use Rattle.branch.proofs.Kept.{within_on, outside_off, within_back}
+use Rattle.rows.specs.Outcome.{Outcome, drawn_by}
+use Rattle.branch.specs.Currents.{at_outcome, at_volts, currents_of, ticks_or, Replies}
 
 -- ---- from an outcome
 
 module _ {x y : Outcome} (e : x ≡ y) where
-  pub reply_given : x.over ≡ Within →
-      ◌≡◌ {A = Reply} (record { admission = Given; ticks = x.ticks }) (reply_of (at_outcome y))
-  reply_given w = rw (← e, w)
+  pub at_within : {ticks : List ℤ} → x ≡ Ok ticks → yes ticks ≡ at_outcome y
+  at_within w = rw (← e, w)
 
-  pub reply_over : {r : Reply} {o : Over} → x.over ≡ o → is_over o ≡ true → r ≡ refused_reply (drawn_by 0 o) →
-      r ≡ reply_of (at_outcome y)
-  reply_over v w q = rw (← e, v, w) q
-
--- ---- from voltages
-
-module _ (c : WorkedCard) {volts : List ℤ} {k : Keeping} {r : Reply} (h : Keeps volts k) where
-  pub reply_within : k.within ≡ true → r ≡ reply_of (at_outcome (outcome_of c (map given_back k.volts))) →
-      r ≡ reply_of (at_seen c volts)
-  reply_within w q =
-      rw (within_on h w) (q ∙ ap (λ (l : List ℤ). reply_of (at_outcome (outcome_of c l))) (within_back h w))
-
-  pub reply_outside : k.within ≡ false → r ≡ refused_reply OutOfRange → r ≡ reply_of (at_seen c volts)
-  reply_outside w q = rw (outside_off h w) q
+  pub at_over : {o : Over} → x ≡ Err o → no (drawn_by 0 (Some o)) ≡ at_outcome y
+  at_over w = rw (← e, w)
 
 -- ---- from a record
 
-reply_tells : (v : Verdict (List ℤ)) → told_reply (reply_of v).admission (reply_of v).ticks ≡ tells v
-reply_tells (no f) = refl
-reply_tells (yes ticks) = refl
-
-reply_ticks : (v : Verdict (List ℤ)) → (reply_of v).ticks ≡ ticks_or v
-reply_ticks (no f) = refl
-reply_ticks (yes ticks) = refl
-
-replies : {bytes : List ℕ} {volts : List ℤ} {r : Reply} → r ≡ reply_of (currents_of bytes volts) →
+replies : {bytes : List ℕ} {volts : List ℤ} (r : Result (List ℤ) Refusal) → verdict r ≡ currents_of bytes volts →
     Replies bytes volts r
-replies {bytes} {volts} e =
-    let v = currents_of bytes volts in
-    subst (Replies bytes volts) (sym e) (record { answer = reply_tells v; ticks = reply_ticks v })
+replies (Ok ticks) e = record { answer = ap tells e; ticks = ap ticks_or e }
+replies (Err f) e = record { answer = ap tells e; ticks = ap ticks_or e }
 
-module _ {bytes : List ℕ} {r : Reply} where
-  pub replies_refused : {f : Refusal} {volts : List ℤ} → judge_of bytes ≡ no f → r ≡ refused_reply f →
-      Replies bytes volts r
-  unfolding currents_of
-  replies_refused e q = replies (rw e q)
+-- from loading's result j and the reply r
+module _ (bytes : List ℕ) {j : Result WorkedCard Refusal} (told : told_judged j ≡ tells (judge_of bytes)) where
+  pub is_worked : {c : WorkedCard} → j ≡ Ok c → IsWorked c
+  is_worked e = judged_is_worked bytes _ (judged_card _ told e)
 
-  pub replies_card : {c : WorkedCard} {volts : List ℤ} → judge_of bytes ≡ yes c → r ≡ reply_of (at_volts c volts) →
-      Replies bytes volts r
-  unfolding currents_of
-  replies_card e q = replies (rw e q)
+  module _ (volts : List ℤ) {r : Result (List ℤ) Refusal} where
+    pub replies_refused : {f : Refusal} → j ≡ Err f → r ≡ Err f → Replies bytes volts r
+    unfolding currents_of
+    replies_refused e q = replies r (rw (q, judged_refused (judge_of bytes) told e))
+
+    pub replies_card : {c : WorkedCard} → j ≡ Ok c → verdict r ≡ at_volts c volts → Replies bytes volts r
+    unfolding currents_of
+    replies_card e q = replies r (rw (judged_card (judge_of bytes) told e) q)

@@ -1,15 +1,14 @@
--- The facts about bytes and their numbers that the functions ask, over any width.
-use mathlib.Core.Path.{◌≡◌, refl, sym, ◌∙◌, ap, ap₂}
+-- The facts about bytes and their numbers that the loop over a number asks, over any width.
+use mathlib.Core.Path.{◌≡◌, refl, sym, ◌∙◌, ap}
 use mathlib.Core.List.{List, [], ◌∷◌}
-use Prim.Native.Nat.{ℕ, zero, suc, ◌+◌, ◌*◌, ◌-◌, ◌/◌, ◌%◌, ◌^◌, ◌<◌, ◌≤◌}
-use native.Mathlib.Nat.{pow-suc, pow-le-pow_right, one-le-pow, le_refl, lt_of_lt_of_le, le_of_suc-le-suc}
-use native.Mathlib.Nat.{not-suc-le-zero}
+use Prim.Native.Nat.{ℕ, zero, suc, ◌+◌, ◌*◌, ◌-◌, ◌^◌, ◌<◌, ◌≤◌}
+use native.Mathlib.Nat.{pow-suc, pow-le-pow_right, one-le-pow, le_refl, lt_of_lt_of_le}
 use native.Mathlib.Omega.{arith}
 use lib.ListN.{length, take, drop, get_or, length-drop, length-take, drop_of_length-le}
 use lib.Seq.{get_or-take, take_all}
 use lib.Arith.{digits_lt}
 use lib.Dec.{lit<}
-use Rattle.bytes_le.specs.Le.{le, bytes_of, Word}
+use Rattle.bytes_le.specs.Le.{le}
 
 -- the part of a slice from a place to its end
 pub rest : (s : List ℕ) (at : ℕ) → take (length s - at) (drop at s) ≡ drop at s
@@ -76,70 +75,3 @@ down_last {s} {w} {i} {x} d h =
     let g = rw e at d in
     let k : w - 0 ≡ w = omega arith in
     (g.value, rw k at g.bound)
-
--- ---- a word and its eight bytes
-
--- the first n elements, by their places
-abbrev firsts : ℕ → (ℕ → ℕ) → List ℕ
-firsts zero f = []
-firsts (suc n) f = f 0 ∷ firsts n (λ i. f (suc i))
-
-take_firsts : (n : ℕ) (s : List ℕ) → n ≤ length s → take n s ≡ firsts n (λ i. get_or s i 0)
-take_firsts zero s h = refl
-take_firsts (suc n) [] h = absurd (not-suc-le-zero h)
-take_firsts (suc n) (x ∷ s) h = ap (λ (l : List ℕ). x ∷ l) (take_firsts n s (le_of_suc-le-suc h))
-
--- one byte more in front of a number
-front : (w b x : ℕ) → b < 256 → bytes_of (suc w) (b + 256 * x) ≡ b ∷ bytes_of w x
-front w b x h =
-    let m : (b + 256 * x) % 256 ≡ b = omega arith in
-    let d : (b + 256 * x) / 256 ≡ x = omega arith in
-    ap₂ (λ (y z : ℕ). y ∷ bytes_of w z) m d
-
-pub short_word : (s : List ℕ) (x : ℕ) → length s < 8 → x ≡ le (take 8 s) → Word s x
-short_word s x h e = record { value = e; bytes = λ l. absurd (omega arith) }
-
--- past the end there is no byte
-pub no_word : (s : List ℕ) (at : ℕ) → length s ≤ at → Word (drop at s) 0
-no_word s at h = rw (drop_of_length-le s h) (short_word [] 0 (lit< tt) refl)
-
-module _ (s : List ℕ) (b₀ b₁ b₂ b₃ b₄ b₅ b₆ b₇ : ℕ)
-    (p₀ : (b₀ ≡ get_or s 0 0) × (b₀ < 256)) (p₁ : (b₁ ≡ get_or s 1 0) × (b₁ < 256)) (p₂ : (b₂ ≡ get_or s 2 0) × (b₂ < 256))
-    (p₃ : (b₃ ≡ get_or s 3 0) × (b₃ < 256))
-    (p₄ : (b₄ ≡ get_or s 4 0) × (b₄ < 256)) (p₅ : (b₅ ≡ get_or s 5 0) × (b₅ < 256))
-    (p₆ : (b₆ ≡ get_or s 6 0) × (b₆ < 256)) (p₇ : (b₇ ≡ get_or s 7 0) × (b₇ < 256)) (h : 8 ≤ length s) where
-  eight : List ℕ
-  eight = b₀ ∷ b₁ ∷ b₂ ∷ b₃ ∷ b₄ ∷ b₅ ∷ b₆ ∷ b₇ ∷ []
-
-  are_eight : take 8 s ≡ eight
-  unfolding eight
-  are_eight = take_firsts 8 s h ∙ rw (← p₀.0, ← p₁.0, ← p₂.0, ← p₃.0, ← p₄.0, ← p₅.0, ← p₆.0, ← p₇.0)
-
-  pub whole_word : (x : ℕ)
-      → x ≡ b₀ + 0x100 * b₁ + 0x10000 * b₂ + 0x1000000 * b₃
-      + 0x100000000 * (b₄ + 0x100 * b₅ + 0x10000 * b₆ + 0x1000000 * b₇)
-      → Word s x
-  unfolding eight
-  whole_word x e =
-      let n₇ = b₇ + 256 * 0 in
-      let n₆ = b₆ + 256 * n₇ in
-      let n₅ = b₅ + 256 * n₆ in
-      let n₄ = b₄ + 256 * n₅ in
-      let n₃ = b₃ + 256 * n₄ in
-      let n₂ = b₂ + 256 * n₃ in
-      let n₁ = b₁ + 256 * n₂ in
-      let nested : x ≡ b₀ + 256 * n₁ = omega arith in
-      record {
-        value = nested ∙ sym (ap le are_eight);
-        bytes =
-            λ l. rw nested
-            (front 7 b₀ n₁ p₀.1 ∙ rw (
-              front 6 b₁ n₂ p₁.1,
-              front 5 b₂ n₃ p₂.1,
-              front 4 b₃ n₄ p₃.1,
-              front 3 b₄ n₅ p₄.1,
-              front 2 b₅ n₆ p₅.1,
-              front 1 b₆ n₇ p₆.1,
-              front 0 b₇ 0 p₇.1,
-            ) (sym are_eight));
-      }

@@ -1,4 +1,4 @@
-// A call of the board that a command makes, and its answer put to the bytes that wait.
+// A call of the board that a command makes, and its answer put on the page.
 #![tactic(auto)]
 
 ghost use Rattle.asking.specs.OfBoard.Promise.{state_in, Reached};
@@ -7,7 +7,7 @@ ghost use Rattle.calling.specs.Calls.{Calls};
 
 use asking::board::Board;
 use asks::Call;
-use page::ROOM;
+use page::{Page, ROOM};
 use script::{Command, MOST_BYTES};
 
 // A call of the board, and what is said of its answer; the bytes that the line's hex digits spell begin `spelled`.
@@ -20,20 +20,16 @@ pub fn make(
     line: &[u8],
     spelled: &[u8; MOST_BYTES],
     library: &[u8],
-    out: &mut [u8; ROOM],
-    at: &mut usize,
+    page: &mut Page<ROOM>,
 ) -> Board
     requires { Reached board }
     ensures calls { Calls (asked_of (state_in board volts.old totals.old) call c
         line.now spelled.now library.now) call c
         result volts.new totals.new
-        out.old at.old out.new at.new }
+        page.old page.new }
     ensures reached { Reached result }
 {
-    let v = c.numbers;
     let asked = asking::ask(board, volts, totals, call, c, line, spelled, library);
-    let answer = asked.answer;
-    let ticks = asked.ticks;
-    telling::tell(call, v[0], answer, &ticks, out, at);
+    telling::tell(call, c.numbers[0], asked.answer, &asked.ticks, page);
     asked.board
 }

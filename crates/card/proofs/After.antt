@@ -12,7 +12,7 @@ use Rattle.refusal.specs.declared.Refusal.{Refusal}
 use Rattle.refusal.specs.declared.Refusal.TheVariants.{Malformed, NotFinite}
 use Rattle.refusal.specs.Told.{told}
 use Rattle.refusal.specs.Order.{refuse_if, yes, tells, refused, passes_if}
-use Rattle.drawn.specs.OfClip.Answer.TheVariants as answer
+use Rattle.std.specs.Prelude.{Result, Ok, Err}
 use Rattle.drawn.specs.OfClip.Clipping.{Clipping}
 use Rattle.drawn.specs.OfClip.Numbers as number
 use Rattle.drawn.specs.OfClip.Limits.{zero, one, wide, narrow}
@@ -50,15 +50,15 @@ pub record Went (s : List ℕ) (x : List Float) : Type 0 where
   pub good : GoodMlf x
   pub next : judge_of s ≡ judge_numbers (spares_good s) x
 
-module _ {s : List ℕ} {r : Clipping} (c : Clips s r) where
-  pub went : r.answer ≡ answer.Taken → {x : List Float} → x ≡ filled_with (is_wide s) r.numbers → Went s x
+module _ {s : List ℕ} {r : Result Clipping Refusal} (c : Clips s r) where
+  pub went : {k : Clipping} → r ≡ Ok k → {x : List Float} → x ≡ filled_with (is_wide s) k.numbers → Went s x
   unfolding judge_of
-  went t ex =
+  went {k} t ex =
       let e = clip_taken (clip_of s) c.answer t in
-      let n : r.numbers ≡ padded_up s (width_of s) = rw e at c.numbers in
+      let n : k.numbers ≡ padded_up s (width_of s) = rw (t, e) at c.numbers in
       let j = ex ∙ ap (filled_with (is_wide s)) n ∙ filled_is s (is_wide s) in
       record { good = subst GoodMlf (sym j) (good_mlf s (is_wide s) (all_finite_lem s e)); next = rw (e, j) }
 
-  pub stays : (f : Refusal) → r.answer ≡ answer.Refused f → refused (told f) ≡ tells (judge_of s)
+  pub stays : (f : Refusal) → r ≡ Err f → refused (told f) ≡ tells (judge_of s)
   unfolding judge_of
   stays f t = rw (clip_refused (clip_of s) c.answer t)

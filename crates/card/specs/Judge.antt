@@ -1,6 +1,7 @@
 -- What loading says of a record: 1, 6, 7, 8, 19, 9, 10, or the worked card.
-use Rattle.std.specs.Prelude.{Bool, false, not, List, ℕ, Float}
+use Rattle.std.specs.Prelude.{Bool, false, not, Result, Ok, Err, List, ℕ, Float}
 use Rattle.std.specs.Float.Ieee.{eq}
+use Rattle.refusal.specs.declared.Refusal.{Refusal}
 use Rattle.refusal.specs.declared.Refusal.TheVariants.{WrongLevel, BadExsub, NegativeIcss, BadOctave, OutOfReach}
 use Rattle.refusal.specs.Told.{told}
 use Rattle.refusal.specs.Order.{Verdict, yes, refuse_if, and_then, Answer, refused, given}
@@ -15,8 +16,6 @@ use Rattle.drawn.specs.OfLoading.Numbers.{judged_numbers, has_leads, parameters_
 use Rattle.drawn.specs.OfLoading.Numbers.{polarity, minus_one, product, level504, spares_good, settings_good, icss_below}
 use Rattle.drawn.specs.OfLoading.Numbers.{within_reach}
 use Rattle.card.specs.declared.WorkedCard.{WorkedCard}
-use Rattle.card.specs.declared.Judged.{Judged}
-use Rattle.card.specs.declared.Judged.TheVariants.{Card, Refused}
 
 -- a card of fifteen worked values, each cut to a * 2^b, two octaves, V_Lr as it is kept, and five switches
 abbrev pub card_from : Worked → ℕ → ℕ → ℕ → Bool → Bool → Bool → Bool → Bool → WorkedCard
@@ -96,6 +95,6 @@ unfoldable pub judge_of : List ℕ → Verdict WorkedCard
 judge_of s = and_then (clip_of s) (λ t. judge_numbers (spares_good s) (judged_numbers s))
 
 -- what the answer tells
-abbrev pub told_judged : Judged → Answer WorkedCard
-told_judged (Card c) = given c
-told_judged (Refused f) = refused (told f)
+abbrev pub told_judged : Result WorkedCard Refusal → Answer WorkedCard
+told_judged (Ok c) = given c
+told_judged (Err f) = refused (told f)

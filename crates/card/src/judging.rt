@@ -6,13 +6,13 @@ ghost use Rattle.drawn.specs.OfLoading.Numbers.{octave};
 ghost use Rattle.card.specs.Judge.{card_from, reach_of, judge_numbers, told_judged};
 ghost use Rattle.drawn.specs.OfLoading.inner.Mlf.{GoodMlf};
 
-use crate::{Judged, WorkedCard};
-use drawn::clip::{Answer, WIDTH, numbers};
+use crate::WorkedCard;
+use drawn::clip::{WIDTH, numbers};
 use drawn::working;
 use drawn::working::Worked;
 use refusal::Refusal;
 use settings::octaves;
-use settings::octaves::{Octave, knee};
+use settings::octaves::knee;
 
 fn card(
     w: Worked,
@@ -55,47 +55,42 @@ fn card(
 }
 
 // 10, or the worked card.
-fn reach(x: &[f64; WIDTH]) -> Judged
+fn reach(x: &[f64; WIDTH]) -> Result<WorkedCard, Refusal>
     requires good_mlf { GoodMlf x.now }
     requires x_value { octave_good (octave x.now) ≡ true }
     ensures { told_judged result ≡ tells (reach_of x.now) }
 {
-    let Octave::Nanovolts(second) = octaves::second_of(x[numbers::MLF] * x[numbers::OCTAVE]) else {
-        return Judged::Refused(Refusal::OutOfReach);
-    };
+    let product = x[numbers::MLF] * x[numbers::OCTAVE];
+    let second = octaves::second_of(product).ok_or(Refusal::OutOfReach)?;
     if !knee::is_knee(x[numbers::VLR]) {
-        return Judged::Refused(Refusal::OutOfReach);
+        return Err(Refusal::OutOfReach);
     }
     let w = working::work(drawn::parameters(x));
-    if working::all_finite(w) {
-        let octave = octaves::nanovolts(x[numbers::OCTAVE]);
-        let polarity = x[numbers::POLARITY];
-        let vlr = x[numbers::VLR];
-        let raised = knee::microvolts(vlr);
-        Judged::Card(card(
-            w,
-            octave,
-            second,
-            raised,
-            x[numbers::EXSUB] == 1.0,
-            x[numbers::RCBLI] == 0.0,
-            polarity == settings::PNP,
-            x[numbers::RCBLX] == 0.0,
-            drawn::has_leads(x),
-        ))
-    } else {
-        Judged::Refused(Refusal::OutOfReach)
+    if !working::all_finite(w) {
+        return Err(Refusal::OutOfReach);
     }
+    let octave = octaves::nanovolts(x[numbers::OCTAVE]);
+    let polarity = x[numbers::POLARITY];
+    let vlr = x[numbers::VLR];
+    let raised = knee::microvolts(vlr);
+    Ok(card(
+        w,
+        octave,
+        second,
+        raised,
+        x[numbers::EXSUB] == 1.0,
+        x[numbers::RCBLI] == 0.0,
+        polarity == settings::PNP,
+        x[numbers::RCBLX] == 0.0,
+        drawn::has_leads(x),
+    ))
 }
 
 // 7, 8, 19, 9, 10, or the worked card.
-pub(crate) fn judge_numbers(x: &[f64; WIDTH], spares: bool) -> Judged
+pub(crate) fn judge_numbers(x: &[f64; WIDTH], spares: bool) -> Result<WorkedCard, Refusal>
     requires { GoodMlf x.now }
     ensures { told_judged result ≡ tells (judge_numbers spares x.now) }
 {
-    let wrong = settings::first_wrong(x, spares);
-    match wrong {
-        Answer::Taken => reach(x),
-        Answer::Refused(f) => Judged::Refused(f),
-    }
+    settings::first_wrong(x, spares)?;
+    reach(x)
 }

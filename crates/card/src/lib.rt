@@ -8,11 +8,11 @@ ghost use Rattle.card.specs.Judge.{judge_of, told_judged, no_worked};
 mod judging; // judging.rt: the tests of loading, in their order
 
 use drawn::clip;
-pub use drawn::clip::{Answer, Clipping, WIDTH, clip, right_length};
+pub use drawn::clip::{Clipping, WIDTH, clip, right_length};
 use refusal::Refusal;
 
 // What the branches need of a card: fifteen values as a * 2^b, the two octaves in nanovolts, V_Lr, and five switches.
-#[derive(Clone, Copy)]
+#[derive(Clone, Copy, Default)]
 pub struct WorkedCard {
     pub sn: float::Split,
     pub bulk: float::Split,
@@ -47,56 +47,18 @@ pub struct WorkedCard {
     pub wide: bool,
 }
 
-#[derive(Clone, Copy)]
-pub enum Judged {
-    Card(WorkedCard),
-    Refused(Refusal),
-}
-
 // What stands where there is no card.
 pub fn no_card() -> WorkedCard
     ensures { result ≡ no_worked }
 {
-    let none = float::no_split();
-    WorkedCard {
-        sn: none,
-        bulk: none,
-        side: none,
-        nonideal: none,
-        ex: none,
-        sub: none,
-        sf: none,
-        rex: none,
-        rsub: none,
-        reverse: none,
-        ge: none,
-        gbc: none,
-        gcc: none,
-        gblx: none,
-        gbli: none,
-        octave: 0,
-        second: 0,
-        knee: 0,
-        exsub: false,
-        rcbli_zero: false,
-        pnp: false,
-        rcblx_zero: false,
-        wide: false,
-    }
+    WorkedCard::default()
 }
 
 // What loading says of a record, its name and its place apart: 1, 6, 7, 8, 19, 9, 10.
-pub fn judge(bytes: &[u8]) -> Judged
+pub fn judge(bytes: &[u8]) -> Result<WorkedCard, Refusal>
     ensures { told_judged result ≡ tells (judge_of bytes.now) }
 {
-    let clipping = clip(bytes);
-    let answer = clipping.answer;
-    match answer {
-        Answer::Taken => {
-            let given = clipping.numbers;
-            let numbers = missing::filled(clip::is_wide(bytes), given);
-            judging::judge_numbers(&numbers, missing::spares_good(bytes))
-        }
-        Answer::Refused(f) => Judged::Refused(f),
-    }
+    let given = clip(bytes)?.numbers;
+    let numbers = missing::filled(clip::is_wide(bytes), given);
+    judging::judge_numbers(&numbers, missing::spares_good(bytes))
 }

@@ -1,28 +1,20 @@
--- Which bytes are a record, and of how many words; clipping's verdict on it, and the clipping that goes with that.
+-- Which bytes are no record; clipping's verdict on it, and the clipping that goes with that.
 use mathlib.Core.Path.{◌≡◌}
 use mathlib.Core.Bool.{true, false}
 use mathlib.Core.List.{List}
 use Prim.Native.Nat.{ℕ}
 use lib.Ieee.{Float}
+use Rattle.std.specs.Prelude.{Ok, Err}
 use Rattle.refusal.specs.declared.Refusal.{Refusal}
 use Rattle.refusal.specs.declared.Refusal.TheVariants.{Malformed, NotFinite}
 use Rattle.refusal.specs.Order.{no, yes}
-use Rattle.clip.specs.declared.Answer.TheVariants as answer
 use Rattle.clip.specs.Limits.{wide, narrow}
 use Rattle.clip.specs.Record.{is_wide, is_narrow, finite_up}
 use Rattle.clip.specs.Clip.{padded_up, mask_up, clip_of, Clips}
-use Rattle.clip.specs.inner.Refused.{refused_with}
 use Rattle.clip.specs.inner.Width.{IsRecord}
 
--- ---- the two lengths
 module _ (s : List ℕ) where
-  pub wide_record : is_wide s ≡ true → IsRecord s wide
-  wide_record w = record { long = rw w; width = rw w }
-
   module _ (w : is_wide s ≡ false) where
-    pub narrow_record : is_narrow s ≡ true → IsRecord s narrow
-    narrow_record n = record { long = rw (w, n); width = rw w }
-
     pub no_record : is_narrow s ≡ false → clip_of s ≡ no Malformed
     unfolding clip_of
     no_record n = rw (w, n)
@@ -38,9 +30,9 @@ module _ {s : List ℕ} {n : ℕ} (p : IsRecord s n) where
   taken f = rw (p.long, p.width, f)
 
   pub clips_taken : finite_up s n ≡ true → {numbers : List Float} {mask : ℕ} → numbers ≡ padded_up s n
-      → mask ≡ mask_up s n → Clips s (record { answer = answer.Taken; numbers = numbers; mask = mask })
+      → mask ≡ mask_up s n → Clips s (Ok (record { numbers = numbers; mask = mask }))
   clips_taken f en em =
       let e = taken f in record { answer = rw e; numbers = rw (e, p.width) en; mask = rw (e, p.width) em }
 
-pub clips_refused : {s : List ℕ} {f : Refusal} → clip_of s ≡ no f → Clips s (refused_with f)
+pub clips_refused : {s : List ℕ} {f : Refusal} → clip_of s ≡ no f → Clips s (Err f)
 clips_refused e = record { answer = rw e; numbers = rw e; mask = rw e }

@@ -2,8 +2,9 @@
 use mathlib.Core.Path.{◌≡◌, refl, sym, ap, ap₂, ◌∙◌}
 use mathlib.Core.Bool.{Bool, true, false, cond, ◌&&◌}
 use mathlib.Core.List.{List, [], ◌∷◌, ◌++◌}
-use Prim.Native.Nat.{ℕ, zero, suc, ◌+◌, ◌-◌, ◌*◌, ◌^◌, ◌≤◌, ◌<◌}
+use Prim.Native.Nat.{ℕ, zero, suc, ◌+◌, ◌-◌, ◌*◌, ◌%◌, ◌^◌, ◌≤◌, ◌<◌}
 use native.Mathlib.Nat.{pow-suc}
+use mir.Val.{bool_byte}
 use native.Mathlib.Numerals.{add-one}
 use native.Mathlib.Omega.{arith}
 use native.Mathlib.Decide.{ℕ_discrete}
@@ -12,12 +13,10 @@ use lib.Seq.{take-suc-set, drop-drop, drop-set-lt}
 use lib.Pow.{pow_mono}
 use lib.Ieee.{Float, ne}
 use lib.Ieee.Scale.{finite}
+use Rattle.std.specs.Prelude.{Option, Some, None, Ok}
 use Rattle.refusal.specs.Clash.{clash}
-use Rattle.float.specs.declared.Number.{Number}
-use Rattle.float.specs.declared.Number.TheVariants.{Real, Nothing}
 use Rattle.bytes_le.specs.Le.{le_at}
 use Rattle.float.specs.Word.{real_if, real_of}
-use Rattle.clip.specs.declared.Answer.TheVariants as answer
 use Rattle.clip.specs.declared.limits.Rule.{Rule}
 use Rattle.clip.specs.Limits as limits
 use Rattle.clip.specs.Limits.{wide, narrow, rule_of, clip_to}
@@ -27,22 +26,22 @@ use Rattle.clip.specs.inner.Width.{IsRecord}
 use Rattle.clip.proofs.Taken.{clips_taken}
 
 -- ---- what a word was read as
-real_if_lem : (b : Bool) (x y : Float) → real_if b y ≡ Real x → (b ≡ true) × (x ≡ y)
+real_if_lem : (b : Bool) (x y : Float) → real_if b y ≡ Some x → (b ≡ true) × (x ≡ y)
 real_if_lem true x y e = (refl, cc)
 real_if_lem false x y e = clash cc
 
-nothing_if : (b : Bool) (y : Float) → real_if b y ≡ Nothing → b ≡ false
+nothing_if : (b : Bool) (y : Float) → real_if b y ≡ None → b ≡ false
 nothing_if true y e = clash cc
 nothing_if false y e = refl
 
-module _ (s : List ℕ) (i w : ℕ) (n : Number) (ew : w ≡ le_at 8 s (8 * i)) (en : n ≡ real_of w) where
+module _ (s : List ℕ) (i w : ℕ) (n : Option Float) (ew : w ≡ le_at 8 s (8 * i)) (en : n ≡ real_of w) where
   read_at : real_if (finite (number_at s i)) (number_at s i) ≡ n
   read_at = ap real_of (sym ew) ∙ sym en
 
-  pub is_real : (x : Float) → n ≡ Real x → (finite (number_at s i) ≡ true) × (x ≡ number_at s i)
+  pub is_real : (x : Float) → n ≡ Some x → (finite (number_at s i) ≡ true) × (x ≡ number_at s i)
   is_real x e = real_if_lem (finite (number_at s i)) x (number_at s i) (read_at ∙ e)
 
-  pub is_nothing : n ≡ Nothing → finite (number_at s i) ≡ false
+  pub is_nothing : n ≡ None → finite (number_at s i) ≡ false
   is_nothing e = nothing_if (finite (number_at s i)) (number_at s i) (read_at ∙ e)
 
 pub clipped_is : (s : List ℕ) (i : ℕ) (r : Rule) (x y : Float) → r ≡ rule_of i → x ≡ number_at s i → y ≡ clip_to r x
@@ -99,7 +98,7 @@ at_most_wide {s} {n} p = rw p.width at (of (is_wide s))
     of false = omega arith
 
 -- ---- the loop's invariant, over a record of n words
-pub record Passed (n : ℕ) (s : List ℕ) (numbers : List Float) (mask bit i : ℕ) : Type 0 where
+pub record Passed (n : ℕ) (s : List ℕ) (numbers : List Float) (mask i : ℕ) : Type 0 where
   pub few : i ≤ n
   pub most : n ≤ wide
   pub long : length numbers ≡ wide
@@ -107,14 +106,9 @@ pub record Passed (n : ℕ) (s : List ℕ) (numbers : List Float) (mask bit i : 
   pub done : take i numbers ≡ clipped_up s i
   pub left : drop i numbers ≡ replicate (wide - i) limits.zero
   pub bits : mask ≡ mask_up s i
-  pub power : bit ≡ 2 ^ i
-  pub under : mask < bit
+  pub under : mask < 2 ^ i
 
-pub at_most : {n : ℕ} {s : List ℕ} {numbers : List Float} {mask bit i : ℕ} → Passed n s numbers mask bit i
-    → bit ≤ 2 ^ wide
-at_most {i = i} p = let h : i ≤ wide = omega arith in omega (arith, p.power, pow_mono h)
-
-pub start : {n : ℕ} {s : List ℕ} → IsRecord s n → Passed n s (replicate wide limits.zero) 0 1 0
+pub start : {n : ℕ} {s : List ℕ} → IsRecord s n → Passed n s (replicate wide limits.zero) 0 0
 start {n} {s} p = record {
   few = omega arith;
   most = at_most_wide p;
@@ -123,7 +117,6 @@ start {n} {s} p = record {
   done = sym (numbers_none s);
   left = refl;
   bits = sym (mask_none s);
-  power = refl;
   under = omega arith;
 }
 
@@ -131,17 +124,23 @@ cond_le : (b : Bool) (n : ℕ) → cond b n 0 ≤ n
 cond_le true n = omega arith
 cond_le false n = omega arith
 
-pub small : (x y : Float) (bit w : ℕ) → w ≡ cond (ne x y) bit 0 → w ≤ bit
-small x y bit w e = let l = cond_le (ne x y) bit in omega arith
+-- the bit of a turn, in 32 bits
+pub marked : {n : ℕ} {s : List ℕ} {l : List Float} {mask i : ℕ} → Passed n s l mask i → i < n → (b : Bool)
+    → bool_byte b * 2 ^ i % 2 ^ 32 ≡ cond b (2 ^ i) 0
+marked {i = i} p h true =
+    let k : i ≤ 23 = omega (arith, p.most) in
+    let l : 2 ^ i ≤ 2 ^ 23 = pow_mono k in
+    omega arith
+marked {i = i} p h false = omega arith
 
 -- what a turn reads, clips and marks
-pub record Turned (s : List ℕ) (i bit : ℕ) (x y : Float) (w : ℕ) : Type 0 where
+pub record Turned (s : List ℕ) (i : ℕ) (x y : Float) (w : ℕ) : Type 0 where
   pub good : finite (number_at s i) ≡ true
   pub number : x ≡ number_at s i
   pub clipped : y ≡ clipped_at s i
-  pub weight : w ≡ cond (ne x y) bit 0
+  pub weight : w ≡ cond (ne x y) (2 ^ i) 0
 
-module _ {n : ℕ} {s : List ℕ} {l : List Float} {mask bit i : ℕ} (p : Passed n s l mask bit i) (h : i < n) where
+module _ {n : ℕ} {s : List ℕ} {l : List Float} {mask i : ℕ} (p : Passed n s l mask i) (h : i < n) where
   further : (y : Float) → y ≡ clipped_at s i → take (suc i) (set l i y) ≡ clipped_up s (suc i)
   further y e =
       take-suc-set l i y (omega (arith, p.long))
@@ -154,8 +153,8 @@ module _ {n : ℕ} {s : List ℕ} {l : List Float} {mask bit i : ℕ} (p : Passe
       let e : drop i l ≡ replicate (suc (wide - suc i)) limits.zero = rw k at p.left in
       drop-set-lt (suc i) l i y (omega arith) ∙ rw (← (add-one i)) (sym (drop-drop 1 i l)) ∙ ap (drop 1) e
 
-  module _ {x y : Float} {w : ℕ} (t : Turned s i bit x y w) where
-    more : Passed n s (set l i y) (mask + w) (bit * 2) (suc i)
+  module _ {x y : Float} {w : ℕ} (t : Turned s i x y w) where
+    more : Passed n s (set l i y) (mask + w) (suc i)
     more = record {
       few = omega arith;
       most = p.most;
@@ -163,19 +162,17 @@ module _ {n : ℕ} {s : List ℕ} {l : List Float} {mask bit i : ℕ} (p : Passe
       good = finite_more s i ∙ ap₂ ◌&&◌ p.good t.good;
       done = further y t.clipped;
       left = less y;
-      bits = ap₂ ◌+◌ p.bits (t.weight ∙ cc (t.number, t.clipped, p.power)) ∙ sym (mask_more s i);
-      power = ap (λ (k : ℕ). k * 2) p.power ∙ sym (pow-suc 2 i);
-      under = omega (arith, small x y bit w t.weight, p.under);
+      bits = ap₂ ◌+◌ p.bits (t.weight ∙ cc (t.number, t.clipped)) ∙ sym (mask_more s i);
+      under = omega (arith, t.weight, cond_le (ne x y) (2 ^ i), p.under, pow-suc 2 i);
     }
 
-    pub turn : Passed n s (set l i y) (mask + w) (bit * 2) (i + 1)
+    pub turn : Passed n s (set l i y) (mask + w) (i + 1)
     turn = rw add-one more
 
 -- ---- after the loop
-pub finished : {n : ℕ} {s : List ℕ} {numbers : List Float} {mask bit i : ℕ} → IsRecord s n
-    → Passed n s numbers mask bit i → n ≤ i
-    → Clips s (record { answer = answer.Taken; numbers = numbers; mask = mask })
-finished {n} {s} {numbers} {mask} {bit} {i} r p h =
+pub finished : {n : ℕ} {s : List ℕ} {numbers : List Float} {mask i : ℕ} → IsRecord s n
+    → Passed n s numbers mask i → n ≤ i → Clips s (Ok (record { numbers = numbers; mask = mask }))
+finished {n} {s} {numbers} {mask} {i} r p h =
     let e : i ≡ n = omega (arith, p.few) in
-    let q : Passed n s numbers mask bit n = rw e at p in
+    let q : Passed n s numbers mask n = rw e at p in
     clips_taken r q.good (sym (take-append-drop n numbers) ∙ ap₂ ◌++◌ q.done q.left) q.bits

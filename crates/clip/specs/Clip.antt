@@ -1,12 +1,11 @@
 -- Clipping alone, of a record of either version: the clipped numbers and the mask, or 1, or 6.
-use Rattle.std.specs.Prelude.{◌≡◌, not, cond, List, [], ◌∷◌, ◌++◌, ℕ, zero, suc, ◌+◌, ◌-◌, ◌^◌, replicate, Float}
+use Rattle.std.specs.Prelude.{◌≡◌, Result, Ok, Err, not, cond, List, [], ◌∷◌, ◌++◌, ℕ, zero, suc, ◌+◌, ◌-◌, ◌^◌, replicate, Float}
 use Rattle.std.specs.Float.Ieee.{ne}
+use Rattle.refusal.specs.declared.Refusal.{Refusal}
 use Rattle.refusal.specs.declared.Refusal.TheVariants.{Malformed, NotFinite}
 use Rattle.refusal.specs.Told.{told}
 use Rattle.refusal.specs.Order as order
 use Rattle.refusal.specs.Order.{Verdict, refuse_if, tells}
-use Rattle.clip.specs.declared.Answer.{Answer}
-use Rattle.clip.specs.declared.Answer.TheVariants as answer
 use Rattle.clip.specs.declared.Clipping.{Clipping}
 use Rattle.clip.specs.Limits as limits
 use Rattle.clip.specs.Limits.{wide, rule_of, clip_to}
@@ -47,13 +46,22 @@ numbers_of s = if_taken (clip_of s) (padded_up s (width_of s)) (replicate wide l
 abbrev pub mask_of : List ℕ → ℕ
 mask_of s = if_taken (clip_of s) (mask_up s (width_of s)) 0
 
--- what the answer tells
-abbrev pub told_answer : Answer → order.Answer (Unit {0})
-told_answer answer.Taken = order.given tt
-told_answer (answer.Refused f) = order.refused (told f)
+-- what clipping tells
+abbrev pub told_answer : Result Clipping Refusal → order.Answer (Unit {0})
+told_answer (Ok k) = order.given tt
+told_answer (Err f) = order.refused (told f)
+
+-- the numbers and the mask that a caller has of it: of a refusal none, which count as zeros
+abbrev pub numbers_in : Result Clipping Refusal → List Float
+numbers_in (Ok k) = k.numbers
+numbers_in (Err f) = replicate wide limits.zero
+
+abbrev pub mask_in : Result Clipping Refusal → ℕ
+mask_in (Ok k) = k.mask
+mask_in (Err f) = 0
 
 -- clipping s gives r
-pub record Clips (s : List ℕ) (r : Clipping) : Type 0 where
-  pub answer : told_answer r.answer ≡ tells (clip_of s)
-  pub numbers : r.numbers ≡ numbers_of s
-  pub mask : r.mask ≡ mask_of s
+pub record Clips (s : List ℕ) (r : Result Clipping Refusal) : Type 0 where
+  pub answer : told_answer r ≡ tells (clip_of s)
+  pub numbers : numbers_in r ≡ numbers_of s
+  pub mask : mask_in r ≡ mask_of s

@@ -1,3 +1,2 @@
 -- Words that inner contracts use.
-pub mod Refused
 pub mod Width

@@ -17,18 +17,9 @@ pub const WIDTH: usize = 24;
 
 pub const NARROW: usize = 16;
 
-// How clipping went.
-#[derive(Clone, Copy)]
-pub enum Answer {
-    Taken,
-    Refused(Refusal),
-}
-
 // The clipped numbers, +0 for each that the record has not, and bit i of the mask for a number i whose value changed.
-// All are zero where the answer is a refusal.
 #[derive(Clone, Copy)]
 pub struct Clipping {
-    pub answer: Answer,
     pub numbers: [f64; WIDTH],
     pub mask: u32,
 }
@@ -51,15 +42,11 @@ fn is_narrow(bytes: &[u8]) -> bool
 pub fn right_length(bytes: &[u8]) -> bool
     ensures { result ≡ right_length bytes.now }
 {
-    if is_wide(bytes) {
-        true
-    } else {
-        is_narrow(bytes)
-    }
+    is_wide(bytes) || is_narrow(bytes)
 }
 
 // Clipping alone: 1, then 6.
-pub fn clip(bytes: &[u8]) -> Clipping
+pub fn clip(bytes: &[u8]) -> Result<Clipping, Refusal>
     ensures { Clips bytes.now result }
 {
     if is_wide(bytes) {
@@ -67,6 +54,6 @@ pub fn clip(bytes: &[u8]) -> Clipping
     } else if is_narrow(bytes) {
         words::clip_all(bytes, NARROW)
     } else {
-        words::refused(Refusal::Malformed)
+        Err(Refusal::Malformed)
     }
 }

@@ -1,17 +1,20 @@
--- Words and their bytes, and the loops that fill a buffer with them.
-use mathlib.Core.Path.{◌≡◌, refl, sym, ◌∙◌, ap}
+-- Words and their bytes, and the loop that fills a buffer with words.
+use mathlib.Core.Path.{◌≡◌, sym, ◌∙◌, ap}
 use mathlib.Core.List.{List, [], ◌∷◌, map}
-use Prim.Native.Nat.{ℕ, zero, suc, ◌+◌, ◌-◌, ◌/◌, ◌<◌, ◌≤◌, suc-le-suc}
-use native.Mathlib.Numerals.{add-one}
+use native.Mathlib.Nat.{mul-zero, mul-suc}
+use Prim.Native.Nat.{ℕ, zero, suc, ◌*◌, ◌+◌, ◌/◌, ◌<◌, ◌≤◌}
 use native.Mathlib.Omega.{arith}
 use lib.Dec.{lit<}
-use lib.ListN.{length, take, drop, get_or, set, length-drop, length-map}
+use lib.ListN.{length, take, drop, get_or, set, length-map, length-take}
 use Rattle.bytes_le.specs.Le.{le, Word, word_bytes}
-use Rattle.bytes_le.proofs.Laws.{rest}
 use Rattle.name.proofs.Laws.{Filled, fill_first, fill_more, fill_all}
-use Rattle.roll.specs.Directory.{cut}
+use Rattle.roll.specs.Directory.{cut, pieces}
+use Rattle.std.specs.List.{enumerate_from}
+use Rattle.std.proofs.lemmas.List.{get_or-map}
+use Rattle.std.proofs.lemmas.List.FromFn.{length-enumerate_from, get_or-enumerate_from}
+use lib.Seq.{take_all, drop-drop}
 use Rattle.directory.specs.Format.{words_in}
-use Rattle.roll.proofs.Names.{never, length_pieces, cut_none, cut_more}
+use Rattle.roll.proofs.Names.{length_pieces, cut_none, cut_more}
 use Rattle.bytes_le.specs.Buffer.{over}
 
 pub words_none : (s : List ℕ) → length s < word_bytes → words_in s ≡ []
@@ -23,53 +26,63 @@ words_more s h = ap (map le) (cut_more word_bytes s (lit< tt) h)
 pub words_length : (s : List ℕ) → length (words_in s) ≡ length s / word_bytes
 words_length s = length-map (cut 8 s) le ∙ length_pieces 8 (length s / word_bytes) s
 
--- ---- what a list is from a place on
+-- ---- a loop over the pieces of a list, with their numbers
 
-pub record At (l : List ℕ) (i x : ℕ) (r : List ℕ) : Type 0 where
-  pub below : i < length l
-  pub here : get_or l i 0 ≡ x
-  pub after : drop (suc i) l ≡ r
+-- piece k of w elements
+pub piece : (w n : ℕ) (s : List ℕ) (k : ℕ) (d : List ℕ) → k < n → get_or (pieces w n s) k d ≡ take w (drop (w * k) s)
+piece w zero s k d h = absurd (omega arith)
+piece w (suc n) s zero d h = ap (λ (m : ℕ). take w (drop m s)) (sym (mul-zero w))
+piece w (suc n) s (suc k) d h =
+    let e : w * k + w ≡ w * suc k = omega (arith, mul-suc w k) in
+    piece w n (drop w s) k d (omega arith)
+    ∙ ap (take w) (drop-drop (w * k) w s ∙ ap (λ (m : ℕ). drop m s) (omega arith))
 
-pub at_place : (l : List ℕ) (i x : ℕ) (r : List ℕ) → drop i l ≡ x ∷ r → At l i x r
-at_place [] zero x r e = never (cc)
-at_place [] (suc i) x r e = never (cc)
-at_place (y ∷ l) zero x r e = record { below = omega arith; here = cc; after = cc }
-at_place (y ∷ l) (suc i) x r e =
-    let a = at_place l i x r e in
-    record { below = suc-le-suc a.below; here = a.here; after = a.after }
+-- turn k, at which the number i comes with the piece x
+module _ (w : ℕ) (src : List ℕ) {k i : ℕ} {x : List ℕ}
+    (t : (k < length (enumerate_from 0 (cut w src)))
+    × ◌≡◌ {A = ℕ × List ℕ} (i, x) (get_or (enumerate_from 0 (cut w src)) k (i, x))) where
+  below : k < length (cut w src)
+  below = rw length-enumerate_from at t.0
+
+  turn : ◌≡◌ {A = ℕ × List ℕ} (i, x) (0 + k, get_or (cut w src) k x)
+  turn = t.1 ∙ get_or-enumerate_from 0 (cut w src) k (i, x) below
+
+  pub turn_below : k < length src / w
+  turn_below = omega (arith, length_pieces w (length src / w) src, below)
+
+  pub turn_number : i ≡ k
+  turn_number = let e : i ≡ 0 + k = ap (λ (p : ℕ × List ℕ). p.0) turn in omega arith
+
+  pub turn_piece : x ≡ take w (drop (w * k) src)
+  turn_piece = ap (λ (p : ℕ × List ℕ). p.1) turn ∙ piece w (length src / w) src k x turn_below
+
+-- after the last turn
+pub turns_all : (w : ℕ) (src : List ℕ) {n : ℕ} → n ≡ length (enumerate_from 0 (cut w src)) → n ≡ length src / w
+turns_all w src e = omega (arith, e, length-enumerate_from 0 (cut w src), length_pieces w (length src / w) src)
 
 -- ---- words from bytes
 
--- cur has the words of src as far as i, and t is the bytes of the others
-pub record Loading (src old cur t : List ℕ) (i : ℕ) : Type 0 where
-  pub filled : Filled (words_in src) old cur i
-  pub ahead : drop i (words_in src) ≡ words_in t
+pub load_first : (src : List ℕ) {old : List ℕ} → length src / word_bytes ≤ length old → Filled (words_in src) old old 0
+load_first src h = fill_first (rw words_length h)
 
-pub load_first : (src : List ℕ) {old : List ℕ} → length src / word_bytes ≤ length old → Loading src old old src 0
-load_first src h = record { filled = fill_first (rw words_length h); ahead = refl }
+-- one turn, and the word r that stands at the start of its piece
+pub load_more : (src : List ℕ) {old cur : List ℕ} {n i : ℕ} {x : List ℕ} → Filled (words_in src) old cur n
+    → (n < length (enumerate_from 0 (cut word_bytes src)))
+    × ◌≡◌ {A = ℕ × List ℕ} (i, x) (get_or (enumerate_from 0 (cut word_bytes src)) n (i, x))
+    → {r : ℕ} → Word (drop 0 x) r → {k : ℕ} → k ≡ n + 1 → Filled (words_in src) old (set cur i r) k
+load_more src {n = n} {i} {x} v t {r} w e =
+    let m : ℕ = length src / word_bytes in
+    let b : n < m = turn_below word_bytes src t in
+    let g : get_or (cut word_bytes src) n x ≡ x =
+    piece word_bytes m src n x b ∙ sym (turn_piece word_bytes src t) in
+    let short : length x ≤ word_bytes = rw (turn_piece word_bytes src t, length-take) (omega arith) in
+    let c : n < length (cut word_bytes src) = omega (arith, length_pieces word_bytes m src) in
+    let l : n < length (words_in src) = rw length-map c in
+    let f = fill_more v r l
+    (w.value ∙ ap le (take_all word_bytes x short ∙ sym g) ∙ sym (get_or-map le (cut word_bytes src) n x 0 c)) in
+    rw (turn_number word_bytes src t, e) f
 
-module _ {src old cur t : List ℕ} {i : ℕ} (v : Loading src old cur t i) where
-  module _ (h : word_bytes ≤ length t) where
-    at : At (words_in src) i (le (take word_bytes t)) (words_in (drop word_bytes t))
-    at = at_place (words_in src) i (le (take word_bytes t)) (words_in (drop word_bytes t)) (v.ahead ∙ words_more t h)
-
-    pub load_room : i < length cur
-    load_room = let a = at.below in let f = v.filled.fits in let k = v.filled.kept in omega arith
-
-    pub load_more : {x : ℕ} → Word t x
-        → Loading src old (set cur i x) (take (length t - word_bytes) (drop word_bytes t)) (i + 1)
-    load_more {x} w =
-        rw (rest t word_bytes)
-        (record {
-          filled = fill_more v.filled x at.below (w.value ∙ sym at.here);
-          ahead = ap (λ (n : ℕ). drop n (words_in src)) (add-one i) ∙ at.after;
-        })
-
-    pub load_less : length (take (length t - word_bytes) (drop word_bytes t)) < length t
-    load_less = rw (rest t word_bytes, length-drop word_bytes t) (omega arith)
-
-  pub load_all : length t < word_bytes → cur ≡ over (words_in src) old
-  load_all h =
-      let e : length (words_in src) - i ≡ 0 =
-      sym (length-drop i (words_in src)) ∙ ap length (v.ahead ∙ words_none t h) in
-      let l : length (words_in src) ≤ i = omega arith in fill_all v.filled l
+pub load_all : (src : List ℕ) {old cur : List ℕ} {n : ℕ} → Filled (words_in src) old cur n
+    → n ≡ length (enumerate_from 0 (cut word_bytes src)) → cur ≡ over (words_in src) old
+load_all src {n = n} v e =
+    let l : length (words_in src) ≤ n = omega (arith, turns_all word_bytes src e, words_length src) in fill_all v l

@@ -14,11 +14,7 @@ pub fn copy(src: &[u8], dst: &mut [u8])
     requires { length src.now ≤ length dst.old }
     ensures { dst.new ≡ over src.now dst.old }
 {
-    let mut i = 0;
-    while i < src.len() {
-        dst[i] = src[i];
-        i += 1;
-    }
+    dst[..src.len()].copy_from_slice(src);
 }
 
 // Puts the words that bytes spell at the start of a buffer.
@@ -26,26 +22,8 @@ pub fn load(src: &[u8], dst: &mut [u64])
     requires { length src.now / word_bytes ≤ length dst.old }
     ensures { dst.new ≡ over (words_in src.now) dst.old }
 {
-    let mut t = src;
-    let mut i = 0;
-    while WORD_BYTES <= t.len() {
-        dst[i] = bytes_le::u64_at(t, 0);
-        t = &t[WORD_BYTES..];
-        i += 1;
-    }
-}
-
-// Puts the w lowest bytes of x at a place, the lowest first.
-fn put(dst: &mut [u8], at: usize, w: usize, x: u64)
-    requires { at + w ≤ length dst.old }
-    ensures { dst.new ≡ take at dst.old ++ bytes_of w x ++ drop (at + w) dst.old }
-{
-    let mut rest = x;
-    let mut i = 0;
-    while i < w {
-        dst[at + i] = (rest % 256) as u8;
-        rest = rest / 256;
-        i += 1;
+    for (i, x) in src.chunks_exact(WORD_BYTES).enumerate() {
+        dst[i] = bytes_le::u64_at(x, 0);
     }
 }
 
@@ -53,9 +31,7 @@ fn put(dst: &mut [u8], at: usize, w: usize, x: u64)
 pub fn bytes(x: u64) -> [u8; WORD_BYTES]
     ensures { result ≡ bytes_of word_bytes x }
 {
-    let mut b = [0u8; WORD_BYTES];
-    put(&mut b, 0, WORD_BYTES, x);
-    b
+    x.to_le_bytes()
 }
 
 // Puts the bytes of words at the start of a buffer.
@@ -63,11 +39,8 @@ pub fn store(words: &[u64], dst: &mut [u8])
     requires { word_bytes * length words.now ≤ length dst.old }
     ensures { dst.new ≡ over (bytes_of_all words.now) dst.old }
 {
-    let mut i = 0;
-    while i < words.len() {
-        let b = bytes(words[i]);
-        copy(&b, &mut dst[WORD_BYTES * i..]);
-        i += 1;
+    for (i, x) in words.iter().enumerate() {
+        copy(&bytes(*x), &mut dst[WORD_BYTES * i..]);
     }
 }
 
@@ -78,11 +51,11 @@ pub fn header(version: u16, count: usize) -> [u8; HEADER_BYTES]
 {
     let records = HEADER_BYTES + NAME_BYTES * count;
     let whole = records + WORD_BYTES * (directory::width(version) * count);
-    let mut h = [0u8; HEADER_BYTES];
-    put(&mut h, 0, 2, version as u64);
-    put(&mut h, 2, 2, count as u64);
-    put(&mut h, 4, 4, HEADER_BYTES as u64);
-    put(&mut h, 8, 4, records as u64);
-    put(&mut h, 12, 4, whole as u64);
+    let mut h = [0; HEADER_BYTES];
+    h[..2].copy_from_slice(&version.to_le_bytes());
+    h[2..4].copy_from_slice(&(count as u16).to_le_bytes());
+    h[4..8].copy_from_slice(&(HEADER_BYTES as u32).to_le_bytes());
+    h[8..12].copy_from_slice(&(records as u32).to_le_bytes());
+    h[12..].copy_from_slice(&(whole as u32).to_le_bytes());
     h
 }

@@ -4,8 +4,6 @@
 ghost use Rattle.std.specs.Prelude.{◌≡◌, ◌&&◌, ltb};
 ghost use Rattle.current.specs.Current.{opened_of, pico_of};
 
-use whole::Int;
-
 // How many ticks an ampere has.
 const AMPERE_TICKS: u64 = 1125899906842624;
 
@@ -22,15 +20,9 @@ pub struct Opened {
 pub fn open(v: i64) -> Opened
     ensures { result ≡ opened_of v }
 {
-    match whole::open(v) {
-        Int::Pos(n) => Opened {
-            below: false,
-            size: n,
-        },
-        Int::NegSuc(n) => Opened {
-            below: true,
-            size: n + 1,
-        },
+    Opened {
+        below: v < 0,
+        size: v.unsigned_abs(),
     }
 }
 
@@ -51,5 +43,5 @@ pub fn picoamperes(s: Opened) -> u64
 pub fn shows_minus(below: bool, p: u64) -> bool
     ensures { result ≡ (below && ltb 0 p) }
 {
-    if below { 0 < p } else { false }
+    below && 0 < p
 }

@@ -11,9 +11,9 @@ use Rattle.octave.specs.Table.{entries, entry_of}
 use Rattle.scaling.specs.Scaled.{exp_of}
 use Rattle.terms.specs.Rows.{sf, Row, row1, row2, row3, row4, row5, row6, row7, row8}
 use Rattle.terms.specs.Values.{value_of, bias_of}
-use Rattle.rows.specs.declared.Over.TheVariants.{Within}
+use Rattle.std.specs.Prelude.{None}
 use Rattle.rows.specs.Ticks.{root_for, row_ticks}
-use Rattle.rows.specs.Outcome.{outcome_across}
+use Rattle.rows.specs.Outcome.{told_over, outcome_across}
 use Rattle.polarity.specs.Polarity.{outcome_of}
 use Rattle.curves.specs.Fraction.{top, bottom, in_ticks}
 use Rattle.curves.specs.Exchange.{Exchanged}
@@ -23,7 +23,7 @@ use Rattle.curves.proofs.Sample.{the_card, lifted, apart}
 abbrev volts : List ℤ
 volts = negsuc 15999 ∷ negsuc 0 ∷ pos 0 ∷ pos 8000 ∷ pos 16000 ∷ []
 
-pub short_of_overload : map (λ (v : ℤ). (outcome_of the_card (lifted v)).over) volts ≡ replicate 5 Within
+pub short_of_overload : map (λ (v : ℤ). told_over (outcome_of the_card (lifted v))) volts ≡ replicate 5 None
 unfolding the_card outcome_of outcome_across entries entry_of exp_of of_bits lt eq mul div sub to_unsigned to_signed size
 short_of_overload = refl
 

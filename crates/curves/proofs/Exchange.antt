@@ -10,7 +10,7 @@ use Rattle.quotients.specs.Quotient.{quotient_of}
 use Rattle.card.specs.declared.WorkedCard.{WorkedCard}
 use Rattle.terms.specs.Rows.{Role, E1, B2, C2, r_ex, root, row1}
 use Rattle.terms.specs.Values.{bias_of, tick_of, ratio_of}
-use Rattle.rows.specs.declared.Over.TheVariants.{Within}
+use Rattle.std.specs.Prelude.{None}
 use Rattle.rows.specs.Ticks.{summand_of, quotient_shift, row_ticks}
 use Rattle.rows.specs.Outcome.{tick_limit, ratio_limit, some_above, over_at, first_over}
 use Rattle.curves.specs.Exchange.{Exchanged, Crossed}
@@ -52,6 +52,6 @@ module _ (c : WorkedCard) {v w : Role → Role → ℤ} (x : Crossed v w) where
   pub exchange_overloads : (k : ℕ) → first_over c w k (row1 ∷ []) ≡ first_over c v k (row1 ∷ [])
   exchange_overloads k =
       rw (x.emitter, x.collector)
-      (ap₂ (λ (s t : Bool). over_at s t k Within)
+      (ap₂ (λ (s t : Bool). over_at s t k None)
       (above_exchanged tick_limit (tick_of c v row1.plus) (tick_of c v row1.minus))
       (above_exchanged ratio_limit (ratio_of c v (root r_ex B2 E1)) (ratio_of c v (root r_ex B2 C2))))

@@ -13,10 +13,11 @@ use Rattle.refusal.specs.Order.{Verdict, no}
 use Rattle.card.specs.declared.WorkedCard.{WorkedCard}
 use Rattle.terms.specs.Rows.{Role, Row, rows_for}
 use Rattle.rows.specs.declared.Over.{Over}
-use Rattle.rows.specs.declared.Over.TheVariants.{Within, Ticks, Injection}
+use Rattle.rows.specs.declared.Over.TheVariants.{Ticks, Injection}
+use Rattle.std.specs.Prelude.{Option, Some, None}
 use Rattle.rows.specs.Outcome.{ratio_limit, some_above, over_ticks, ratios_in, over_at, first_over, is_over, drawn_by}
-use Rattle.rows.specs.Outcome.{outcome_at, outcome_across}
-use Rattle.polarity.specs.Polarity.{seen_by, outcome_of}
+use Rattle.rows.specs.Outcome.{told_over, outcome_at, outcome_across}
+use Rattle.polarity.specs.Polarity.{turned_outcome, seen_by, outcome_of}
 use Rattle.totals.specs.Flow as flow
 use Rattle.totals.specs.Flow.{roles_at}
 use Rattle.model.specs.Faults.{Kind, ticks, ratio, Fault, before, refusal_for, refuse_first, fault_if, faults_in}
@@ -31,20 +32,20 @@ abbrev fault : ℕ → ℕ → Kind → Fault
 fault issue k kind = record { issue = issue; branch = k; kind = kind }
 
 -- the fault that an overload is
-abbrev pub fault_by : ℕ → Over → Fault
-fault_by issue Within = fault issue 0 ticks
-fault_by issue (Ticks k) = fault issue k ticks
-fault_by issue (Injection k) = fault issue k ratio
+abbrev pub fault_by : ℕ → Option Over → Fault
+fault_by issue None = fault issue 0 ticks
+fault_by issue (Some (Ticks k)) = fault issue k ticks
+fault_by issue (Some (Injection k)) = fault issue k ratio
 
-pub fault_issue : (issue : ℕ) (o : Over) → (fault_by issue o).issue ≡ issue
-fault_issue issue Within = refl
-fault_issue issue (Ticks k) = refl
-fault_issue issue (Injection k) = refl
+pub fault_issue : (issue : ℕ) (o : Option Over) → (fault_by issue o).issue ≡ issue
+fault_issue issue None = refl
+fault_issue issue (Some (Ticks k)) = refl
+fault_issue issue (Some (Injection k)) = refl
 
-pub drawn_is : (issue : ℕ) (o : Over) → refusal_for (fault_by issue o) ≡ drawn_by issue o
-drawn_is issue Within = refl
-drawn_is issue (Ticks k) = refl
-drawn_is issue (Injection k) = refl
+pub drawn_is : (issue : ℕ) (o : Option Over) → refusal_for (fault_by issue o) ≡ drawn_by issue o
+drawn_is issue None = refl
+drawn_is issue (Some (Ticks k)) = refl
+drawn_is issue (Some (Injection k)) = refl
 
 -- a fault of this number from branch k on
 record From (issue k : ℕ) (g : Fault) : Type 0 where
@@ -129,15 +130,14 @@ module _ (issue : ℕ) (c : WorkedCard) (v : Role → Role → ℤ) where
 
 -- ---- a transistor on its nodes
 
-over_kept : (o : Over) (l : List ℤ) → (outcome_at o l).over ≡ o
-over_kept Within l = refl
-over_kept (Ticks k) l = refl
-over_kept (Injection k) l = refl
+over_kept : (pnp : Bool) (o : Option Over) (l : List ℤ) → told_over (turned_outcome pnp (outcome_at o l)) ≡ o
+over_kept pnp None l = refl
+over_kept pnp (Some o) l = refl
 
 module _ (issue : ℕ) (c : WorkedCard) (nodes : List ℕ) (volts : List ℤ) where
   first_row : flow.over_at c nodes volts ≡ first_over c (seen_by c (roles_at volts nodes)) 1 (rows_for c.exsub)
   unfolding flow.over_at outcome_across outcome_of
-  first_row = over_kept _ _
+  first_row = over_kept c.pnp _ _
 
   pub faults_told : is_over (flow.over_at c nodes volts) ≡ true →
       FirstTold (fault_by issue (flow.over_at c nodes volts)) (faults_of issue c nodes volts)

@@ -62,6 +62,7 @@ use Rattle.model.proofs.Boards.{transistors_count, transistor_then, fresh_cards,
 use Rattle.model.proofs.Footing.{Away, unused_away, free_below, free_away, looked_long}
 use Rattle.model.proofs.Invariant.{Invariant, invariant_after, worked_same, aside, still, held_is}
 use Rattle.model.proofs.Gains.{touched_stands}
+use Rattle.std.specs.Prelude.{Option}
 use Rattle.rows.specs.declared.Over.{Over}
 use Rattle.rows.specs.Outcome.{is_over}
 use Rattle.refusal.specs.Clash.{clash}
@@ -72,6 +73,7 @@ use Rattle.days.proofs.Amongst.{among_none, perm_in, perm_back, single_same, in_
 use Rattle.days.proofs.Amongst.{in_among, of_among}
 use Rattle.days.proofs.FaultOrder.{by_issue, before_of, refuse_told}
 use Rattle.days.proofs.Faults.{fault_by, fault_issue, drawn_is, faults_told, faults_own, faults_over}
+use Rattle.settle.specs.First.{first_by, first_issue}
 use Rattle.settle.specs.laws.Firsts.{first_one, first_least}
 use Rattle.totals.specs.Flow.{over_at}
 use Rattle.name.specs.Name.{name_length}
@@ -98,7 +100,7 @@ map_refuse g true f v = refl
 map_refuse g false f v = refl
 
 module _ {A B : Type 0} (g : A → B) where
-  map_place : (found : Found A) (joins : B → Ties) (over : B → Over) (next : ℕ) (nodes : List ℤ)
+  map_place : (found : Found A) (joins : B → Ties) (over : B → Option Over) (next : ℕ) (nodes : List ℤ)
       (no_room used : Bool) →
       place_verdict (map_found g found) joins over next nodes no_room used ≡ map_verdict g
       (place_verdict found (λ (a : A). joins (g a)) (λ (a : A). over (g a)) next nodes no_room used)
@@ -214,11 +216,11 @@ module _ (b : Board) (d : Desk) (g : Invariant b) (o : Orderly d) (s : Stands b 
     abbrev named : ℕ → Bool
     named i = touched shifts (transistor_at b i)
 
-    abbrev over_on : ℕ → Over
+    abbrev over_on : ℕ → Option Over
     over_on i = over_at (worked_on b i) (transistor_at b i).nodes will
 
     -- nothing is told: nobody overloads
-    none_told : is_over (first_over b shifts).over ≡ false → faults_at d will ≡ []
+    none_told : is_over (first_by (first_over b shifts)) ≡ false → faults_at d will ≡ []
     unfolding overloads
     none_told e = among_none (faults_at d will) none
       where
@@ -290,24 +292,26 @@ module _ (b : Board) (d : Desk) (g : Invariant b) (o : Orderly d) (s : Stands b 
           }
 
     -- somebody is told: the fault is one of all, and none goes before it
-    one_told : is_over (first_over b shifts).over ≡ true →
-        FirstTold (fault_by (first_over b shifts).issue (first_over b shifts).over) (faults_at d will)
+    one_told : is_over (first_by (first_over b shifts)) ≡ true →
+        FirstTold (fault_by (first_issue (first_over b shifts)) (first_by (first_over b shifts))) (faults_at d will)
     one_told e =
         let r = first_one named (λ (i : ℕ). (transistor_at b i).issue) over_on transistors_most e in
-        rw r.3
-        (told_here r.0 r.1 (touched_stands shifts (transistor_at b r.0) r.2) (rw r.3 at e)
-        (λ j h t p. rw r.3 at
+        rw (r.3.0, r.3.1)
+        (told_here r.0 r.1 (touched_stands shifts (transistor_at b r.0) r.2) (rw r.3.0 at e)
+        (λ j h t p. rw r.3.1 at
         (first_least named (λ (i : ℕ). (transistor_at b i).issue) over_on transistors_most j h t p)))
 
     first_standing : {A : Type 0} (v : Verdict A) →
-        refuse_over (first_over b shifts).issue (first_over b shifts).over v ≡ refuse_first (faults_at d will) v
-    first_standing v = go (is_over (first_over b shifts).over) refl
+        refuse_over (first_issue (first_over b shifts)) (first_by (first_over b shifts)) v
+        ≡ refuse_first (faults_at d will) v
+    first_standing v = go (is_over (first_by (first_over b shifts))) refl
       where
-        go : (t : Bool) → is_over (first_over b shifts).over ≡ t →
-            refuse_over (first_over b shifts).issue (first_over b shifts).over v ≡ refuse_first (faults_at d will) v
+        go : (t : Bool) → is_over (first_by (first_over b shifts)) ≡ t →
+            refuse_over (first_issue (first_over b shifts)) (first_by (first_over b shifts)) v
+            ≡ refuse_first (faults_at d will) v
         go true e =
             rw e
-            (ap no (sym (drawn_is (first_over b shifts).issue (first_over b shifts).over))
+            (ap no (sym (drawn_is (first_issue (first_over b shifts)) (first_by (first_over b shifts))))
             ∙ sym (refuse_told _ (faults_at d will) v (one_told e)))
         go false e = rw (e, none_told e)
 

@@ -1,3 +1,4 @@
+pub mod Amounts
 pub mod Perms
 pub mod Places
 pub mod Orderly

@@ -15,7 +15,9 @@ use Rattle.given.specs.Pairs.{shifts_of}
 use Rattle.model.specs.Verdict.{load_verdict, place_verdict, move_verdict, lift_verdict, withdraw_verdict, look_verdict}
 use Rattle.model.specs.Verdict.{node_verdict, open_verdict, refuse_over}
 use Rattle.model.specs.Faults.{refuse_first, faults_of}
+use Rattle.std.specs.Prelude.{Option}
 use Rattle.settle.specs.declared.First.{First}
+use Rattle.settle.specs.First.{first_by, first_issue}
 use Rattle.model.specs.Desk.{Held, Standing, Desk, highest, looked_by, moved_to, faults_at, held_as, stands_as}
 use Rattle.totals.specs.Flow.{over_at}
 use Rattle.given.specs.Lists.{any_of}
@@ -57,8 +59,8 @@ module _ (d : Desk) where
       go (some h) = rw (refuse_over_lem d.next h.worked (map nat_abs (looked_by h nodes)) d.volts (yes h))
 
   -- of the first by which the desk would refuse, if by any
-  pub order_move : (pairs : List ℤ) (f : First) →
-      refuse_over f.issue f.over (yes (shifts_of pairs))
+  pub order_move : (pairs : List ℤ) (f : Option First) →
+      refuse_over (first_issue f) (first_by f) (yes (shifts_of pairs))
       ≡ refuse_first (faults_at d (moved_to d.volts (shifts_of pairs))) (yes (shifts_of pairs)) →
       move_verdict pairs f ≡ may_move d pairs
   unfolding move_verdict

@@ -13,10 +13,10 @@ use borrow.Author.Tests.{eqb-true, eqb-false, ne_eqb}
 use Rattle.refusal.specs.Clash.{clash}
 use Rattle.card.specs.declared.WorkedCard.{WorkedCard}
 use Rattle.rows.specs.declared.Over.{Over}
-use Rattle.rows.specs.declared.Over.TheVariants.{Within, Ticks, Injection}
+use Rattle.std.specs.Prelude.{Option, Some, None}
 use Rattle.scaling.specs.Scaled.{tick_limit}
 use Rattle.terms.specs.Rows.{Row, rows_for, branches, role_index}
-use Rattle.rows.specs.Outcome.{is_over}
+use Rattle.rows.specs.Outcome.{is_over, told_over}
 use Rattle.polarity.specs.Polarity.{outcome_of}
 use Rattle.places.specs.Gathered.{Card, Transistor}
 use Rattle.model.specs.Board.{Board}
@@ -52,14 +52,14 @@ totals_are_sums calls n h =
 
 -- ---- and counts for something: whatever stands has its currents
 
-not_over : (o : Over) → is_over o ≡ false → o ≡ Within
-not_over Within e = refl
-not_over (Ticks k) e = clash cc
-not_over (Injection k) e = clash cc
+not_over : (o : Option Over) → is_over o ≡ false → o ≡ None
+not_over None e = refl
+not_over (Some o) e = clash cc
 
 pub none_overloads : {b : Board} → Reached b → (i : ℕ) → ((transistor_at b i).issue ≡ 0 → ⊥) →
+    told_over
     (outcome_of (worked_at (cards_of b) (transistor_at b i).seat)
-    (roles_at (volts_of b) (transistor_at b i).nodes)).over ≡ Within
+    (roles_at (volts_of b) (transistor_at b i).nodes)) ≡ None
 unfolding overloads
 none_overloads r i h = not_over _ ((invariant r).holds.quiet i h)
 

@@ -1,2 +1,1 @@
 -- What of `rows` this crate hands on to those that do not list it.
-pub use Rattle.deck.specs.OfRowsTypes.Outcome

@@ -1,17 +1,16 @@
 -- Digits and powers of ten are f64s without rounding, so that one product or quotient of them is rounded once.
 use mathlib.Core.Path.{◌≡◌, refl, sym, ap, ap₂, ◌∙◌, subst}
 use mathlib.Core.Bool.{Bool, true, false, not, cond, true≢false}
-use mathlib.Core.List.{List}
 use Prim.Native.Nat.{ℕ, zero, suc, ◌+◌, ◌-◌, ◌*◌, ◌%◌, ◌^◌, ◌≤◌, ◌<◌}
 use native.Mathlib.Nat.{le_trans, le_of_lt, lt_irrefl, mul_comm, mul_assoc, mul_left_comm, mul-one, mul-pos, one-le-pow}
 use native.Mathlib.Nat.{zero-lt-suc}
 use native.Mathlib.Omega.{arith}
-use lib.Dec.{T, ltb, eqb, eqb→eq, le→leb, lit<, lit≤}
-use borrow.Author.Tests.{le-ltb}
+use lib.Dec.{T, ltb, eqb, eqb→eq, lit<, lit≤}
+use borrow.Author.Tests.{le-ltb, lt-ltb}
 use lib.IntN.{pos}
 use lib.ListN.{get_or}
 use lib.Pow.{pow-add}
-use lib.Ieee.{Float, nan, inf, fin, binary64, up, down, round, mul, div, of_int, of_bits, is_nan, nan_bits, in_float, units}
+use lib.Ieee.{Float, nan, inf, fin, binary64, up, down, round, mul, div, of_int, of_bits, is_nan, nan_bits, units}
 use lib.Ieee.{odd}
 use lib.Ieee.Fits.{down_pos}
 use lib.Ieee.Exact.{HasValue}
@@ -21,7 +20,9 @@ use lib.Ieee.Scale.{round_same}
 use lib.Ieee.Order.{kept, drop}
 use lib.Ieee.Positive.{first_pos}
 use Rattle.whole.specs.laws.Every.{at_each}
-use Rattle.decimal.specs.Decimal.{digits_end, sign_weight, powers_of_ten, rounded_of}
+use Rattle.whole.specs.laws.Biased.{below_or_not}
+use mathlib.Core.Logic.{◌⊎◌, inl, inr}
+use Rattle.decimal.specs.Decimal.{digits_end, powers_end, sign_weight, powers_of_ten, rounded_of, times_power}
 
 -- ---- products and quotients of whole numbers, the first of which may be zero
 
@@ -92,9 +93,6 @@ ten_value : (i : ℕ) → i < 23 → HasValue (get_or powers_of_ten i nan) false
 unfolding powers_of_ten of_bits
 ten_value i h = ten_is i (get_or powers_of_ten i nan) (at_each (λ k. is_ten k (get_or powers_of_ten k nan)) 23 tt i h)
 
-pub ten_at : (l : List Float) (i : ℕ) → l ≡ powers_of_ten → i < 23 → HasValue (get_or l i nan) false (10 ^ i) 1
-ten_at l i e h = subst (λ (z : List Float). HasValue (get_or z i nan) false (10 ^ i) 1) (sym e) (ten_value i h)
-
 pub ten_pos : (i : ℕ) → 0 < 10 ^ i
 ten_pos i = one-le-pow i 10 (zero-lt-suc 9)
 
@@ -124,11 +122,22 @@ over_is d q x y l h k =
     back : (q : ℕ) → 22 ≤ q → q - 22 + 22 ≡ q
     back q l = omega arith
 
--- ---- what a cast, a number's bits and a word's number ask
+-- digits times a power, as the table's user has it
+pub times_is : (d q : ℕ) → d < digits_end → q < powers_end → times_power (of_int binary64 (pos d)) q ≡ rounded_of d q
+unfolding times_power
+times_is d q h k = split (below_or_not q 22)
+  where
+    split : (q < 22) ⊎ (22 ≤ q) → times_power (of_int binary64 (pos d)) q ≡ rounded_of d q
+    split (inl l) =
+        rw (lt-ltb q 22 l)
+        (under_is d q (of_int binary64 (pos d)) (get_or powers_of_ten (22 - q) nan) l (whole_value d h)
+        (ten_value (22 - q) (omega arith)))
+    split (inr g) =
+        rw (le-ltb q 22 g)
+        (over_is d q (of_int binary64 (pos d)) (get_or powers_of_ten (q - 22) nan) g (whole_value d h)
+        (ten_value (q - 22) (omega arith)))
 
-pub in_float_lem : (d : ℕ) → d < digits_end → T (in_float binary64 (pos d))
-unfolding in_float
-in_float_lem d h = le→leb d (2 ^ 53) (le_trans (le_of_lt h) (lit≤ tt))
+-- ---- what a number's bits and a word's number ask
 
 odd_number : (s : Bool) (q k : ℕ) → T (not (is_nan (odd 54 s q k 1074)))
 unfolding odd is_nan

@@ -1,8 +1,9 @@
 -- A number of a model line, once its point is moved out: a sign, digits d and a power of ten from -22 to 22. The power
 -- is held as q, which is 22 more, so that the size is always the fraction d * 10^q over 10^22.
-use Rattle.std.specs.Prelude.{Bool, false, ◌&&◌, List, [], ◌∷◌, ℕ, ◌*◌, ◌^◌, ltb, Float}
-use Rattle.std.specs.Float.{binary64}
-use Rattle.std.specs.Float.Ieee.{round, to_bits, of_bits}
+use Rattle.std.specs.Prelude.{Bool, false, ◌&&◌, cond, List, [], ◌∷◌, get_or, ℕ, ◌-◌, ◌*◌, ◌^◌, ltb, Float}
+use Rattle.std.specs.Float.{binary64, nan}
+use Rattle.std.specs.Float.Ieee.{round, to_bits, of_bits, div, mul}
+use Rattle.decimal.specs.declared.Decimal.{Decimal}
 
 -- digits are below it: fifteen of them at most
 abbrev pub digits_end : ℕ
@@ -14,6 +15,10 @@ no_power = 22
 
 abbrev pub powers_end : ℕ
 powers_end = 45
+
+-- a number of its three parts
+abbrev pub decimal : Bool → ℕ → ℕ → Decimal
+decimal minus d q = record { minus = minus; digits = d; power = q }
 
 -- what the sign adds to a word
 abbrev pub sign_weight : ℕ
@@ -61,3 +66,9 @@ powers_of_ten =
     ∷ of_bits binary64 0x444b_1ae4_d6e2_ef50
     ∷ of_bits binary64 0x4480_f0cf_064d_d592
     ∷ []
+
+-- x with the power q - 22, by one division or one multiplication of f64s
+unfoldable pub times_power : Float → ℕ → Float
+times_power x q =
+    cond (ltb q no_power) (div binary64 x (get_or powers_of_ten (no_power - q) nan))
+    (mul binary64 x (get_or powers_of_ten (q - no_power) nan))

@@ -7,13 +7,12 @@ use native.Mathlib.Omega.{arith}
 use borrow.Author.Tests.{ltb-true}
 use lib.Dec.{leb, ltb, eqb, lit<}
 use Rattle.refusal.specs.Clash.{clash}
-use Rattle.decimal.specs.declared.Form.{Form}
-use Rattle.decimal.specs.declared.Form.TheVariants.{Number, Nothing}
+use Rattle.std.specs.Prelude.{Option, Some, None}
+use Rattle.decimal.specs.declared.Decimal.{Decimal}
 use Rattle.decimal.specs.Decimal.{digits_end, powers_end, sign_weight, size_bits}
 use Rattle.decimal.proofs.Order.{size_under, word_is}
 use Rattle.shortest.specs.Form.{form_of}
 use Rattle.shortest.specs.laws.Least.{ReadsBack}
-use Rattle.decimal_read.specs.declared.Reading.TheVariants.{Word}
 use Rattle.decimal_read.specs.Text.{most_digits, figure_of, power_after, ranged_if, placed_if, placed_of, ended_if, ended_of}
 use Rattle.decimal_read.specs.Text.{point_byte, minus_byte, counted, scanned_if, scanned, read_if, read_of, InRange, read_as}
 use Rattle.decimal_read.specs.Text.{word_read}
@@ -45,7 +44,7 @@ scanned_in minus d n f p (b ∷ s) h k =
     scanned_in minus (d * 10 + figure_of b) (n + 1) (counted p f) p s (grown d n (figure_of b) h u) (omega arith))
     (scanned_in minus d n f true s h k)
   where
-    other : (u : Bool) (digit : Form) → InRange (scanned minus d n f true s)
+    other : (u : Bool) (digit : Option Decimal) → InRange (scanned minus d n f true s)
         → InRange (scanned_if false u digit (scanned minus d n f true s) (ended_of minus d n f (b ∷ s)))
     other true digit dot = dot
     other false digit dot = ended minus (ltb 0 n) d f (b ∷ s) (within d n h k)
@@ -78,21 +77,21 @@ pub record Numbered (w : ℕ) : Type 0 where
   pub power : ℕ
   pub back : ReadsBack w minus digits power
 
-form_numbered : (f : Form) (w : ℕ) → InRange f → read_as f ≡ Word w → Numbered w
-form_numbered (Number m d q) w r e =
+form_numbered : (f : Option Decimal) (w : ℕ) → InRange f → read_as f ≡ Some w → Numbered w
+form_numbered (Some x) w r e =
     record {
-      minus = m;
-      digits = d;
-      power = q;
+      minus = x.minus;
+      digits = x.digits;
+      power = x.power;
       back = record { digits = r.0; power = r.1; bits = cc };
     }
-form_numbered Nothing w r e = clash cc
+form_numbered None w r e = clash cc
 
-pub read_numbered : (s : List ℕ) (w : ℕ) → word_read s ≡ Word w → Numbered w
+pub read_numbered : (s : List ℕ) (w : ℕ) → word_read s ≡ Some w → Numbered w
 unfolding word_read
 read_numbered s w e = form_numbered (read_of s) w (read_in s) e
 
-pub numbered_form : (w : ℕ) → Numbered w → form_of w ≡ Nothing → ⊥
+pub numbered_form : (w : ℕ) → Numbered w → form_of w ≡ None → ⊥
 numbered_form w v e = none_reads w e v.minus v.digits v.power v.back
 
 pub numbered_below : (w : ℕ) → Numbered w → w < 2 ^ 64

@@ -1,2 +1,3 @@
--- The text of a number, and the number that it stands for.
+-- The text of a number, and the number that it stands for; `inner` has a word of inner contracts.
 pub mod Text
+pub mod inner

@@ -1,12 +1,10 @@
 -- The text of a number: a minus or none, digits with at most one point among them, fifteen at most, then nothing or an
 -- `e` and a power, itself a minus or none and one or two digits. Read from its first byte to its last.
-use Rattle.std.specs.Prelude.{Bool, true, false, ◌&&◌, not, cond, List, [], ◌∷◌, ℕ, ◌+◌, ◌-◌, ◌*◌, ◌<◌, leb, ltb, eqb}
+use Rattle.std.specs.Prelude.{Bool, true, false, ◌&&◌, not, cond, List, [], ◌∷◌, Option, Some, None, ℕ, ◌+◌, ◌-◌, ◌*◌}
+use Rattle.std.specs.Prelude.{◌<◌, leb, ltb, eqb}
 use Rattle.spelling.specs.Number.{is_digit}
-use Rattle.decimal.specs.declared.Form.{Form}
-use Rattle.decimal.specs.declared.Form.TheVariants.{Number, Nothing}
-use Rattle.decimal.specs.Decimal.{digits_end, powers_end, word_of}
-use Rattle.decimal_read.specs.declared.Reading.{Reading}
-use Rattle.decimal_read.specs.declared.Reading.TheVariants as reading
+use Rattle.decimal.specs.declared.Decimal.{Decimal}
+use Rattle.decimal.specs.Decimal.{decimal, digits_end, powers_end, word_of}
 
 -- the bytes that have a meaning beside the digits
 abbrev pub minus_byte : ℕ
@@ -56,23 +54,23 @@ power_after (b ∷ s) = marked_if (eqb b mark_byte) s
 
 -- d with f digits after the point and the power r - 99: moving the point out takes f from the power, which is then from
 -- -22 to 22; 200, which is no power, is above that for every f
-abbrev pub ranged_if : Bool → Bool → ℕ → ℕ → Form
-ranged_if minus true d q = Number minus d q
-ranged_if minus false d q = Nothing
+abbrev pub ranged_if : Bool → Bool → ℕ → ℕ → Option Decimal
+ranged_if minus true d q = Some (decimal minus d q)
+ranged_if minus false d q = None
 
-abbrev pub placed_if : Bool → Bool → ℕ → ℕ → Form
+abbrev pub placed_if : Bool → Bool → ℕ → ℕ → Option Decimal
 placed_if minus true d q = ranged_if minus (ltb q powers_end) d q
-placed_if minus false d q = Nothing
+placed_if minus false d q = None
 
-unfoldable pub placed_of : Bool → ℕ → ℕ → ℕ → Form
+unfoldable pub placed_of : Bool → ℕ → ℕ → ℕ → Option Decimal
 placed_of minus d f r = placed_if minus (leb (77 + f) r) d (r - (77 + f))
 
 -- there is a digit at least, and s follows them
-abbrev pub ended_if : Bool → Bool → ℕ → ℕ → List ℕ → Form
+abbrev pub ended_if : Bool → Bool → ℕ → ℕ → List ℕ → Option Decimal
 ended_if minus true d f s = placed_of minus d f (power_after s)
-ended_if minus false d f s = Nothing
+ended_if minus false d f s = None
 
-unfoldable pub ended_of : Bool → ℕ → ℕ → ℕ → List ℕ → Form
+unfoldable pub ended_of : Bool → ℕ → ℕ → ℕ → List ℕ → Option Decimal
 ended_of minus d n f s = ended_if minus (ltb 0 n) d f s
 
 -- a digit more, after the point or not
@@ -80,13 +78,13 @@ abbrev pub counted : Bool → ℕ → ℕ
 counted true f = f + 1
 counted false f = f
 
-abbrev pub scanned_if : Bool → Bool → Form → Form → Form → Form
+abbrev pub scanned_if : Bool → Bool → Option Decimal → Option Decimal → Option Decimal → Option Decimal
 scanned_if true p digit dot end = digit
 scanned_if false true digit dot end = dot
 scanned_if false false digit dot end = end
 
 -- n digits that make d are read, f of them after the point if there was one; s is still to be read
-unfoldable pub scanned : Bool → ℕ → ℕ → ℕ → Bool → List ℕ → Form
+unfoldable pub scanned : Bool → ℕ → ℕ → ℕ → Bool → List ℕ → Option Decimal
 scanned minus d n f point [] = ended_of minus d n f []
 scanned minus d n f point (b ∷ s) =
     scanned_if (ltb (figure_of b) 10 && ltb n most_digits) (eqb b point_byte && not point)
@@ -94,23 +92,23 @@ scanned minus d n f point (b ∷ s) =
     (scanned minus d n f true s)
     (ended_of minus d n f (b ∷ s))
 
-abbrev pub read_if : Bool → ℕ → List ℕ → Form
+abbrev pub read_if : Bool → ℕ → List ℕ → Option Decimal
 read_if true b s = scanned true 0 0 0 false s
 read_if false b s = scanned false 0 0 0 false (b ∷ s)
 
-unfoldable pub read_of : List ℕ → Form
-read_of [] = Nothing
+unfoldable pub read_of : List ℕ → Option Decimal
+read_of [] = None
 read_of (b ∷ s) = read_if (eqb b minus_byte) b s
 
 -- digits and a power in their ranges
-abbrev pub InRange : Form → Type 0
-InRange (Number minus d q) = (d < digits_end) × (q < powers_end)
-InRange Nothing = Unit
+abbrev pub InRange : Option Decimal → Type 0
+InRange (Some x) = (x.digits < digits_end) × (x.power < powers_end)
+InRange None = Unit
 
 -- ---- the word that a text stands for
-abbrev pub read_as : Form → Reading
-read_as (Number minus d q) = reading.Word (word_of minus d q)
-read_as Nothing = reading.Nothing
+abbrev pub read_as : Option Decimal → Option ℕ
+read_as (Some x) = Some (word_of x.minus x.digits x.power)
+read_as None = None
 
-unfoldable pub word_read : List ℕ → Reading
+unfoldable pub word_read : List ℕ → Option ℕ
 word_read s = read_as (read_of s)

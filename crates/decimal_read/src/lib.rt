@@ -1,135 +1,87 @@
-// The text of a number, read. Inside, no answer is an enum: a digit, two digits and a power have a number that none of
-// them has for what is none.
+// The text of a number, read.
 #![tactic(auto)]
 
 ghost use Rattle.std.specs.Prelude.{false, ◌≡◌, ◌+◌, ◌<◌, ◌≤◌};
-ghost use Rattle.decimal.specs.Decimal.{digits_end, powers_of_ten};
+ghost use Rattle.decimal.specs.Decimal.{digits_end};
 ghost use Rattle.decimal_read.specs.Text.{most_digits, figure_of, pair_of, signed_power, power_after, placed_of};
-ghost use Rattle.decimal_read.specs.Text.{ended_of, counted};
-ghost use Rattle.decimal_read.specs.Text.{scanned, read_of, InRange, word_read};
+ghost use Rattle.decimal_read.specs.Text.{ended_of, scanned, read_of, InRange, word_read};
+ghost use Rattle.decimal_read.specs.inner.Told.{Told};
 
-use decimal::Form;
+use decimal::{Decimal, POWERS_END, PowersOfTen};
 
 const MOST_DIGITS: u64 = 15;
 
-const POWERS_END: u64 = 45;
-
-// What a text stands for where a number is wanted.
-#[derive(Clone, Copy)]
-pub enum Reading {
-    Word(u64),
-    Nothing,
+// The digit of a byte.
+fn figure(b: u8) -> Option<u64>
+    ensures { Told 10 result (figure_of b) }
+{
+    Some(u64::from(char::from(b).to_digit(10)?))
 }
 
-// The digit of a byte, 10 for none.
-fn figure(b: u8) -> u64
-    ensures { (result ≡ figure_of b) × (result ≤ 10) }
+// A digit or two.
+fn pair(s: &[u8]) -> Option<u64>
+    ensures { Told 100 result (pair_of s.now) }
 {
-    if 48 <= b {
-        if b <= 57 {
-            return (b - 48) as u64;
-        }
+    match s {
+        [a] => figure(*a),
+        [a, b] => Some(figure(*a)? * 10 + figure(*b)?),
+        _ => None,
     }
-    10
 }
 
-// A digit or two, 100 for neither.
-fn pair(s: &[u8]) -> u64
-    ensures { (result ≡ pair_of s.now) × (result ≤ 100) }
+// A power with 99 added.
+fn signed(s: &[u8]) -> Option<u64>
+    ensures { Told 200 result (signed_power s.now) }
 {
-    if s.len() == 1 {
-        let a = figure(s[0]);
-        if a < 10 {
-            return a;
-        }
-        return 100;
+    match s {
+        [] => None,
+        [b'-', digits @ ..] => Some(99 - pair(digits)?),
+        _ => Some(99 + pair(s)?),
     }
-    if s.len() == 2 {
-        let a = figure(s[0]);
-        let b = figure(s[1]);
-        if a < 10 {
-            if b < 10 {
-                return a * 10 + b;
-            }
-        }
-        return 100;
-    }
-    100
-}
-
-// A power with 99 added, 200 for none.
-fn signed(s: &[u8]) -> u64
-    ensures { (result ≡ signed_power s.now) × (result ≤ 200) }
-{
-    if s.len() == 0 {
-        return 200;
-    }
-    if s[0] == b'-' {
-        let v = pair(&s[1..]);
-        if v < 100 {
-            return 99 - v;
-        }
-        return 200;
-    }
-    let v = pair(s);
-    if v < 100 {
-        return 99 + v;
-    }
-    200
 }
 
 // The same, of all that follows the digits.
-fn power(s: &[u8]) -> u64
-    ensures { (result ≡ power_after s.now) × (result ≤ 200) }
+fn power(s: &[u8]) -> Option<u64>
+    ensures { Told 200 result (power_after s.now) }
 {
-    if s.len() == 0 {
-        return 99;
+    match s {
+        [] => Some(99),
+        [b'e', rest @ ..] => signed(rest),
+        _ => None,
     }
-    if s[0] == b'e' {
-        return signed(&s[1..]);
-    }
-    200
 }
 
 // The point moved out.
-fn placed(minus: bool, d: u64, f: u64, r: u64) -> Form
+fn placed(minus: bool, d: u64, f: u64, r: u64) -> Option<Decimal>
     requires f_le_most_digits { f ≤ most_digits }
     requires d_lt_digits_end { d < digits_end }
     ensures { (result ≡ placed_of minus d f r) × InRange result }
 {
-    if r < 77 + f {
-        return Form::Nothing;
-    }
-    let q = r - (77 + f);
+    let q = r.checked_sub(77 + f)?;
     if q < POWERS_END {
-        return Form::Number(minus, d, q);
+        Some(Decimal {
+            minus,
+            digits: d,
+            power: q,
+        })
+    } else {
+        None
     }
-    Form::Nothing
 }
 
-fn ended(minus: bool, d: u64, n: u64, f: u64, s: &[u8]) -> Form
+fn ended(minus: bool, d: u64, n: u64, f: u64, s: &[u8]) -> Option<Decimal>
     requires f_le_most_digits { f ≤ most_digits }
     requires d_lt_digits_end { d < digits_end }
     ensures { (result ≡ ended_of minus d n f s.now) × InRange result }
 {
-    if 0 < n {
-        return placed(minus, d, f, power(s));
+    if n == 0 {
+        return None;
     }
-    Form::Nothing
-}
-
-fn counted_on(point: bool, f: u64) -> u64
-    requires { f < most_digits }
-    ensures { (result ≡ counted point f) × (result ≤ f + 1) }
-{
-    if point {
-        return f + 1;
-    }
-    f
+    placed(minus, d, f, power(s)?)
 }
 
 // All that follows the sign.
-fn scan(minus: bool, s: &[u8]) -> Form
+fn scan(minus: bool, s: &[u8]) -> Option<Decimal>
     ensures { (result ≡ scanned minus 0 0 0 false s.now) × InRange result }
 {
     let mut t = s;
@@ -137,53 +89,39 @@ fn scan(minus: bool, s: &[u8]) -> Form
     let mut n = 0u64;
     let mut f = 0u64;
     let mut point = false;
-    while 0 < t.len() {
-        let v = figure(t[0]);
-        if v < 10 {
-            if n < MOST_DIGITS {
+    while let [b, rest @ ..] = t {
+        match figure(*b) {
+            Some(v) if n < MOST_DIGITS => {
                 d = d * 10 + v;
                 n += 1;
-                f = counted_on(point, f);
-                t = &t[1..];
-            } else {
-                return ended(minus, d, n, f, t);
+                f += u64::from(point);
+                t = rest;
             }
-        } else {
-            if t[0] == b'.' {
-                if point {
-                    return ended(minus, d, n, f, t);
-                }
+            None if *b == b'.' && !point => {
                 point = true;
-                t = &t[1..];
-            } else {
-                return ended(minus, d, n, f, t);
+                t = rest;
             }
+            _ => return ended(minus, d, n, f, t),
         }
     }
     ended(minus, d, n, f, t)
 }
 
 // The number that a text stands for.
-fn read(s: &[u8]) -> Form
+fn read(s: &[u8]) -> Option<Decimal>
     ensures { (result ≡ read_of s.now) × InRange result }
 {
-    if s.len() == 0 {
-        return Form::Nothing;
+    match s {
+        [] => None,
+        [b'-', rest @ ..] => scan(true, rest),
+        _ => scan(false, s),
     }
-    if s[0] == b'-' {
-        return scan(true, &s[1..]);
-    }
-    scan(false, s)
 }
 
 // Its word.
-pub fn read_word(tens: &[f64; 23], s: &[u8]) -> Reading
-    requires { tens.now ≡ powers_of_ten }
+pub fn read_word(tens: &PowersOfTen, s: &[u8]) -> Option<u64>
     ensures { result ≡ word_read s.now }
 {
-    let form = read(s);
-    match form {
-        Form::Number(minus, d, q) => Reading::Word(decimal::word(tens, minus, d, q)),
-        Form::Nothing => Reading::Nothing,
-    }
+    let x = read(s)?;
+    Some(decimal::word(tens, x))
 }

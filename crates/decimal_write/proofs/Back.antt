@@ -10,8 +10,8 @@ use lib.ListN.{length, get_or, length-append}
 use borrow.Author.Tests.{lt-ltb, ltb-true, ltb-false, ne_eqb}
 use Rattle.whole.specs.laws.Every.{at_each}
 use Rattle.spelling.specs.Digits.{plain_digits}
-use Rattle.decimal.specs.declared.Form.TheVariants.{Number}
-use Rattle.decimal.specs.Decimal.{digits_end, powers_end}
+use Rattle.std.specs.Prelude.{Some}
+use Rattle.decimal.specs.Decimal.{decimal, digits_end, powers_end}
 use Rattle.decimal_read.specs.Text.{figure_of, pair_of, signed_power, power_after, placed_of, ended_if, ended_of}
 use Rattle.decimal_read.specs.Text.{scanned, read_if, read_of}
 use Rattle.decimal_read.proofs.Bytes.{digit_in}
@@ -110,22 +110,21 @@ some_digits k d = by (ltb d 10) refl
     by true e = rw (one_digit k d (ltb-true d 10 e)) (omega arith)
     by false e = rw (more_digits k d (ltb-false d 10 e), length-append) (omega arith)
 
-ending : (m : Bool) (d n q : ℕ) → 0 < n → q < powers_end → scanned m d n 0 false (101 ∷ power_text q) ≡ Number m d q
+ending : (m : Bool) (d n q : ℕ) → 0 < n → q < powers_end → scanned m d n 0 false (101 ∷ power_text q) ≡ Some (decimal m d q)
 unfolding scanned figure_of ended_of power_after
 ending m d n q h l =
     let e : 77 + q - (77 + 0) ≡ q = omega arith in
     ap (λ (t : Bool). ended_if m t d 0 (101 ∷ power_text q)) (lt-ltb 0 n h)
     ∙ ap (placed_of m d 0) (power_back q l)
-    ∙ sym (placed_in m d 0 (77 + q) (omega arith) (omega arith))
-    ∙ ap (Number m d) e
+    ∙ sym (placed_in m d 0 (77 + q) q (omega arith) (sym e) l)
 
 body : (m : Bool) (d q : ℕ) → d < digits_end → q < powers_end
-    → scanned m 0 0 0 false (plain_digits 15 d ++ (101 ∷ power_text q)) ≡ Number m d q
+    → scanned m 0 0 0 false (plain_digits 15 d ++ (101 ∷ power_text q)) ≡ Some (decimal m d q)
 body m d q h l =
     digits_read 15 d h (le_refl 15) m (101 ∷ power_text q)
     ∙ ending m d (length (plain_digits 15 d)) q (some_digits 14 d) l
 
-pub number_back : (m : Bool) (d q : ℕ) → d < digits_end → q < powers_end → read_of (number_text m d q) ≡ Number m d q
+pub number_back : (m : Bool) (d q : ℕ) → d < digits_end → q < powers_end → read_of (number_text m d q) ≡ Some (decimal m d q)
 unfolding number_text read_of
 number_back true d q h l = body true d q h l
 number_back false d q h l =

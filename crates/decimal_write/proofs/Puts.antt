@@ -1,22 +1,14 @@
 -- Texts put one after the other, and what the digits and the parts of a number are.
-use mathlib.Core.Path.{◌≡◌, refl, sym, ap, ◌∙◌, subst}
+use mathlib.Core.Path.{◌≡◌, sym, ap, ◌∙◌, subst}
 use mathlib.Core.Bool.{Bool, true, false}
-use mathlib.Core.List.{List, [], ◌∷◌, ◌++◌, append_assoc, append-nil}
+use mathlib.Core.List.{List, [], ◌∷◌, ◌++◌, append_assoc}
 use Prim.Native.Nat.{ℕ, zero, suc, ◌+◌, ◌-◌, ◌/◌, ◌%◌, ◌≤◌, ◌<◌}
-use native.Mathlib.Numerals.{add-one}
 use native.Mathlib.Omega.{arith}
-use lib.ListN.{length, take, get_or, set, length-set}
-use lib.Seq.{take-suc-set, take-suc, take_all}
+use lib.ListN.{take}
 use borrow.Author.Tests.{lt-ltb, le-ltb}
 use Rattle.spelling.specs.Digits.{plain_digits, sign_of}
 use Rattle.decimal_write.specs.Written.{power_if, power_text, number_text}
 use Rattle.decimal_write.specs.Added.{Added}
-
-pub put_one : (l : List ℕ) (i b : ℕ) → i < length l → Added l i (set l i b) (i + 1) (b ∷ [])
-put_one l i b h = record {
-  same = ap (λ (n : ℕ). take n (set l i b)) (add-one i) ∙ take-suc-set l i b h;
-  kept = length-set l i b;
-}
 
 -- one text after the other
 pub then : {o m n : List ℕ} {a r s : ℕ} {x y : List ℕ} → Added o a m r x → Added m r n s y → Added o a n s (x ++ y)
@@ -28,35 +20,6 @@ then {o} {a = a} {x = x} {y = y} e f = record {
 -- the same bytes by another name
 pub made : {o n : List ℕ} {a s : ℕ} {x y : List ℕ} → Added o a n s x → x ≡ y → Added o a n s y
 made {o} {n} {a} {s} e h = subst (Added o a n s) h e
-
--- ---- a text byte by byte
-
--- its first i bytes are put
-pub record Putting (text old : List ℕ) (at : ℕ) (new : List ℕ) (i : ℕ) : Type 0 where
-  pub within : i ≤ length text
-  pub added : Added old at new (at + i) (take i text)
-
-pub none_put : (o : List ℕ) (at : ℕ) (text : List ℕ) → Putting text o at o 0
-none_put o at text = let e : at + 0 ≡ at = omega arith in record {
-  within = omega arith;
-  added = record { same = ap (λ (n : ℕ). take n o) e ∙ sym (append-nil (take at o)); kept = refl };
-}
-
-module _ {text o n : List ℕ} {at i : ℕ} (v : Putting text o at n i) where
-  pub byte_put : i < length text → at + i < length n → Putting text o at (set n (at + i) (get_or text i 0)) (i + 1)
-  byte_put h k =
-      let z : at + i + 1 ≡ at + (i + 1) = omega arith in
-      let more : take i text ++ (get_or text i 0 ∷ []) ≡ take (i + 1) text =
-      sym (ap (λ (m : ℕ). take m text) (add-one i) ∙ take-suc text i 0 h) in
-      record {
-        within = omega arith;
-        added =
-            subst (λ (m : ℕ). Added o at (set n (at + i) (get_or text i 0)) m (take (i + 1) text)) z
-            (made (then v.added (put_one n (at + i) (get_or text i 0) k)) more);
-      }
-
-  pub all_put : length text ≤ i → (at + i ≡ at + length text) × Added o at n (at + i) text
-  all_put h = let w = v.within in (omega arith, made v.added (take_all i text h))
 
 -- ---- digits
 

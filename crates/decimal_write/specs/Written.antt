@@ -1,8 +1,7 @@
 -- The text that is written for a number: its digits, an `e` and its power, without zeros in front of either.
-use Rattle.std.specs.Prelude.{Bool, true, false, List, [], ◌∷◌, ◌++◌, ℕ, ◌-◌, ltb}
+use Rattle.std.specs.Prelude.{Bool, true, false, List, [], ◌∷◌, ◌++◌, Option, Some, None, ℕ, ◌-◌, ltb}
 use Rattle.spelling.specs.Digits.{plain_digits, sign_of}
-use Rattle.decimal.specs.declared.Form.{Form}
-use Rattle.decimal.specs.declared.Form.TheVariants.{Number, Nothing}
+use Rattle.decimal.specs.declared.Decimal.{Decimal}
 use Rattle.decimal.specs.Decimal.{no_power}
 use Rattle.decimal_read.specs.Text.{minus_byte, mark_byte, most_digits}
 
@@ -18,6 +17,6 @@ unfoldable pub number_text : Bool → ℕ → ℕ → List ℕ
 number_text minus d q = sign_of minus ++ (plain_digits most_digits d ++ (mark_byte ∷ power_text q))
 
 -- of a form; nothing is written where there is none
-unfoldable pub form_text : Form → List ℕ
-form_text (Number minus d q) = number_text minus d q
-form_text Nothing = []
+unfoldable pub form_text : Option Decimal → List ℕ
+form_text (Some x) = number_text x.minus x.digits x.power
+form_text None = []

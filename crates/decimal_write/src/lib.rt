@@ -7,15 +7,14 @@ ghost use Rattle.decimal.specs.Decimal.{digits_end, powers_end};
 ghost use Rattle.decimal_write.specs.Added.{line_room, Added};
 ghost use Rattle.decimal_write.specs.Written.{power_text, number_text};
 
+use decimal::{Decimal, NO_POWER};
+
 // How many bytes a line's room has.
 pub const LINE_ROOM: usize = 640;
-
-const NO_POWER: u64 = 22;
 
 const MOST_DIGITS: usize = 15;
 
 fn put(line: &mut [u8; LINE_ROOM], at: usize, b: u8) -> usize
-    requires line_len { length line.old ≡ line_room }
     requires at_lt_line_room { at < line_room }
     ensures { (result ≡ at + 1) × Added line.old at line.new result (b ∷ []) }
 {
@@ -25,22 +24,17 @@ fn put(line: &mut [u8; LINE_ROOM], at: usize, b: u8) -> usize
 
 // The bytes of a text.
 pub fn put_bytes(line: &mut [u8; LINE_ROOM], at: usize, text: &[u8]) -> usize
-    requires line_len { length line.old ≡ line_room }
     requires text_bound { at + length text.now ≤ line_room }
     ensures { (result ≡ at + length text.now) ×
         Added line.old at line.new result text.now }
 {
-    let mut i = 0;
-    while i < text.len() {
-        line[at + i] = text[i];
-        i += 1;
-    }
-    at + i
+    let end = at + text.len();
+    line[at..end].copy_from_slice(text);
+    end
 }
 
 // The decimal digits of d, which has at most k.
 fn put_digits(line: &mut [u8; LINE_ROOM], at: usize, k: usize, d: u64) -> usize
-    requires line_len { length line.old ≡ line_room }
     requires k_nonzero { 0 < k }
     requires k_bound { at + k ≤ line_room }
     requires d_bound { d < 10 ^ k }
@@ -54,7 +48,6 @@ fn put_digits(line: &mut [u8; LINE_ROOM], at: usize, k: usize, d: u64) -> usize
 }
 
 fn put_power(line: &mut [u8; LINE_ROOM], at: usize, q: u64) -> usize
-    requires line_len { length line.old ≡ line_room }
     requires at_bound { at + 3 ≤ line_room }
     requires q_lt_powers_end { q < powers_end }
     ensures { (result ≤ at + 3) × Added line.old at line.new result (power_text q) }
@@ -67,20 +60,15 @@ fn put_power(line: &mut [u8; LINE_ROOM], at: usize, q: u64) -> usize
 }
 
 // A number: 20 bytes at most.
-pub fn put_number(line: &mut [u8; LINE_ROOM], at: usize, minus: bool, d: u64, q: u64) -> usize
-    requires line_len { length line.old ≡ line_room }
+pub fn put_number(line: &mut [u8; LINE_ROOM], at: usize, x: Decimal) -> usize
     requires at_bound { at + 20 ≤ line_room }
-    requires d_lt_digits_end { d < digits_end }
-    requires q_lt_powers_end { q < powers_end }
-    ensures { (result ≤ at + 20) × Added line.old at line.new result (number_text minus d q) }
+    requires digits_lt_digits_end { x.digits < digits_end }
+    requires power_lt_powers_end { x.power < powers_end }
+    ensures { (result ≤ at + 20) ×
+        Added line.old at line.new result (number_text x.minus x.digits x.power) }
 {
-    if minus {
-        let first = put(line, at, b'-');
-        let mark = put_digits(line, first, MOST_DIGITS, d);
-        let power = put(line, mark, b'e');
-        return put_power(line, power, q);
-    }
-    let mark = put_digits(line, at, MOST_DIGITS, d);
+    let first = if x.minus { put(line, at, b'-') } else { at };
+    let mark = put_digits(line, first, MOST_DIGITS, x.digits);
     let power = put(line, mark, b'e');
-    put_power(line, power, q)
+    put_power(line, power, x.power)
 }

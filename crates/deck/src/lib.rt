@@ -1,6 +1,9 @@
-// The cards' numbers as flat arrays: each place has a stretch of every array. No code; `laying` writes them and
-// `dealing` reads them.
+// The cards' numbers as flat arrays: each place has a stretch of every array. `laying` writes them and `dealing` reads
+// them.
 #![tactic(auto)]
+
+ghost use Rattle.std.specs.Prelude.{◌≡◌, ◌≤◌, ◌+◌, ◌*◌, length};
+ghost use Rattle.deck.specs.Stretch.{stretch, written};
 
 pub use rows::terms;
 
@@ -30,3 +33,19 @@ pub const ALL_POWERS: usize = POWERS * CARDS;
 pub const ALL_TICKS: usize = TICKS * CARDS;
 
 pub const ALL_SWITCHES: usize = SWITCHES * CARDS;
+
+// The stretch of a place in a flat array that has N elements for each place.
+pub fn stretch_at<T: Copy, const N: usize>(all: &[T], i: usize) -> [T; N]
+    requires { N * i + N ≤ length all.now }
+    ensures { (d : _) → result ≡ stretch d all.now (N * i) N }
+{
+    *all[N * i..N * i + N].as_array().unwrap()
+}
+
+// Writes it.
+pub fn put_stretch<T: Copy, const N: usize>(all: &mut [T], i: usize, own: &[T; N])
+    requires { N * i + N ≤ length all.old }
+    ensures { (d : _) → all.new ≡ written d all.old (N * i) own.now N }
+{
+    all[N * i..N * i + N].copy_from_slice(own);
+}

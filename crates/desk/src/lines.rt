@@ -1,4 +1,5 @@
 // A script obeyed, line by line.
+ghost use Rattle.std.specs.Prelude.{IfOk};
 ghost use Rattle.obeying.specs.OfBoard.Promise.{Reached};
 
 use crate::options::Options;
@@ -6,7 +7,7 @@ use crate::out::{flush, write_unreadable};
 use crate::shelf::{clear, take_library};
 use crate::showing::{begin, end};
 use obeying::board::Board;
-use page::ROOM;
+use page::{Page, ROOM};
 use saying::part;
 use script::{MOST_BYTES, Verb};
 use shelving::MOST;
@@ -21,199 +22,135 @@ const LINE: usize = script::LONGEST_LINE + 1;
 // How much is read at once.
 const READ: usize = 65536;
 
-// Adds a byte to the n of a line, where there is room for it.
-fn add(b: u8, line: &mut [u8; LINE], n: &mut usize) {
-    let k = *n;
-    if k < LINE {
-        line[k] = b;
-        *n = k + 1;
-    }
-}
-
-// What one read came to.
-#[derive(Clone, Copy)]
-enum Got {
-    Bytes(usize),
-    End,
-    Failed,
-}
-
 // One read. Where nothing came a line end stands there, so that a last line that lacks its own is ended.
-fn read<R: Read>(from: &mut R, bytes: &mut [u8; READ]) -> Got {
-    match from.read(bytes) {
-        Ok(0) => {
-            bytes[0] = b'\n';
-            Got::End
-        }
-        Ok(n) => Got::Bytes(n),
-        Err(_) => {
-            bytes[0] = b'\n';
-            Got::Failed
-        }
+fn read<R: Read>(from: &mut R, bytes: &mut [u8; READ]) -> io::Result<usize> {
+    let got = from.read(bytes);
+    if !matches!(got, Ok(1..)) {
+        bytes[0] = b'\n';
     }
+    got
 }
 
 // What a read got, or the line end.
-fn taken(got: Got, bytes: &[u8; READ]) -> &[u8] {
+fn taken<'a>(got: &io::Result<usize>, bytes: &'a [u8; READ]) -> &'a [u8] {
     match got {
-        Got::Bytes(n) => part(bytes, 0, n),
-        _ => part(bytes, 0, 1),
+        Ok(0) | Err(_) => part(bytes, 0, 1),
+        Ok(n) => part(bytes, 0, *n),
     }
 }
 
-// Obeys the k bytes of a line that has ended, by whether it may poke. `spelled` is room for the bytes that hex digits
-// spell.
+// Obeys a line that has ended, by whether it may poke. `spelled` is room for the bytes that hex digits spell.
 fn obey_line(
     rt: &impl Files,
     board: Board,
     volts: &mut [i64; NODES],
     totals: &mut [i64; NODES],
     pokes: bool,
-    line: &[u8; LINE],
-    k: usize,
+    line: &[u8],
     spelled: &mut [u8; MOST_BYTES],
     held: &mut [u8; MOST],
-    out: &mut [u8; ROOM],
-    at: &mut usize,
+    page: &mut Page<ROOM>,
 ) -> Board
     requires { Reached board }
     ensures { Reached result }
 {
-    let text = part(line, 0, k);
-    let c = script::read(text, spelled);
-    let words = c.words;
-    let verb = c.verb;
-    match verb {
+    let c = script::read(line, spelled);
+    match c.verb {
         Verb::Library => {
-            take_library(rt, script::word(text, words, 1), held, out, at);
+            take_library(rt, script::word(line, c.words, 1), held, page);
             board
         }
-        _ => obeying::obey(board, volts, totals, pokes, c, text, spelled, held, out, at),
+        _ => obeying::obey(board, volts, totals, pokes, c, line, spelled, held, page),
     }
 }
 
-// The board that lines have left, and whether what they had to say was written: after a write that failed no line is
-// obeyed.
-#[derive(Drop)]
-struct Fed {
-    board: Board,
-    written: io::Result<()>,
-}
-
-// Takes what a read got of a script; n bytes of a line that has not ended are in `line`.
+// Takes bytes of a script; what there is of a line that has not ended is in `line`. After a write that failed no line
+// is obeyed.
 fn feed(
     rt: &HostRuntime,
     board: Board,
     volts: &mut [i64; NODES],
     totals: &mut [i64; NODES],
     asked: Options,
-    got: Got,
-    bytes: &[u8; READ],
-    line: &mut [u8; LINE],
-    n: &mut usize,
+    more: &[u8],
+    line: &mut Page<LINE>,
     held: &mut [u8; MOST],
-    out: &mut [u8; ROOM],
-    at: &mut usize,
-) -> Fed
+    page: &mut Page<ROOM>,
+) -> io::Result<Board>
     requires { Reached board }
-    ensures { Reached result.board }
+    ensures { IfOk result Reached }
 {
-    let more = taken(got, bytes);
     let mut spelled = [0u8; MOST_BYTES];
     let mut current = board;
-    let mut i = 0;
-    while i < more.len() {
-        let b = more[i];
-        i += 1;
+    for &b in more {
         if b != b'\n' {
-            add(b, line, n);
+            line.put(&[b]);
             continue;
         }
-        let k = *n;
-        *n = 0;
-        if let Err(e) = begin(rt, asked, out, at) {
-            return Fed {
-                board: current,
-                written: Err(e),
-            };
-        }
-        let next = obey_line(
+        begin(rt, asked, page)?;
+        current = obey_line(
             rt,
             current,
             volts,
             totals,
             asked.pokes,
-            line,
-            k,
+            line.written(),
             &mut spelled,
             held,
-            out,
-            at,
+            page,
         );
-        current = next;
-        if let Err(e) = end(rt, asked, part(line, 0, k), out, at) {
-            return Fed {
-                board: current,
-                written: Err(e),
-            };
-        }
+        end(rt, asked, line.written(), page)?;
+        line.used = 0;
     }
-    Fed {
-        board: current,
-        written: Ok(()),
-    }
+    Ok(current)
 }
 
 // Writes what waits, and a word on a read that failed.
 fn write_out(
     rt: &HostRuntime,
-    got: Got,
+    got: &io::Result<usize>,
     path: &[u8],
-    out: &[u8; ROOM],
-    at: &mut usize,
+    page: &mut Page<ROOM>,
 ) -> io::Result<()> {
-    flush(rt, out, at)?;
+    flush(rt, page)?;
     match got {
-        Got::Failed => write_unreadable(rt, path),
-        _ => Ok(()),
+        Ok(_) => Ok(()),
+        Err(_) => write_unreadable(rt, path),
     }
 }
 
 // Obeys all that can be read. Nothing says that the input ends: the turns are counted to a number that no run uses up.
 pub fn run<R: Read>(rt: &HostRuntime, from: &mut R, path: &[u8], asked: Options) -> io::Result<()> {
     let mut bytes = [0u8; READ];
-    let mut line = [0u8; LINE];
-    let mut n: usize = 0;
+    let mut line = Page {
+        bytes: [0u8; LINE],
+        used: 0,
+    };
     let mut held = [0u8; MOST];
-    let mut out = [0u8; ROOM];
-    let mut at: usize = 0;
+    let mut page = Page {
+        bytes: [0u8; ROOM],
+        used: 0,
+    };
     let mut volts = [0i64; NODES];
     let mut totals = [0i64; NODES];
-    let begun = Board::fresh(&mut volts, &mut totals);
-    let mut board = begun.board;
+    let mut board = Board::fresh(&mut volts, &mut totals).board;
     clear(&mut held);
     for _ in 0..u64::MAX {
         let got = read(from, &mut bytes);
-        let fed = feed(
+        board = feed(
             rt,
             board,
             &mut volts,
             &mut totals,
             asked,
-            got,
-            &bytes,
+            taken(&got, &bytes),
             &mut line,
-            &mut n,
             &mut held,
-            &mut out,
-            &mut at,
-        );
-        fed.written?;
-        board = fed.board;
-        write_out(rt, got, path, &out, &mut at)?;
-        match got {
-            Got::Bytes(_) => {}
-            _ => return Ok(()),
+            &mut page,
+        )?;
+        write_out(rt, &got, path, &mut page)?;
+        if matches!(got, Ok(0) | Err(_)) {
+            break;
         }
     }
     Ok(())

@@ -1,20 +1,18 @@
 // A line repeated before its answer, and a refusal explained after it. For these the answer stands alone among the
 // bytes that wait: what waited before is written first, and no answer fills their room.
 use crate::options::Options;
-use crate::out::{flush, make_room, put_part};
+use crate::out::{flush, make_room};
 use explaining::EXPLANATION_ROOM;
-use page::ROOM;
+use page::{Page, ROOM};
 use saying::part;
 use std::io;
 
 // Before a line is obeyed.
-pub fn begin(rt: &HostRuntime, o: Options, out: &[u8; ROOM], at: &mut usize) -> io::Result<()> {
-    if o.explains {
-        flush(rt, out, at)
-    } else if o.echoes {
-        flush(rt, out, at)
+pub fn begin(rt: &HostRuntime, o: Options, page: &mut Page<ROOM>) -> io::Result<()> {
+    if o.explains || o.echoes {
+        flush(rt, page)
     } else {
-        make_room(rt, out, at)
+        make_room(rt, page)
     }
 }
 
@@ -27,27 +25,19 @@ fn echo(rt: &HostRuntime, line: &[u8]) -> io::Result<()> {
     Ok(())
 }
 
-// The first n bytes of an explanation.
-fn put_text(text: &[u8; EXPLANATION_ROOM], n: usize, out: &mut [u8; ROOM], at: &mut usize) {
-    put_part(text, n, out, at);
-}
-
 // Puts what explains the answer of n bytes and a newline after it.
-fn explain(n: usize, out: &mut [u8; ROOM], at: &mut usize) {
-    let mut text = [0u8; EXPLANATION_ROOM];
-    let k = explaining::explain_line(part(out, 0, n), &mut text);
-    put_text(&text, k, out, at);
+fn explain(n: usize, page: &mut Page<ROOM>) {
+    let mut text = Page {
+        bytes: [0u8; EXPLANATION_ROOM],
+        used: 0,
+    };
+    explaining::explain_line(part(&page.bytes, 0, n), &mut text);
+    page.put(text.written());
 }
 
 // After a line was obeyed. Where nothing waits it had no answer.
-pub fn end(
-    rt: &HostRuntime,
-    o: Options,
-    line: &[u8],
-    out: &mut [u8; ROOM],
-    at: &mut usize,
-) -> io::Result<()> {
-    let n = *at;
+pub fn end(rt: &HostRuntime, o: Options, line: &[u8], page: &mut Page<ROOM>) -> io::Result<()> {
+    let n = page.used;
     if n == 0 {
         return Ok(());
     }
@@ -55,7 +45,7 @@ pub fn end(
         echo(rt, line)?;
     }
     if o.explains {
-        explain(n - 1, out, at);
+        explain(n - 1, page);
     }
     Ok(())
 }

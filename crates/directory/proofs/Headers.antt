@@ -6,11 +6,11 @@ use mathlib.Core.Logic.{◌⊎◌, inl, inr}
 use Prim.Native.Nat.{ℕ, ◌*◌, ◌-◌, ◌<◌, ◌≤◌}
 use native.Mathlib.Nat.{mul-le-mul}
 use native.Mathlib.Omega.{arith}
-use borrow.Author.Tests.{ltb-true, leb-true, eqb-true, lt-ltb, le-ltb, le-leb, lt-leb, eq-eqb, ne_eqb}
+use borrow.Author.Tests.{ltb-true, leb-true, eqb-true, le-ltb, ne_eqb}
 use lib.Dec.{eqb, leb, ltb}
 use lib.ListN.{length, take, drop}
 use Rattle.roll.specs.Directory.{name_bytes}
-use Rattle.name.proofs.Laws.{and_true, and_false}
+use Rattle.name.proofs.Laws.{and_false}
 use Rattle.directory.specs.Format.{header_bytes, most_cards, words_of, records_at, whole_of}
 use Rattle.directory.specs.Format.{version, count, directory_offset, records_offset, whole_length}
 use Rattle.directory.specs.Format.{agree, headed, directory}
@@ -48,47 +48,12 @@ other_version v f g =
 pub few : {k n : ℕ} → k ≤ most_words → n ≤ most_cards → k * n ≤ most_words * most_cards
 few hk hn = mul-le-mul hk hn
 
--- ---- the tests in their order
+-- ---- a version that is not known
 
 module _ (v n d r w l : ℕ) {k : ℕ} (e : k ≡ words_of v) where
   pub agree_version : k ≡ 0 → false ≡ agree v n d r w l
   unfolding agree
   agree_version z = let h : words_of v ≤ 0 = omega arith in sym (and_false (le-ltb 0 (words_of v) h) _)
-
-  module _ (z : k ≡ 0 → ⊥) where
-    known : ltb 0 (words_of v) ≡ true
-    known = let h : 0 < words_of v = omega arith in lt-ltb 0 (words_of v) h
-
-    pub agree_count : most_cards < n → false ≡ agree v n d r w l
-    unfolding agree
-    agree_count h = sym (and_true known ∙ and_false (lt-leb n most_cards h) _)
-
-    module _ (hn : n ≤ most_cards) where
-      pub agree_directory : (d ≡ header_bytes → ⊥) → false ≡ agree v n d r w l
-      unfolding agree
-      agree_directory h = sym (and_true known ∙ and_true (le-leb n most_cards hn) ∙ and_false (ne_eqb d header_bytes h) _)
-
-      module _ (hd : d ≡ header_bytes) where
-        pub agree_records : (r ≡ records_at n → ⊥) → false ≡ agree v n d r w l
-        unfolding agree
-        agree_records h =
-            sym
-            (and_true known ∙ and_true (le-leb n most_cards hn) ∙ and_true (eq-eqb d header_bytes hd) ∙ and_false
-            (ne_eqb r (records_at n) h) _)
-
-        module _ (hr : r ≡ records_at n) where
-          so_far : agree v n d r w l ≡ (eqb w (whole_of k n) && eqb l (whole_of k n))
-          unfolding agree
-          so_far =
-              and_true known ∙ and_true (le-leb n most_cards hn) ∙ and_true (eq-eqb d header_bytes hd) ∙ and_true
-              (eq-eqb r (records_at n) hr)
-              ∙ ap (λ (m : ℕ). eqb w (whole_of m n) && eqb l (whole_of m n)) (sym e)
-
-          pub agree_whole : (w ≡ whole_of k n → ⊥) → false ≡ agree v n d r w l
-          agree_whole h = sym (so_far ∙ and_false (ne_eqb w (whole_of k n) h) _)
-
-          pub agree_length : w ≡ whole_of k n → eqb l (whole_of k n) ≡ agree v n d r w l
-          agree_length h = sym (so_far ∙ and_true (eq-eqb w (whole_of k n) h))
 
 -- the header's numbers as they are read
 pub headed_by : (s : List ℕ) {v n d r w : ℕ} {b : Bool}

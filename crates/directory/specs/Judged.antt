@@ -1,16 +1,16 @@
 -- 1, 2 and 3: of a library, and of names and words that are to become one.
-use Rattle.std.specs.Prelude.{◌≡◌, not, List, ℕ}
+use Rattle.std.specs.Prelude.{◌≡◌, not, List, ℕ, Result, Ok, Err}
 use Rattle.refusal.specs.declared.Refusal.TheVariants.{Malformed, BadName, NameTwice}
 use Rattle.refusal.specs.Order.{Verdict, no, yes, refuse_if}
-use Rattle.directory.specs.declared.Inspection.{Inspection}
-use Rattle.directory.specs.declared.Inspection.TheVariants.{Numbers, Refused}
+use Rattle.refusal.specs.declared.Refusal.{Refusal}
+use Rattle.directory.specs.declared.Numbers.{Numbers}
 use Rattle.roll.specs.Directory.{names_in, names_held, all_named, twice}
 use Rattle.directory.specs.Format.{words_of, version, count, headed, directory, offered}
 
 -- what inspecting a library, or what is to become one, found
-abbrev pub found : Inspection → Verdict (ℕ × ℕ)
-found (Numbers n k) = yes (n, k)
-found (Refused f) = no f
+abbrev pub found : Result Numbers Refusal → Verdict (ℕ × ℕ)
+found (Ok a) = yes (a.cards, a.words)
+found (Err f) = no f
 
 -- 2 for a malformed name anywhere in a directory, then 3 for a name that stands twice; else a
 unfoldable pub names_judged : {A : Type 0} → List ℕ → A → Verdict A

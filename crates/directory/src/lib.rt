@@ -15,13 +15,13 @@ pub use roll::NAME_BYTES;
 pub const HEADER_BYTES: usize = 16;
 
 // The most cards that a library holds.
-const MOST_CARDS: usize = 256;
+pub const MOST_CARDS: usize = 256;
 
-// A library, or what is to become one, inspected: its count of cards and the words of a record, or what is wrong.
+// The numbers of a library, or of what is to become one: its count of cards and the words of a record.
 #[derive(Clone, Copy)]
-pub enum Inspection {
-    Numbers { cards: usize, words: usize },
-    Refused(Refusal),
+pub struct Numbers {
+    pub cards: usize,
+    pub words: usize,
 }
 
 // How many words a record of a version has; 0 where there is no such version.
@@ -36,67 +36,45 @@ pub fn width(version: u16) -> usize
 }
 
 // Whether the numbers of a header agree with each other and with the length.
+#[tactic(auto, using(crate::proofs::Headers::few), unfolding(crate::specs::Format::agree))]
 fn agrees(version: u16, count: u16, directory: u32, records: u32, whole: u32, length: usize) -> bool
     ensures { result ≡ agree version count directory records whole length }
 {
     let k = width(version);
-    if k == 0 {
-        return false;
-    }
-    let n = count as usize;
-    if MOST_CARDS < n {
-        return false;
-    }
-    if directory as usize != HEADER_BYTES {
+    let n = usize::from(count);
+    if k == 0 || MOST_CARDS < n {
         return false;
     }
     let e = HEADER_BYTES + NAME_BYTES * n;
-    if records as usize != e {
-        return false;
-    }
     let all = e + WORD_BYTES * (k * n);
-    if whole as usize != all {
-        return false;
-    }
-    length == all
+    directory as usize == HEADER_BYTES
+        && records as usize == e
+        && whole as usize == all
+        && length == all
 }
 
 // Whether every name of a directory is well-formed.
 fn all_named(d: &[u8]) -> bool
     ensures { result ≡ all_named (names_in d.now) }
 {
-    let mut t = d;
-    while NAME_BYTES <= t.len() {
-        if name::is_well_formed(&t[..NAME_BYTES]) {
-            t = &t[NAME_BYTES..];
-        } else {
-            return false;
-        }
+    d.chunks_exact(NAME_BYTES).all(|x| name::is_well_formed(x))
+}
+
+// The numbers that are handed in, or what is wrong with a directory, 2 before 3.
+fn judge(d: &[u8], numbers: Numbers) -> Result<Numbers, Refusal>
+    ensures { found result ≡ names_judged d.now (numbers.cards, numbers.words) }
+{
+    if !all_named(d) {
+        return Err(Refusal::BadName);
     }
-    true
+    if roll::doubled(d) {
+        return Err(Refusal::NameTwice);
+    }
+    Ok(numbers)
 }
 
-// The refusal that a test draws; where it draws none, what the tests after it found.
-fn refuse_if(wrong: bool, f: Refusal, next: Inspection) -> Inspection
-    ensures { found result ≡ refuse_if wrong f (found next) }
-{
-    if wrong { Inspection::Refused(f) } else { next }
-}
-
-// What is wrong with a directory, 2 before 3, or else the numbers that are handed in.
-fn judge(d: &[u8], cards: usize, words: usize) -> Inspection
-    ensures { found result ≡ names_judged d.now (cards, words) }
-{
-    let malformed = !all_named(d);
-    let twice = roll::doubled(d);
-    let bad_name = Refusal::BadName;
-    let name_twice = Refusal::NameTwice;
-    let numbers = Inspection::Numbers { cards, words };
-    refuse_if(malformed, bad_name, refuse_if(twice, name_twice, numbers))
-}
-
-// A library inspected.
-pub fn inspect(s: &[u8]) -> Inspection
+// A library's numbers, or what is wrong with it.
+pub fn inspect(s: &[u8]) -> Result<Numbers, Refusal>
     ensures { found result ≡ library_judged s.now }
 {
     let version = bytes_le::u16_at(s, 0);
@@ -104,35 +82,32 @@ pub fn inspect(s: &[u8]) -> Inspection
     let directory = bytes_le::u32_at(s, 4);
     let records = bytes_le::u32_at(s, 8);
     let whole = bytes_le::u32_at(s, 12);
-    if agrees(version, count, directory, records, whole, s.len()) {
-        let n = count as usize;
-        judge(
-            &s[HEADER_BYTES..HEADER_BYTES + NAME_BYTES * n],
-            n,
-            width(version),
-        )
-    } else {
-        Inspection::Refused(Refusal::Malformed)
+    if !agrees(version, count, directory, records, whole, s.len()) {
+        return Err(Refusal::Malformed);
     }
+    let cards = count as usize;
+    let words = width(version);
+    let names = &s[HEADER_BYTES..HEADER_BYTES + NAME_BYTES * cards];
+    judge(names, Numbers { cards, words })
 }
 
-// Names and words inspected for a library of a version.
-pub fn offer(version: u16, names: &[u8], words: &[u64]) -> Inspection
+// The numbers of names and words for a library of a version, or what is wrong with them.
+pub fn offer(version: u16, names: &[u8], words: &[u64]) -> Result<Numbers, Refusal>
     ensures { found result ≡ offer_judged version names.now words.now }
 {
     let k = width(version);
     if k == 0 {
-        return Inspection::Refused(Refusal::Malformed);
+        return Err(Refusal::Malformed);
     }
     let n = names.len() / NAME_BYTES;
     if names.len() != NAME_BYTES * n {
-        return Inspection::Refused(Refusal::Malformed);
+        return Err(Refusal::Malformed);
     }
     if MOST_CARDS < n {
-        return Inspection::Refused(Refusal::Malformed);
+        return Err(Refusal::Malformed);
     }
     if words.len() != k * n {
-        return Inspection::Refused(Refusal::Malformed);
+        return Err(Refusal::Malformed);
     }
-    judge(names, n, k)
+    judge(names, Numbers { cards: n, words: k })
 }

@@ -4,6 +4,5 @@ pub use Rattle.loading.specs.OfClip.Limits
 pub use Rattle.loading.specs.OfClip.Numbers
 pub use Rattle.loading.specs.OfClip.Record
 pub use Rattle.loading.specs.OfClip.laws
-pub use Rattle.loading.specs.OfClip.Answer
 pub use Rattle.loading.specs.OfClip.Clipping
 pub use Rattle.loading.specs.OfClip.limits

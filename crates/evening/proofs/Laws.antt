@@ -4,6 +4,7 @@ use mathlib.Core.List.{List}
 use Prim.Native.Nat.{ℕ, ◌+◌}
 use native.Mathlib.Numerals.{add-one}
 use lib.IntN.{ℤ, pos}
+use Rattle.page.specs.declared.Page.{Page}
 use Rattle.page.specs.Page.{Writes}
 use Rattle.page.proofs.Pages.{as_bytes, then}
 use Rattle.places.specs.Counts.{transistors_most}
@@ -18,19 +19,19 @@ use Rattle.board.specs.declared.Answered.{Answered}
 use Rattle.board.specs.Unique.{AllowsLent, AllowsList}
 use Rattle.evening.specs.Said.{no_list, who_said, rows_to, rows_said, sheet_if}
 
-module _ {old new : List ℕ} {at end : ℕ} {a : Answered} where
+module _ {N : ℕ} {old new : Page N} {a : Answered} where
   pub who_said_lem : (b : Board) {n n° : ℤ} {list : List ℕ} → n° ≡ n →
       AllowsList (model.listed_of b n° transistors_most) no_list a list →
-      Writes (listed_of a.answer list) old at new end → Writes (who_said b n) old at new end
+      Writes (listed_of a.answer list) old new → Writes (who_said b n) old new
   unfolding who_said
   who_said_lem b e p w =
       rw (sym e)
       (as_bytes (ap₂ listed_of (ap (λ (x : Answered). x.answer) p.0) p.1.1) w)
 
   -- the row of one node more
-  pub row_said : (s : State) (n : ℕ) {z : ℤ} {first : List ℕ} {start : ℕ} → z ≡ pos n →
-      Writes (rows_to s n) first start old at → AllowsLent (showed_lent s z) a →
-      Writes (row_of n a.answer) old at new end → Writes (rows_to s (n + 1)) first start new end
+  pub row_said : (s : State) (n : ℕ) {z : ℤ} {first : Page N} → z ≡ pos n →
+      Writes (rows_to s n) first old → AllowsLent (showed_lent s z) a →
+      Writes (row_of n a.answer) old new → Writes (rows_to s (n + 1)) first new
   unfolding rows_to
   row_said s n e p q w =
       let f = ap (λ (x : Answered). x.answer) q.0 ∙ ap (λ (x : ℤ). (showed_lent s x).answer) e in

@@ -1,9 +1,7 @@
 -- The line that explains an answer: none to an answer that is no refusal, else the sentence of its number, with the
 -- transistor and the branch where it tells them.
-use Rattle.std.specs.Prelude.{Bool, true, false, List, [], ◌∷◌, ◌++◌, ℕ, eqb, pos, negsuc}
+use Rattle.std.specs.Prelude.{Bool, true, false, List, [], ◌∷◌, ◌++◌, Option, Some, None, ℕ, ℤ, eqb, pos, negsuc}
 use Rattle.name.specs.Name.{same}
-use Rattle.spelling.specs.declared.Parsed.{Parsed}
-use Rattle.spelling.specs.declared.Parsed.TheVariants.{Number, Nothing}
 use Rattle.spelling.specs.Bytes.{bytes, newline}
 use Rattle.spelling.specs.Number.{parsed_of}
 use Rattle.words.specs.declared.Words.{Words}
@@ -11,10 +9,10 @@ use Rattle.words.specs.Words.{words_of, word_at}
 use Rattle.explaining.specs.Sentences.{sentence_of, ends_of}
 
 -- the number that a word spells; 0 where it spells none, or one below 0
-abbrev pub natural_of : Parsed → ℕ
-natural_of (Number (pos n)) = n
-natural_of (Number (negsuc n)) = 0
-natural_of Nothing = 0
+abbrev pub natural_of : Option ℤ → ℕ
+natural_of (Some (pos n)) = n
+natural_of (Some (negsuc n)) = 0
+natural_of None = 0
 
 -- the first word of a refusal, and how many words one has that tells a transistor and a branch
 abbrev pub refused_word : List ℕ

@@ -1,16 +1,14 @@
-// The sentence for each refusal, and the ends of each branch, written in a lent buffer.
-ghost use Rattle.page.specs.Page.{Writes};
+// The sentence for each refusal, and the ends of each branch.
+ghost use Rattle.std.specs.Prelude.{◌≡◌};
 ghost use Rattle.explaining.specs.Sentences.{sentence_of, ends_of};
 
-use crate::EXPLANATION_ROOM;
 use crate::table::line;
-use page::put;
 
 // The sentence of a refusal's number; nothing for a number that none has.
-pub(crate) fn put_sentence(n: u64, out: &mut [u8; EXPLANATION_ROOM], at: usize) -> usize
-    ensures { Writes (sentence_of n) out.old at out.new result }
+pub(crate) fn sentence(n: u64) -> &'static [u8]
+    ensures { result.now ≡ sentence_of n }
 {
-    let said = line(
+    line(
         b"\n\
 the library, record or list has not the shape asked for; look at its length, count and version\n\
 this is no name; give one of 1 to 16 visible characters, none of them a space\n\
@@ -37,15 +35,14 @@ the model line does not give its octave; add octave= and a whole number of nanov
 this is no model line; write .model, a name, npn or pnp, and KEY=NUMBER words\n\
 ",
         n,
-    );
-    put(said, out, at)
+    )
 }
 
 // From where to where a branch goes, by its number; nothing for a number that none has.
-pub(crate) fn put_ends(branch: u64, out: &mut [u8; EXPLANATION_ROOM], at: usize) -> usize
-    ensures { Writes (ends_of branch) out.old at out.new result }
+pub(crate) fn ends(branch: u64) -> &'static [u8]
+    ensures { result.now ≡ ends_of branch }
 {
-    let ends = line(
+    line(
         b"\n\
 , C2 to E1\n\
 , B2 to E1\n\
@@ -62,6 +59,5 @@ pub(crate) fn put_ends(branch: u64, out: &mut [u8; EXPLANATION_ROOM], at: usize)
 , C4 to C1\n\
 ",
         branch,
-    );
-    put(ends, out, at)
+    )
 }

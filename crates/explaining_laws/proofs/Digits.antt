@@ -9,7 +9,7 @@ use borrow.Author.Tests.{lt-ltb, le-leb, ltb-true, leb-true, ne_eqb}
 use lib.Dec.{eqb, leb, ltb}
 use lib.IntN.{pos}
 use lib.ListN.{length, get_or, length-append}
-use Rattle.spelling.specs.declared.Parsed.TheVariants.{Number}
+use Rattle.std.specs.Prelude.{Some}
 use Rattle.spelling.specs.Bytes.{space}
 use Rattle.spelling.specs.Digits.{glyph_of, plain_digits}
 use Rattle.spelling.specs.Number.{is_digit, all_digits, decimal_value, first_beyond, parsed_with, parsed_of}
@@ -77,7 +77,7 @@ unfolding all_digits
 no_minus [] s h = absurd (omega arith)
 no_minus (b ∷ w) s h = digit_another b 45 (omega arith) (both (is_digit b) (all_digits w) h).0
 
-pub decimal_parsed : (n : ℕ) → n < 2 ^ 63 → parsed_of (decimal_of n) ≡ Number (pos n)
+pub decimal_parsed : (n : ℕ) → n < 2 ^ 63 → parsed_of (decimal_of n) ≡ Some (pos n)
 unfolding parsed_of parsed_with
 decimal_parsed n h =
     let w = decimal_of n in

@@ -11,7 +11,8 @@ use lib.Seq.{take_at, drop_at}
 use Rattle.refusal.specs.Clash.{clash}
 use Rattle.spelling.specs.Bytes.{space}
 use Rattle.words.specs.declared.Words.{Words}
-use Rattle.words.specs.Words.{Span, span, spans_from, spans_of, with_word, with_words, no_words, words_of, word_at, part_of}
+use Rattle.words.specs.declared.Span.{Span}
+use Rattle.words.specs.Words.{span, spans_from, spans_of, with_word, with_words, no_words, words_of, word_at, part_of}
 use Rattle.words.specs.laws.Split.{spaceless, IsWord}
 use Rattle.words.proofs.Parts.{part_there}
 

@@ -9,7 +9,6 @@ ghost use Rattle.fetching.specs.Fetched.{name_loaded_of, line_loaded_of};
 
 pub use board;
 use board::{Answer, Answered, Board};
-use library::Located;
 use refusal::Refusal;
 use terms::BRANCHES;
 
@@ -33,21 +32,23 @@ pub fn load_named(board: Board, name: &[u8], library: &[u8]) -> Answered
     ensures reached { Reached result.board }
 {
     match library::locate(library, name) {
-        Located::Record { at, size } => board.load(name, saying::part(library, at, size)),
-        Located::Refused(f) => refused(board, f),
+        Ok(place) => board.load(name, saying::part(library, place.at, place.size)),
+        Err(f) => refused(board, f),
     }
 }
 
 // The card of a line, without spaces at its ends: what reading it refuses, then what loading does.
+// (never written into its callers, whose copies of the board would add to its own: docs/HOST.md)
+#[inline(never)]
 pub fn load_line(board: Board, line: &[u8]) -> Answered
     requires { Reached board }
     ensures value { result ≡ given_as (line_loaded_of (bare (model_of board)) line.now) }
     ensures reached { Reached result.board }
 {
-    let mut name = [0u8; name::LENGTH];
-    let mut rec = [0u8; line_read::RECORD_BYTES];
-    match line_read::read_line(line, &mut name, &mut rec) {
-        line_read::Answer::Taken => board.load(listed::bare_name(&name), &rec),
-        line_read::Answer::Refused(f) => refused(board, f),
+    let mut name = [0; name::LENGTH];
+    let mut rec = [0; line_read::RECORD_BYTES];
+    if let Err(f) = line_read::read_line(line, &mut name, &mut rec) {
+        return refused(board, f);
     }
+    board.load(listed::bare_name(&name), &rec)
 }

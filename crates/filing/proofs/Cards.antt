@@ -8,7 +8,6 @@ use native.Mathlib.Omega.{arith}
 use borrow.Author.Tests.{lt-ltb, le-ltb, le-leb, lt-leb}
 use lib.Dec.{leb}
 use lib.ListN.{length, take, drop, length-drop, drop_of_length-le}
-use lib.Seq.{take_all}
 use Rattle.refusal.specs.Clash.{clash}
 use Rattle.refusal.specs.declared.Refusal.{Refusal}
 use Rattle.refusal.specs.declared.Refusal.TheVariants.{Malformed, NameTwice, BadLine}
@@ -22,31 +21,23 @@ use Rattle.roll.specs.Directory.{names_in, among}
 use Rattle.directory.specs.Format.{most_cards, bytes_of_all}
 use Rattle.copying.proofs.BytesWritten.{part_from, part_put, length_all}
 use Rattle.line.specs.Line.{Model, line_of}
-use Rattle.line.specs.declared.Answer as declared
-use Rattle.line.specs.declared.Answer.TheVariants as answer
+use Rattle.std.proofs.Common.{Result, Ok, Err}
 use Rattle.line.specs.Answers as read
 use Rattle.line.specs.Answers.{record_bytes, told_answer, answered}
 use Rattle.line_laws.proofs.Sound.{line_good}
 use Rattle.trimming.specs.Trimmed.{trimmed}
 use Rattle.joining.specs.Lines.{longest_line}
-use Rattle.filing.specs.Filed.{names_room, besides, filing_of, over_at, Leaves, Files}
+use Rattle.filing.specs.Filed.{besides, filing_of, over_at, Leaves, Files}
 use Rattle.filing.specs.inner.Cards.{FilesCard}
 
 -- ---- the names so far
 
-pub first_names : (names : List ℕ) (n : ℕ) → take (name_length * n - 0) (drop 0 names) ≡ take (name_length * n) names
-first_names names n = let z : name_length * n - 0 ≡ name_length * n = omega arith in ap (λ (k : ℕ). take k names) z
-
-pub all_names : (names : List ℕ) (n : ℕ) → length names ≡ names_room → most_cards ≤ n
-    → names ≡ take (name_length * n) names
-all_names names n e h = sym (take_all (name_length * n) names (omega arith))
-
 -- ---- one card
 
 refused_leaves : {v : Verdict Model} {f : Refusal} (n : ℕ) (names records : List ℕ) → no f ≡ v
-    → Leaves v n names records (answer.Refused f) names records
+    → Leaves v n names records (Err f) names records
 refused_leaves {f = f} n names records e =
-    subst (λ (v : Verdict Model). Leaves v n names records (answer.Refused f) names records) e
+    subst (λ (v : Verdict Model). Leaves v n names records (Err f) names records) e
     (record { told = refl; named = refl; worded = refl })
 
 -- new bytes written to the start of a part
@@ -65,21 +56,21 @@ module _ (rec names records : List ℕ) (n : ℕ) {name x d : List ℕ} {b : Boo
       ap (λ (u : Bool). refuse_if u NameTwice (refuse_if (leb most_cards n) Malformed (yes m)))
       (sym h ∙ r ∙ ap₂ (λ (y : List ℕ) (l : List ℕ). among y (names_in l)) (sym (e ∙ w)) f)
 
-  pub card_twice : b ≡ true → FilesCard name rec n names records (answer.Refused NameTwice) names records
+  pub card_twice : b ≡ true → FilesCard name rec n names records (Err NameTwice) names records
   card_twice h m e g = refused_leaves n names records (twice_if true h m e)
 
   module _ (h : b ≡ false) where
-    pub card_many : most_cards ≤ n → FilesCard name rec n names records (answer.Refused Malformed) names records
+    pub card_many : most_cards ≤ n → FilesCard name rec n names records (Err Malformed) names records
     card_many k m e g =
         refused_leaves n names records
         (sym (ap (λ (t : Bool). refuse_if t Malformed (yes m)) (le-leb most_cards n k)) ∙ twice_if false h m e)
 
     pub card_filed : n < most_cards → {y z : List ℕ} → y ≡ over name (part_from (name_length * n) names)
         → z ≡ over rec (part_from (record_bytes * n) records)
-        → FilesCard name rec n names records answer.Taken (part_put (name_length * n) names y)
+        → FilesCard name rec n names records (Ok tt) (part_put (name_length * n) names y)
         (part_put (record_bytes * n) records z)
     card_filed k {y} {z} p q m e g =
-        subst (λ (v : Verdict Model). Leaves v n names records answer.Taken (part_put (name_length * n) names y)
+        subst (λ (v : Verdict Model). Leaves v n names records (Ok tt) (part_put (name_length * n) names y)
         (part_put (record_bytes * n) records z))
         (sym (ap (λ (t : Bool). refuse_if t Malformed (yes m)) (lt-leb most_cards n k)) ∙ twice_if false h m e)
         (record {
@@ -98,7 +89,7 @@ over_all : (new old : List ℕ) → length old ≤ length new → over new old �
 over_all new old h = ap (λ (t : List ℕ). new ++ t) (drop_of_length-le old h) ∙ append-nil new
 
 pub line_long : (line : List ℕ) (n : ℕ) (names records : List ℕ) → longest_line < length line
-    → Files line n names records (answer.Refused BadLine) names records
+    → Files line n names records (Err BadLine) names records
 unfolding filing_of
 line_long line n names records h =
     refused_leaves n names records
@@ -112,7 +103,7 @@ module _ (line : List ℕ) (n : ℕ) (names records : List ℕ) (h : length line
       (le-ltb longest_line (length line) h)
 
   -- the reader's two buffers, and what it left in them
-  module _ {nb rb nb' rb' : List ℕ} {t : List ℕ} {r : declared.Answer} (e : t ≡ trimmed line)
+  module _ {nb rb nb' rb' : List ℕ} {t : List ℕ} {r : Result (Unit {0}) Refusal} (e : t ≡ trimmed line)
       (p : length nb ≡ name_length) (q : length rb ≡ record_bytes) (g : read.Reads t nb rb r nb' rb') where
     -- both have room, so that what is read is what the line says
     said : (v : Verdict Model) → line_of t ≡ v → read.reading_of t nb rb ≡ v
@@ -121,8 +112,8 @@ module _ (line : List ℕ) (n : ℕ) (names records : List ℕ) (h : length line
     said (yes m) k =
         rw (k, le-ltb (length nb) name_length (omega arith), le-ltb (length rb) record_bytes (omega arith))
 
-    pub line_refused : {f : Refusal} → r ≡ answer.Refused f
-        → Files line n names records (answer.Refused f) names records
+    pub line_refused : {f : Refusal} → r ≡ Err f
+        → Files line n names records (Err f) names records
     line_refused {f} k = by (line_of t) refl
       where
         told : (v : Verdict Model) → line_of t ≡ v → no f ≡ answered v
@@ -130,7 +121,7 @@ module _ (line : List ℕ) (n : ℕ) (names records : List ℕ) (h : length line
             tells_one (no f) (answered v)
             (ap told_answer (sym k) ∙ g.told ∙ ap (λ (x : Verdict Model). tells (answered x)) (said v l))
 
-        by : (v : Verdict Model) → line_of t ≡ v → Files line n names records (answer.Refused f) names records
+        by : (v : Verdict Model) → line_of t ≡ v → Files line n names records (Err f) names records
         by (no h) l =
             let z : ◌≡◌ {A = Verdict (Unit {0})} (no f) (no h) = told (no h) l in
             let y : f ≡ h = cc in
@@ -139,7 +130,7 @@ module _ (line : List ℕ) (n : ℕ) (names records : List ℕ) (h : length line
             ∙ ap (λ (x : Verdict Model). and_then x (besides names n)) l ∙ ap no (sym y)))
         by (yes m) l = let z : ◌≡◌ {A = Verdict (Unit {0})} (no f) (yes tt) = told (yes m) l in clash cc
 
-    pub line_filed : r ≡ answer.Taken → {s : declared.Answer} {names' records' : List ℕ}
+    pub line_filed : r ≡ (Ok tt) → {s : Result (Unit {0}) Refusal} {names' records' : List ℕ}
         → FilesCard nb' rb' n names records s names' records' → Files line n names records s names' records'
     line_filed k {s} {names'} {records'} c = by (line_of t) refl
       where

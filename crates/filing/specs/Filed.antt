@@ -8,7 +8,8 @@ use Rattle.roll.specs.Directory.{names_in, among}
 use Rattle.directory.specs.Format.{most_cards, bytes_of_all}
 use Rattle.line.specs.Line.{Model, line_of}
 use Rattle.line.specs.Answers.{record_bytes}
-use Rattle.line.specs.declared.Answer as declared
+use Rattle.std.specs.Prelude.{Result}
+use Rattle.refusal.specs.declared.Refusal.{Refusal}
 use Rattle.line.specs.Answers.{told_answer, answered}
 use Rattle.trimming.specs.Trimmed.{trimmed}
 use Rattle.joining.specs.Lines.{longest_line}
@@ -49,12 +50,12 @@ records_left (no f) n old = old
 records_left (yes m) n old = over_at (record_bytes * n) (bytes_of_all m.words) old
 
 -- the answer r tells the verdict v, and the buffers names and records are then names' and records'
-pub record Leaves (v : Verdict Model) (n : ℕ) (names records : List ℕ) (r : declared.Answer)
+pub record Leaves (v : Verdict Model) (n : ℕ) (names records : List ℕ) (r : Result (Unit {0}) Refusal)
     (names' records' : List ℕ) : Type 0 where
   pub told : told_answer r ≡ tells (answered v)
   pub named : names' ≡ names_left v n names
   pub worded : records' ≡ records_left v n records
 
 -- what filing a line leaves
-abbrev pub Files : List ℕ → ℕ → List ℕ → List ℕ → declared.Answer → List ℕ → List ℕ → Type 0
+abbrev pub Files : List ℕ → ℕ → List ℕ → List ℕ → Result (Unit {0}) Refusal → List ℕ → List ℕ → Type 0
 Files line n names records r names' records' = Leaves (filing_of line names n) n names records r names' records'

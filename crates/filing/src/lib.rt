@@ -8,17 +8,16 @@ ghost use Rattle.filing.specs.Filed.{names_room, records_room, Files};
 ghost use Rattle.filing.specs.inner.Cards.{FilesCard};
 
 use bytes_le::WORD_BYTES;
+use directory::MOST_CARDS;
 use joining::LONGEST_LINE;
-pub use joining::{Kind, LINE_ROOM, add_byte, add_text, bare, kind_of};
-use line_read::{Answer, RECORD_BYTES};
+pub use joining::{Kind, LINE_ROOM, Line, bare, kind_of};
+use line_read::RECORD_BYTES;
 use refusal::Refusal;
 
-// The most cards of a library, and the bytes of so many names and records.
-const MOST_CARDS: usize = 256;
+// The bytes of the names and of the records of as many cards as a library holds.
+pub const NAMES_ROOM: usize = MOST_CARDS * name::LENGTH;
 
-pub const NAMES_ROOM: usize = 4096;
-
-pub const RECORDS_ROOM: usize = 49152;
+pub const RECORDS_ROOM: usize = MOST_CARDS * RECORD_BYTES;
 
 // The names of the first n cards; all there are where there are not so many.
 fn filed(names: &[u8], n: usize) -> &[u8]
@@ -38,9 +37,7 @@ fn file_card(
     n: usize,
     names: &mut [u8],
     records: &mut [u8],
-) -> Answer
-    requires name_len { length name.now ≡ name_length }
-    requires rec_len { length rec.now ≡ record_bytes }
+) -> Result<(), Refusal>
     requires names_len { length names.old ≡ names_room }
     requires records_len { length records.old ≡ records_room }
     ensures { FilesCard name.now rec.now n names.old records.old result
@@ -50,31 +47,29 @@ fn file_card(
     let high = bytes_le::u64_at(name, WORD_BYTES);
     let twice = roll::holds(filed(names, n), low, high);
     if twice {
-        return Answer::Refused(Refusal::NameTwice);
+        return Err(Refusal::NameTwice);
     }
     if MOST_CARDS <= n {
-        return Answer::Refused(Refusal::Malformed);
+        return Err(Refusal::Malformed);
     }
     library::copy(name, &mut names[name::LENGTH * n..]);
     library::copy(rec, &mut records[RECORD_BYTES * n..]);
-    Answer::Taken
+    Ok(())
 }
 
 // Files the card of a joined line after n others: its name and its record go after theirs, and a refusal changes
 // neither buffer.
-pub fn file_line(line: &[u8], n: usize, names: &mut [u8], records: &mut [u8]) -> Answer
+pub fn file_line(line: &[u8], n: usize, names: &mut [u8], records: &mut [u8]) -> Result<(), Refusal>
     requires names_len { length names.old ≡ names_room }
     requires records_len { length records.old ≡ records_room }
     ensures { Files line.now n names.old records.old result names.new
         records.new }
 {
     if LONGEST_LINE < line.len() {
-        return Answer::Refused(Refusal::BadLine);
+        return Err(Refusal::BadLine);
     }
-    let mut name = [0u8; name::LENGTH];
-    let mut rec = [0u8; RECORD_BYTES];
-    match line_read::read_line(trimming::trimmed(line), &mut name, &mut rec) {
-        Answer::Refused(f) => Answer::Refused(f),
-        Answer::Taken => file_card(&name, &rec, n, names, records),
-    }
+    let mut name = [0; name::LENGTH];
+    let mut rec = [0; RECORD_BYTES];
+    line_read::read_line(trimming::trimmed(line), &mut name, &mut rec)?;
+    file_card(&name, &rec, n, names, records)
 }

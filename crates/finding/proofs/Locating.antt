@@ -9,14 +9,16 @@ use borrow.Author.Tests.{ltb-true, lt-ltb, le-ltb, not-false}
 use lib.Dec.{ltb}
 use lib.ListN.{length, drop, length-drop}
 use lib.Seq.{length-take-le}
-use Rattle.name.specs.Name.{asked, padded}
+use Rattle.name.specs.Name.{asked, padded, same}
 use Rattle.refusal.specs.declared.Refusal.{Refusal}
 use Rattle.refusal.specs.declared.Refusal.TheVariants.{BadName, NameNotHeld}
 use Rattle.refusal.specs.Order.{no, yes}
 use Rattle.finding.specs.Answers.{locating, record_of}
 use Rattle.directory.specs.Judged.{Sound, library_judged, numbers_of}
 use Rattle.roll.specs.Directory.{among, name_bytes, names_held, names_in, place_of}
-use Rattle.finding.proofs.Places.{among_place}
+use Rattle.std.proofs.Common.{Option, Some, None}
+use Rattle.std.specs.List.{position}
+use Rattle.finding.proofs.Places.{among_place, place_some, place_none}
 use Rattle.roll.proofs.Names.{length_pieces}
 use Rattle.directory.specs.Format.{count, directory, header_bytes, records_at, version, words_of}
 use Rattle.directory.proofs.Headers.{directory_part_lem, directory_part, known_width}
@@ -46,22 +48,39 @@ module _ (s x : List ℕ) where
     unfolding locating
     locate_name h = rw (v.judged, h)
 
-    -- i is what searching the directory's part gave
-    module _ (h : asked x ≡ true) {i : ℕ} {w : List ℕ} (ew : w ≡ padded x)
-        (ei : i ≡ place_of w (names_in (directory_part s n))) where
-      place : place_of (padded x) (names_in (directory s)) ≡ i
-      place = sym (ei ∙ ap₂ (λ (a b : List ℕ). place_of a (names_in b)) ew (directory_part_lem s v.is_count))
+    -- w is looked for in the directory's part
+    module _ {w : List ℕ} (ew : w ≡ padded x) where
+      l : List (List ℕ)
+      l = names_in (directory s)
 
-      held : among (padded x) (names_in (directory s)) ≡ ltb i n
-      held = among_place (padded x) (names_in (directory s)) ∙ ap₂ ltb place (names_count v)
+      searched : {o : Option ℕ} → position (same w) (names_in (directory_part s n)) ≡ o → position (same (padded x)) l ≡ o
+      unfolding l
+      searched e =
+          sym (ap₂ (λ (a b : List ℕ). position (same a) (names_in b)) ew (directory_part_lem s v.is_count)) ∙ e
 
-      pub locate_none : n ≤ i → no NameNotHeld ≡ locating s x
-      unfolding locating
-      locate_none l = rw (v.judged, h, held, le-ltb i n l)
+      held : among (padded x) l ≡ ltb (place_of (padded x) l) n
+      unfolding l
+      held = among_place (padded x) (names_in (directory s)) ∙ ap (ltb (place_of (padded x) (names_in (directory s)))) (names_count v)
 
-      pub locate_at : i < n → yes (record_of (n, k) i) ≡ locating s x
-      unfolding locating
-      locate_at l = rw (v.judged, h, held, lt-ltb i n l, place)
+      pub locate_none : asked x ≡ true → position (same w) (names_in (directory_part s n)) ≡ None → no NameNotHeld ≡ locating s x
+      unfolding locating l
+      locate_none h e =
+          let g = place_none (padded x) (names_in (directory s)) (searched e) in
+          let m : n ≤ place_of (padded x) (names_in (directory s)) = rw (names_count v) at g in
+          rw (v.judged, h, held, le-ltb _ n m)
+
+      module _ {i : ℕ} (e : position (same w) (names_in (directory_part s n)) ≡ Some i) where
+        pub found_within : i < n
+        unfolding l
+        found_within = rw (names_count v) at (place_some (padded x) (names_in (directory s)) (searched e)).1
+
+        pub locate_at : asked x ≡ true → yes (record_of (n, k) i) ≡ locating s x
+        unfolding locating l
+        locate_at h =
+            let f : i ≡ place_of (padded x) (names_in (directory s)) =
+            (place_some (padded x) (names_in (directory s)) (searched e)).0 in
+            let m : place_of (padded x) (names_in (directory s)) < n = rw f at found_within in
+            rw (v.judged, h, held, lt-ltb _ n m, f)
 
 -- a record that is located is that of a card of a sound library
 pub record Placed (s x : List ℕ) (p : ℕ × ℕ) : Type 0 where

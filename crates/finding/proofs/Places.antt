@@ -1,39 +1,47 @@
--- The place of a name among those of a directory, one turn at a time, on plain values.
-use mathlib.Core.Path.{◌≡◌, refl, sym, ◌∙◌, ap}
-use mathlib.Core.Bool.{Bool, true, false, cond, ◌||◌}
-use mathlib.Core.List.{List, [], ◌∷◌}
-use Prim.Native.Nat.{ℕ, suc, ◌+◌, ◌*◌, ◌-◌, ◌<◌, ◌≤◌, suc-le-suc}
-use native.Mathlib.Omega.{arith}
+-- The place of a name among those of a directory, on plain values.
+use Rattle.std.proofs.Common.{◌≡◌, ℕ, zero, suc, ◌+◌, ◌<◌, ◌≤◌, Bool, true, false, cond, ltb, ◌||◌, List, [], ◌∷◌, length, drop, Some, None, suc-le-suc, one-add, refl, sym, ap, ap₂, ◌∙◌, arith}
+use mathlib.Core.Bool.{not}
 use borrow.Author.Tests.{ltb-true, ltb-false, lt-ltb, le-ltb}
-use lib.Dec.{lit<, ltb}
-use lib.ListN.{length, take, drop, length-drop}
-use Rattle.bytes_le.proofs.Laws.{rest}
+use Rattle.std.specs.List.{position, position_or_len}
+use Rattle.std.proofs.lemmas.List.Recursion.{is_position_or_len}
 use Rattle.name.specs.Name.{same}
-use Rattle.roll.specs.Directory.{name_bytes, names_in, among, place_of}
-use Rattle.roll.proofs.Names.{cut_none, cut_more}
+use Rattle.roll.specs.Directory.{name_bytes, pieces, among, place_of}
+use Rattle.roll.proofs.Chunks.{starts, starts_piece}
 
--- i names are passed, and x is none of them
-pub record Placed (x d t : List ℕ) (i : ℕ) : Type 0 where
-  pub counted : name_bytes * i + length t ≤ length d
-  pub so_far : place_of x (names_in d) ≡ i + place_of x (names_in t)
+-- as std counts it
+place_is : (x : List ℕ) (l : List (List ℕ)) → place_of x l ≡ position_or_len (same x) l
+place_is x =
+    is_position_or_len (place_of x) (same x) refl
+    (λ y l. ap (λ (n : ℕ). cond (same x y) 0 n) (sym (one-add (place_of x l))))
 
-pub place_end : {x d t : List ℕ} {i : ℕ} → Placed x d t i → length t < name_bytes → i ≡ place_of x (names_in d)
-place_end {x} {d} {t} v h = let e : place_of x (names_in t) ≡ 0 = ap (place_of x) (cut_none name_bytes t h) in omega arith
+by_test : (n m : ℕ) (t : Bool) → ltb n m ≡ t → {i : ℕ} → cond t (Some n) None ≡ Some i → (i ≡ n) × (i < m)
+by_test n m true e f = let g : n ≡ _ = cc in (sym g, rw g at (ltb-true n m e))
+by_test n m false e f = absurd (cc)
 
-module _ {x d t : List ℕ} {i : ℕ} (v : Placed x d t i) (h : name_bytes ≤ length t) where
-  place_step : {b : Bool} → same x (take name_bytes t) ≡ b
-      → place_of x (names_in t) ≡ cond b 0 (suc (place_of x (names_in (drop name_bytes t))))
-  place_step e =
-      ap (place_of x) (cut_more name_bytes t (lit< tt) h) ∙ ap
-      (λ (b : Bool). cond b 0 (suc (place_of x (names_in (drop name_bytes t))))) e
+-- a name that is found has this place
+pub place_some : (x : List ℕ) (l : List (List ℕ)) {i : ℕ} → position (same x) l ≡ Some i
+    → (i ≡ place_of x l) × (i < length l)
+place_some x l e =
+    let n : ℕ = position_or_len (same x) l in
+    let g = by_test n (length l) (ltb n (length l)) refl e in
+    (g.0 ∙ sym (place_is x l), g.1)
 
-  pub place_here : same x (take name_bytes t) ≡ true → i ≡ place_of x (names_in d)
-  place_here e = let f = place_step e in omega arith
+by_none : (n m : ℕ) (t : Bool) → ltb n m ≡ t → cond t (Some n) None ≡ None → m ≤ n
+by_none n m true e f = absurd (cc)
+by_none n m false e f = ltb-false n m e
 
-  pub place_on : same x (take name_bytes t) ≡ false → Placed x d (take (length t - name_bytes) (drop name_bytes t)) (i + 1)
-  place_on e =
-      let f = place_step e in
-      rw (rest t name_bytes) (record { counted = rw (length-drop name_bytes t) (omega arith); so_far = omega arith })
+-- one that is not has none below the count
+pub place_none : (x : List ℕ) (l : List (List ℕ)) → position (same x) l ≡ None → length l ≤ place_of x l
+place_none x l e =
+    let n : ℕ = position_or_len (same x) l in
+    rw (place_is x l) (by_none n (length l) (ltb n (length l)) refl e)
+
+-- names are compared where they stand in pieces
+pub piece_place : (x : List ℕ) (n : ℕ) (s : List ℕ)
+    → position_or_len (starts x) (pieces name_bytes n s) ≡ position_or_len (same x) (pieces name_bytes n s)
+piece_place x zero s = refl
+piece_place x (suc n) s =
+    ap₂ (λ (b : Bool) (m : ℕ). cond (not b) (1 + m) 0) (starts_piece x s) (piece_place x n (drop name_bytes s))
 
 one_more : (a b : ℕ) (t : Bool) → ltb a b ≡ t → t ≡ ltb (suc a) (suc b)
 one_more a b true e = sym (lt-ltb (suc a) (suc b) (suc-le-suc (ltb-true a b e)))

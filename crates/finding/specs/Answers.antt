@@ -1,23 +1,23 @@
 -- What locating, finding and handing out answer, the refusals in their order.
-use Rattle.std.specs.Prelude.{◌≡◌, not, cond, ◌&&◌, List, [], ℕ, ◌+◌, ◌*◌, leb, ltb, length, take, drop}
+use Rattle.std.specs.Prelude.{◌≡◌, not, Result, Ok, Err, cond, ◌&&◌, List, [], ℕ, ◌+◌, ◌*◌, leb, ltb, length, take, drop}
 use Rattle.std.specs.Borrow.{Bor}
 use Rattle.bytes_le.specs.Le.{word_bytes}
 use Rattle.name.specs.Name.{asked, padded}
+use Rattle.refusal.specs.declared.Refusal.{Refusal}
 use Rattle.refusal.specs.declared.Refusal.TheVariants.{BadName, NameNotHeld}
 use Rattle.refusal.specs.Order.{Verdict, no, yes, refuse_if, and_then, Answer, tells}
-use Rattle.finding.specs.declared.Located.{Located}
-use Rattle.finding.specs.declared.Located.TheVariants.{Record, Refused}
+use Rattle.finding.specs.declared.Place.{Place}
 use Rattle.roll.specs.Directory.{names_in, among, place_of}
 use Rattle.directory.specs.Judged.{numbers_of, library_judged}
 use Rattle.directory.specs.Format.{records_at, count, directory}
 
 -- ---- what locating and finding answer
 
-abbrev pub verdict_located : Located → Verdict (ℕ × ℕ)
-verdict_located (Record at size) = yes (at, size)
-verdict_located (Refused f) = no f
+abbrev pub verdict_located : Result Place Refusal → Verdict (ℕ × ℕ)
+verdict_located (Ok p) = yes (p.at, p.size)
+verdict_located (Err f) = no f
 
-abbrev pub told_located : Located → Answer (ℕ × ℕ)
+abbrev pub told_located : Result Place Refusal → Answer (ℕ × ℕ)
 told_located r = tells (verdict_located r)
 
 -- among n records of k words, the place of card i's and its size, in bytes

@@ -2,61 +2,49 @@
 #![tactic(auto)]
 
 ghost use Rattle.std.specs.Prelude.{◌≡◌};
+ghost use Rattle.std.specs.List.{position};
+ghost use Rattle.name.specs.Name.{same};
 ghost use Rattle.refusal.specs.Order.{tells};
-ghost use Rattle.roll.specs.Directory.{names_in, place_of};
+ghost use Rattle.roll.specs.Directory.{names_in};
 ghost use Rattle.finding.specs.Answers.{told_located, locating, Finds, HandsOut};
 
 use bytes_le::WORD_BYTES;
-use directory::{HEADER_BYTES, Inspection, NAME_BYTES};
+use directory::{HEADER_BYTES, NAME_BYTES, Numbers};
 use refusal::Refusal;
 
-// What locating answers: the place of a record's first byte and its count of bytes, or why not.
+// The place of a record in a library: of its first byte, and how many bytes there are.
 #[derive(Clone, Copy)]
-pub enum Located {
-    Record { at: usize, size: usize },
-    Refused(Refusal),
+pub struct Place {
+    pub at: usize,
+    pub size: usize,
 }
 
-// The place of a padded name among those of a directory, compared where they stand; their count where it is none of
-// them.
-fn search(d: &[u8], x: &[u8; NAME_BYTES]) -> usize
-    ensures { result ≡ place_of x.now (names_in d.now) }
+// The number of a padded name among those of a directory, compared where they stand.
+fn search(d: &[u8], x: &[u8; NAME_BYTES]) -> Option<usize>
+    ensures { result ≡ position (same x.now) (names_in d.now) }
 {
     let low = bytes_le::u64_at(x, 0);
     let high = bytes_le::u64_at(x, WORD_BYTES);
-    let mut t = d;
-    let mut i = 0;
-    while NAME_BYTES <= t.len() {
-        if name::stands_at(t, 0, low, high) {
-            return i;
-        }
-        t = &t[NAME_BYTES..];
-        i += 1;
-    }
-    i
+    d.chunks_exact(NAME_BYTES)
+        .position(|y| name::stands_at(y, 0, low, high))
 }
 
 // The place of a card's record in a library, by the card's name.
-pub fn locate(library: &[u8], name: &[u8]) -> Located
+pub fn locate(library: &[u8], name: &[u8]) -> Result<Place, Refusal>
     ensures { told_located result ≡ tells (locating library.now name.now) }
 {
-    match directory::inspect(library) {
-        Inspection::Refused(f) => Located::Refused(f),
-        Inspection::Numbers { cards, words } => {
-            if !name::is_asked(name) {
-                return Located::Refused(Refusal::BadName);
-            }
-            let e = HEADER_BYTES + NAME_BYTES * cards;
-            let wanted = name::pad(name);
-            let i = search(&library[HEADER_BYTES..e], &wanted);
-            if cards <= i {
-                return Located::Refused(Refusal::NameNotHeld);
-            }
-            let at = e + WORD_BYTES * (words * i);
-            let size = WORD_BYTES * words;
-            Located::Record { at, size }
-        }
+    let Numbers { cards, words } = directory::inspect(library)?;
+    if !name::is_asked(name) {
+        return Err(Refusal::BadName);
     }
+    let e = HEADER_BYTES + NAME_BYTES * cards;
+    let wanted = name::pad(name);
+    let Some(i) = search(&library[HEADER_BYTES..e], &wanted) else {
+        return Err(Refusal::NameNotHeld);
+    };
+    let at = e + WORD_BYTES * (words * i);
+    let size = WORD_BYTES * words;
+    Ok(Place { at, size })
 }
 
 // The record of a card as a part of the library, by the card's name; the empty part where `locate` refuses.
@@ -64,8 +52,8 @@ pub fn find<'a>(library: &'a [u8], name: &[u8]) -> &'a [u8]
     ensures { Finds library.entry name.now result }
 {
     match locate(library, name) {
-        Located::Record { at, size } => &library[at..at + size],
-        Located::Refused(_) => &library[..0],
+        Ok(p) => &library[p.at..p.at + p.size],
+        Err(_) => &library[..0],
     }
 }
 

@@ -7,13 +7,6 @@ ghost use Rattle.std.specs.Float.Ieee.Scale.{finite};
 ghost use Rattle.float.specs.Word.{real_of};
 ghost use Rattle.float.specs.Split.{split_of, no_split};
 
-// What the bits of a word stand for. Nothing: an infinity, or no number.
-#[derive(Clone, Copy)]
-pub enum Number {
-    Real(f64),
-    Nothing,
-}
-
 // What a power is taken from, so that it is kept without a sign.
 pub const BIAS: u16 = 8172;
 
@@ -22,21 +15,32 @@ const LOWEST: u64 = BIAS as u64 + 1105;
 
 const FIELD: u64 = LOWEST - 52;
 
+// The bit of the sign among a word's, the first bit of an exponent, and the exponent of what is no finite number.
+const SIGN: u64 = 1 << 63;
+
+const UNIT: u64 = 1 << 52;
+
+const NO_NUMBER: u64 = 2047;
+
+// The binary digits that a split keeps none of.
+const DROPPED: u64 = 1 << 22;
+
 // The number a * 2^(BIAS - down), where 2^30 <= a < 2^31 or a is 0.
-#[derive(Clone, Copy)]
+#[derive(Clone, Copy, Default)]
 pub struct Split {
     pub a: u32,
     pub down: u16,
 }
 
-// An exponent's field of all ones marks an infinity or a NaN: judged on the bits, as no comparison tells a NaN.
-pub fn read(w: u64) -> Number
+// The number that the bits of a word stand for, where it is a finite one. An exponent's field of all ones marks an
+// infinity or a NaN: it is judged on the bits, as no comparison tells a NaN.
+pub fn read(w: u64) -> Option<f64>
     ensures { result ≡ real_of w }
 {
-    if w % 9223372036854775808 / 4503599627370496 == 2047 {
-        Number::Nothing
+    if w % SIGN / UNIT == NO_NUMBER {
+        None
     } else {
-        Number::Real(f64::from_bits(w))
+        Some(f64::from_bits(w))
     }
 }
 
@@ -44,15 +48,14 @@ pub fn read(w: u64) -> Number
 pub fn is_finite(x: f64) -> bool
     ensures { result ≡ finite x }
 {
-    let over = 1.0 / 0.0;
-    if x < over { -over < x } else { false }
+    x.is_finite()
 }
 
 // What stands where there is no value.
 pub fn no_split() -> Split
     ensures { result ≡ no_split }
 {
-    Split { a: 0, down: 0 }
+    Split::default()
 }
 
 // The size of x, its leading 31 digits kept.
@@ -60,14 +63,14 @@ pub fn cut(x: f64) -> Split
     ensures { result ≡ split_of x }
 {
     if is_finite(x) {
-        let bits = f64::to_bits(x);
-        let field = bits % 9223372036854775808 / 4503599627370496;
-        let digits = bits % 4503599627370496;
+        let bits = x.to_bits();
+        let field = bits % SIGN / UNIT;
+        let digits = bits % UNIT;
         if field == 0 {
             return cut_small(digits);
         }
         return Split {
-            a: ((4503599627370496 + digits) / 4194304) as u32,
+            a: ((UNIT + digits) / DROPPED) as u32,
             down: (FIELD - field) as u16,
         };
     }
@@ -82,9 +85,9 @@ fn cut_small(n: u64) -> Split
     if n == 0 {
         return Split { a: 0, down: BIAS };
     }
-    let size = (64 - u64::leading_zeros(n)) as u64;
+    let size = u64::from(64 - n.leading_zeros());
     Split {
-        a: ((n << (53 - size)) / 4194304) as u32,
+        a: ((n << (53 - size)) / DROPPED) as u32,
         down: (LOWEST - size) as u16,
     }
 }

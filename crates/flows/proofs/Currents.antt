@@ -7,10 +7,9 @@ use lib.ListN.{get_or, length}
 use lib.IntN.{ℤ, pos, nat_abs, ◌+ℤ◌}
 use Rattle.volts.specs.Volts.{given_back, span, AllNear}
 use Rattle.card.specs.declared.WorkedCard.{WorkedCard}
-use Rattle.dealing.specs.OfRowsTypes.Outcome.{Outcome}
 use Rattle.totals.specs.OfTerms.Ready.{Ready}
 use Rattle.totals.specs.OfTerms.Rows.{rows_for, branches}
-use Rattle.dealing.specs.OfRows.Outcome.{tick_limit}
+use Rattle.dealing.specs.OfRows.Outcome.{Outcome, tick_limit}
 use Rattle.totals.specs.OfPolarity.Polarity.{outcome_of}
 use Rattle.totals.proofs.OfPolarity.Laws.{ticks_long, ticks_small}
 use Rattle.totals.specs.OfTerms.Ends.{from_roles, to_roles}

@@ -1,7 +1,7 @@
 // A transistor worked: its currents, and by what it overloads; and currents put into sums at its nodes.
 #![tactic(auto)]
 
-ghost use Rattle.std.specs.Prelude.{◌≡◌, map, ◌<◌, length, get_or};
+ghost use Rattle.std.specs.Prelude.{◌≡◌, Some, map, ◌<◌, length, get_or};
 ghost use Rattle.volts.specs.Volts.{given_back};
 ghost use Rattle.totals.specs.OfTerms.Rows.{roles, branches};
 ghost use Rattle.dealing.specs.OfRows.Outcome.{is_over, drawn_by};
@@ -15,15 +15,14 @@ use octave::Table;
 use refusal::Refusal;
 use totals::NODES;
 pub use totals::polarity;
-use totals::polarity::{Outcome, Over};
+use totals::polarity::Over;
 use totals::terms::{BRANCHES, ROLES};
 
 fn volt(volts: &[u32; NODES], n: u8) -> u32
     requires { n < nodes_most }
     ensures { result ≡ get_or volts.now n 0 }
 {
-    let k = n as usize;
-    volts[k]
+    volts[n as usize]
 }
 
 // The voltages of a transistor's roles.
@@ -32,15 +31,13 @@ fn role_volts(volts: &[u32; NODES], on: &[u8; ROLES]) -> [u32; ROLES]
     ensures { result ≡ roles_of volts.now on.now }
 {
     let mut v = [0u32; ROLES];
-    for k in 0..ROLES {
-        let n = on[k];
-        let x = volt(volts, n);
-        v[k] = x;
+    for (k, n) in on.iter().enumerate() {
+        v[k] = volt(volts, *n);
     }
     v
 }
 
-// The currents of a transistor on the card at place s of the deck, whole: its ticks, and by what it overloads first.
+// The currents of a transistor on the card at place s of the deck: its ticks, or by what it overloads first.
 pub fn work(
     table: &Table,
     numbers: &[u32; deck::ALL_NUMBERS],
@@ -50,7 +47,7 @@ pub fn work(
     s: usize,
     on: &[u8; ROLES],
     volts: &[u32; NODES],
-) -> Outcome
+) -> Result<[i64; BRANCHES], Over>
     requires { Workable table.now (deck_of numbers.now powers.now ticks.now switches.now) s on.now
         volts.now }
     ensures { Works (card_of (deck_of numbers.now powers.now ticks.now
@@ -70,22 +67,18 @@ pub fn put_in(l: &mut [i64; NODES], on: &[u8; ROLES], own: &[i64; BRANCHES])
     totals::put(l, on, own);
 }
 
-pub fn is_over(o: Over) -> bool
+// Whether what comes of a transistor is an overload at all.
+pub fn is_over(o: Option<Over>) -> bool
     ensures { result ≡ is_over o }
 {
-    match o {
-        Over::Within => false,
-        Over::Ticks(_) => true,
-        Over::Injection(_) => true,
-    }
+    o.is_some()
 }
 
 // The refusal that an overload draws for the transistor of this number.
 pub fn refusal_of(issue: u32, o: Over) -> Refusal
-    ensures { result ≡ drawn_by issue o }
+    ensures { result ≡ drawn_by issue (Some o) }
 {
     match o {
-        Over::Within => Refusal::Overload(issue, 0),
         Over::Ticks(k) => Refusal::Overload(issue, k),
         Over::Injection(k) => Refusal::Injection(issue, k),
     }

@@ -1,2 +1,1 @@
-pub mod CallerNumbers
 pub mod OfTotals

@@ -1,2 +1,3 @@
 -- What follows from the definitions of a caller's numbers.
 pub mod Pairs
+pub mod Larger

@@ -8,7 +8,6 @@ ghost use Rattle.given.specs.inner.Nodes.{node_of};
 pub use totals;
 use totals::NODES;
 use totals::terms::ROLES;
-use whole::Int;
 
 // The last issue number.
 pub const ISSUES: u32 = 65535;
@@ -17,10 +16,10 @@ pub const ISSUES: u32 = 65535;
 pub fn issue_of(n: i64) -> u32
     ensures { result ≡ issue_of n }
 {
-    let i = whole::open(n);
-    match i {
-        Int::Pos(k) => { if k <= ISSUES as u64 { k as u32 } else { 0 } }
-        Int::NegSuc(_) => 0,
+    if 0 <= n && n <= ISSUES as i64 {
+        n as u32
+    } else {
+        0
     }
 }
 
@@ -28,16 +27,10 @@ pub fn issue_of(n: i64) -> u32
 pub fn node_of(n: i64) -> u8
     ensures { result ≡ node_of n }
 {
-    let i = whole::open(n);
-    match i {
-        Int::Pos(k) => {
-            if k < NODES as u64 {
-                k as u8
-            } else {
-                NODES as u8
-            }
-        }
-        Int::NegSuc(_) => NODES as u8,
+    if 0 <= n && n < NODES as i64 {
+        n as u8
+    } else {
+        NODES as u8
     }
 }
 
@@ -45,9 +38,8 @@ pub fn nodes_of(nodes: [i64; ROLES]) -> [u8; ROLES]
     ensures { result ≡ map node_of nodes }
 {
     let mut on = [0u8; ROLES];
-    for k in 0..ROLES {
-        let n = node_of(nodes[k]);
-        on[k] = n;
+    for (k, n) in nodes.iter().enumerate() {
+        on[k] = node_of(*n);
     }
     on
 }

@@ -2,17 +2,16 @@
 use mathlib.Core.Path.{◌≡◌, refl, sym, ap, ap₂, ◌∙◌}
 use mathlib.Core.Bool.{Bool, true, false, ◌&&◌, ◌||◌}
 use mathlib.Core.List.{List, [], ◌∷◌}
-use Prim.Native.Nat.{ℕ, ◌+◌, ◌*◌, ◌-◌, ◌/◌, ◌<◌, ◌≤◌}
+use Prim.Native.Nat.{ℕ, zero, suc, ◌+◌, ◌*◌, ◌-◌, ◌/◌, ◌<◌, ◌≤◌}
 use native.Mathlib.Nat.{not-suc-le-zero, le_refl}
 use native.Mathlib.Omega.{arith}
 use borrow.Author.Tests.{eqb-true, lt-leb, le-leb}
 use lib.Dec.{eqb, leb}
 use lib.ListN.{length, take, drop, get_or, set, length-drop}
-use lib.Seq.{take_all, get_or-drop, drop-drop}
+use lib.Seq.{take_all}
 use Rattle.bytes_le.specs.Buffer.{over}
 use Rattle.name.proofs.Laws.{Filled, fill_first, fill_more, fill_all}
-use Rattle.hex_bytes.specs.declared.Hex.{Hex}
-use Rattle.hex_bytes.specs.declared.Hex.TheVariants.{Bytes, Bad}
+use Rattle.std.specs.Prelude.{Option, Some, None}
 use Rattle.hex_bytes.specs.Hex.{is_hex, nibble_of, all_pairs, pairs_of, is_dash, spells, hex_if, over_if, ReadsHex}
 
 -- two bytes, and those after them
@@ -58,63 +57,43 @@ pairs_end {t = t} v h = few t h ∙ sym v.so_far
 
 -- ---- the bytes
 
-half : (s : List ℕ) → 2 * length (pairs_of s) ≤ length s
+-- pair i is made of the bytes 2 * i and 2 * i + 1
+pair_at : (s : List ℕ) (i : ℕ) → 2 * i + 1 < length s
+    → get_or (pairs_of s) i 0 ≡ 16 * nibble_of (get_or s (2 * i) 0) + nibble_of (get_or s (2 * i + 1) 0)
 unfolding pairs_of
-half [] = omega arith
-half (a ∷ []) = omega arith
-half (a ∷ b ∷ s) = let h = half s in omega arith
-
-pub record Spelling (word old cur t : List ℕ) (i : ℕ) : Type 0 where
-  pub filled : Filled (pairs_of word) old cur i
-  pub rest : drop i (pairs_of word) ≡ pairs_of t
-
-pub spell_first : {old : List ℕ} (word : List ℕ) → length word / 2 ≤ length old → Spelling word old old word 0
-spell_first word h = record { filled = fill_first (omega (arith, half word)); rest = refl }
-
-module _ {word old cur t : List ℕ} {i : ℕ} (v : Spelling word old cur t i) where
-  module _ (h : 2 ≤ length t) where
-    abbrev byte : ℕ
-    byte = 16 * nibble_of (get_or t 0 0) + nibble_of (get_or t 1 0)
-
-    next : drop i (pairs_of word) ≡ byte ∷ pairs_of (drop 2 t)
-    unfolding pairs_of
-    next = v.rest ∙ ap pairs_of (two t h)
-
-    spell_room : i < length (pairs_of word)
-    spell_room = omega (arith, length-drop i (pairs_of word), ap length next)
-
-    pub spell_small : i < length cur
-    spell_small = omega (arith, spell_room, v.filled.fits, v.filled.kept)
-
-    pub spell_on : (x : ℕ) → x ≡ byte → Spelling word old (set cur i x) (drop 2 t) (i + 1)
-    spell_on x e =
-        let z : i + 0 ≡ i = omega arith in
-        let l = pairs_of word in
-        let first : byte ≡ get_or (drop i l) 0 0 = ap (λ (k : List ℕ). get_or k 0 0) (sym next) in
-        let here : byte ≡ get_or l i 0 = first ∙ get_or-drop i l 0 0 ∙ ap (λ (n : ℕ). get_or l n 0) z in record {
-          filled = fill_more v.filled x spell_room (e ∙ here);
-          rest = sym (drop-drop 1 i (pairs_of word)) ∙ ap (drop 1) next;
-        }
-
-  no_more : length t < 2 → pairs_of t ≡ []
-  unfolding pairs_of
-  no_more h = by t h
-    where
-      by : (t : List ℕ) → length t < 2 → pairs_of t ≡ []
-      by [] h = refl
-      by (a ∷ []) h = refl
-      by (a ∷ b ∷ t) h = absurd (omega arith)
-
-  pub spell_end : length t < 2 → cur ≡ over (pairs_of word) old
-  spell_end h = fill_all v.filled (omega (arith, length-drop i (pairs_of word), ap length (v.rest ∙ no_more h)))
-
--- ---- the answer
+pair_at [] i h = absurd (omega arith)
+pair_at (a ∷ []) i h = absurd (omega arith)
+pair_at (a ∷ b ∷ s) zero h = refl
+pair_at (a ∷ b ∷ s) (suc i) h =
+    let e : 2 * suc i ≡ suc (suc (2 * i)) = omega arith in
+    let f : 2 * suc i + 1 ≡ suc (suc (2 * i + 1)) = omega arith in
+    pair_at s i (omega arith)
+    ∙ sym (ap₂ (λ (m n : ℕ). 16 * nibble_of (get_or (a ∷ b ∷ s) m 0) + nibble_of (get_or (a ∷ b ∷ s) n 0)) e f)
 
 whole_pairs : (s : List ℕ) → length (pairs_of s) ≡ length s / 2
 unfolding pairs_of
 whole_pairs [] = refl
 whole_pairs (a ∷ []) = refl
 whole_pairs (a ∷ b ∷ s) = let h = whole_pairs s in omega arith
+
+module _ (word : List ℕ) {old : List ℕ} where
+  pub spell_first : length word / 2 ≤ length old → Filled (pairs_of word) old old 0
+  spell_first h = fill_first (omega (arith, whole_pairs word))
+
+  module _ {cur : List ℕ} {i : ℕ} (v : Filled (pairs_of word) old cur i) where
+    pub spell_small : i < length word / 2 → i < length cur
+    spell_small h = omega (arith, whole_pairs word, v.fits, v.kept)
+
+    pub spell_on : i < length word / 2 → (x a b : ℕ) → a ≡ nibble_of (get_or word (2 * i) 0)
+        → b ≡ nibble_of (get_or word (2 * i + 1) 0) → x ≡ 16 * a + b → Filled (pairs_of word) old (set cur i x) (i + 1)
+    spell_on h x a b e f g =
+        fill_more v x (omega (arith, whole_pairs word))
+        (g ∙ ap₂ (λ (m n : ℕ). 16 * m + n) e f ∙ sym (pair_at word i (omega arith)))
+
+    pub spell_end : length word / 2 ≤ i → cur ≡ over (pairs_of word) old
+    spell_end h = fill_all v (omega (arith, whole_pairs word))
+
+-- ---- the answer
 
 first_true : (a b : Bool) → a && b ≡ true → a ≡ true
 first_true true b e = refl
@@ -127,7 +106,7 @@ dash_alone (a ∷ []) e = refl
 dash_alone (a ∷ b ∷ w) e = let z = eqb-true (length (a ∷ b ∷ w)) 1 (first_true _ _ e) in absurd (omega arith)
 
 module _ (w old : List ℕ) where
-  answered : {b : Bool} {r : Hex} {new : List ℕ} → spells w (length old) ≡ b → r ≡ hex_if b (length (pairs_of w))
+  answered : {b : Bool} {r : Option ℕ} {new : List ℕ} → spells w (length old) ≡ b → r ≡ hex_if b (length (pairs_of w))
       → new ≡ over_if b (pairs_of w) old → ReadsHex w old r new
   answered e a n = record {
     answer = a ∙ ap (λ (b : Bool). hex_if b (length (pairs_of w))) (sym e);
@@ -139,23 +118,23 @@ module _ (w old : List ℕ) where
   unfolding spells
   judged {c = c} e f g = ap₂ (λ (x y : Bool). x || y) e (ap₂ ◌&&◌ f g)
 
-  pub dashed : true ≡ is_dash w → ReadsHex w old (Bytes 0) old
+  pub dashed : true ≡ is_dash w → ReadsHex w old (Some 0) old
   dashed e =
       let z = dash_alone w (sym e) in
-      answered (judged (sym e) refl refl) (ap (λ (l : List ℕ). Bytes (length l)) (sym z))
+      answered (judged (sym e) refl refl) (ap (λ (l : List ℕ). Some (length l)) (sym z))
       (ap (λ (l : List ℕ). over l old) (sym z))
 
   module _ (e : false ≡ is_dash w) where
-    pub too_many : length old < length w / 2 → ReadsHex w old Bad old
+    pub too_many : length old < length w / 2 → ReadsHex w old None old
     too_many h = answered (judged (sym e) (lt-leb (length w / 2) (length old) h) refl) refl refl
 
     module _ (h : length w / 2 ≤ length old) where
       fits : {c : Bool} → c ≡ all_pairs w → spells w (length old) ≡ c
       fits f = judged (sym e) (le-leb (length w / 2) (length old) h) (sym f)
 
-      pub not_pairs : false ≡ all_pairs w → ReadsHex w old Bad old
+      pub not_pairs : false ≡ all_pairs w → ReadsHex w old None old
       not_pairs f = answered (fits f) refl refl
 
       pub all_spelled : true ≡ all_pairs w → {new : List ℕ} → new ≡ over (pairs_of w) old
-          → ReadsHex w old (Bytes (length w / 2)) new
-      all_spelled f g = answered (fits f) (ap Bytes (sym (whole_pairs w))) g
+          → ReadsHex w old (Some (length w / 2)) new
+      all_spelled f g = answered (fits f) (ap (λ (n : ℕ). Some n) (sym (whole_pairs w))) g

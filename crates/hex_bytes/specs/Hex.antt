@@ -1,8 +1,6 @@
 -- Bytes in a word: two hex digits for each, or `-` for none.
-use Rattle.std.specs.Prelude.{◌≡◌, Bool, true, false, cond, ◌&&◌, ◌||◌, List, [], ◌∷◌, ℕ, ◌+◌, ◌*◌, ◌-◌, ◌/◌, eqb, leb, length, get_or}
+use Rattle.std.specs.Prelude.{◌≡◌, Bool, true, false, cond, ◌&&◌, ◌||◌, List, [], ◌∷◌, Option, Some, None, ℕ, ◌+◌, ◌*◌, ◌-◌, ◌/◌, eqb, leb, length, get_or}
 use Rattle.bytes_le.specs.Buffer.{over}
-use Rattle.hex_bytes.specs.declared.Hex.{Hex}
-use Rattle.hex_bytes.specs.declared.Hex.TheVariants.{Bytes, Bad}
 
 abbrev pub between : ℕ → ℕ → ℕ → Bool
 between low b high = leb low b && leb b high
@@ -31,15 +29,15 @@ is_dash w = eqb (length w) 1 && eqb (get_or w 0 0) 45
 unfoldable pub spells : List ℕ → ℕ → Bool
 spells w space = is_dash w || (leb (length w / 2) space && all_pairs w)
 
-abbrev pub hex_if : Bool → ℕ → Hex
-hex_if true n = Bytes n
-hex_if false n = Bad
+abbrev pub hex_if : Bool → ℕ → Option ℕ
+hex_if true n = Some n
+hex_if false n = None
 
 abbrev pub over_if : Bool → List ℕ → List ℕ → List ℕ
 over_if true new old = over new old
 over_if false new old = old
 
 -- reading the word w into old: the answer r, and what stands in the buffer after it
-pub record ReadsHex (w old : List ℕ) (r : Hex) (new : List ℕ) : Type 0 where
+pub record ReadsHex (w old : List ℕ) (r : Option ℕ) (new : List ℕ) : Type 0 where
   pub answer : r ≡ hex_if (spells w (length old)) (length (pairs_of w))
   pub bytes : new ≡ over_if (spells w (length old)) (pairs_of w) old

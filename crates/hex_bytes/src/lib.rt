@@ -5,27 +5,20 @@ ghost use Rattle.hex_bytes.specs.Hex.{ReadsHex};
 
 mod pairs; // pairs.rt: hex digits read in pairs
 
-// What a word is where bytes in hex digits are wanted: how many, or that it is none.
-#[derive(Clone, Copy)]
-pub enum Hex {
-    Bytes(usize),
-    Bad,
-}
-
-// The bytes that a word's hex digits spell, put at the start of `out`. A word that spells none, or more than `out`
-// holds, leaves it as it was.
-pub fn hex_bytes(word: &[u8], out: &mut [u8]) -> Hex
+// The bytes that a word's hex digits spell, put at the start of `out`; the answer is how many. A word that spells none,
+// or more than `out` holds, leaves it as it was.
+pub fn hex_bytes(word: &[u8], out: &mut [u8]) -> Option<usize>
     ensures { ReadsHex word.now out.old result out.new }
 {
     if pairs::is_dash(word) {
-        return Hex::Bytes(0);
+        return Some(0);
     }
     if out.len() < word.len() / 2 {
-        return Hex::Bad;
+        return None;
     }
     if pairs::are_pairs(word) {
         pairs::fill(word, out);
-        return Hex::Bytes(word.len() / 2);
+        return Some(word.len() / 2);
     }
-    Hex::Bad
+    None
 }

@@ -6,21 +6,16 @@ ghost use Rattle.hex_bytes.specs.Hex.{is_hex, nibble_of, is_dash, all_pairs, pai
 fn is_hex(b: u8) -> bool
     ensures { result ≡ is_hex b }
 {
-    match b {
-        48..=57 => true,
-        65..=70 => true,
-        97..=102 => true,
-        _ => false,
-    }
+    b.is_ascii_hexdigit()
 }
 
 fn nibble(b: u8) -> u8
     ensures { (result ≡ nibble_of b) × (result < 16) }
 {
     match b {
-        48..=57 => b - 48,
-        65..=70 => b - 55,
-        97..=102 => b - 87,
+        b'0'..=b'9' => b - 48,
+        b'A'..=b'F' => b - 55,
+        b'a'..=b'f' => b - 87,
         _ => 0,
     }
 }
@@ -28,10 +23,7 @@ fn nibble(b: u8) -> u8
 pub(crate) fn is_dash(word: &[u8]) -> bool
     ensures { result ≡ is_dash word.now }
 {
-    if word.len() != 1 {
-        return false;
-    }
-    word[0] == b'-'
+    word == b"-".as_slice()
 }
 
 // Whether there are hex digits alone, and two for each byte.
@@ -39,18 +31,16 @@ pub(crate) fn are_pairs(word: &[u8]) -> bool
     ensures { result ≡ all_pairs word.now }
 {
     let mut t = word;
-    while 2 <= t.len() {
-        if is_hex(t[0]) {
-            if is_hex(t[1]) {
-                t = &t[2..];
-            } else {
-                return false;
-            }
-        } else {
+    while let [high, low, rest @ ..] = t {
+        if !is_hex(*high) {
             return false;
         }
+        if !is_hex(*low) {
+            return false;
+        }
+        t = rest;
     }
-    t.len() == 0
+    t.is_empty()
 }
 
 // Puts the bytes that the pairs spell at the start of `out`.
@@ -58,11 +48,7 @@ pub(crate) fn fill(word: &[u8], out: &mut [u8])
     requires { length word.now / 2 ≤ length out.old }
     ensures { out.new ≡ over (pairs_of word.now) out.old }
 {
-    let mut t = word;
-    let mut i = 0;
-    while 2 <= t.len() {
-        out[i] = 16 * nibble(t[0]) + nibble(t[1]);
-        i += 1;
-        t = &t[2..];
+    for i in 0..word.len() / 2 {
+        out[i] = 16 * nibble(word[2 * i]) + nibble(word[2 * i + 1]);
     }
 }

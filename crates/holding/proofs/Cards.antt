@@ -1,10 +1,8 @@
 -- What loading and withdrawing leave in the arrays of a board's cards, and where the tests of withdrawing lead.
-use mathlib.Core.Path.{◌≡◌, refl, sym, ap, ◌∙◌}
+use mathlib.Core.Path.{◌≡◌, refl, ◌∙◌}
 use mathlib.Core.Bool.{Bool, true, false}
 use mathlib.Core.List.{List}
-use Prim.Native.Nat.{ℕ, ◌≤◌, ◌<◌}
-use native.Mathlib.Omega.{arith}
-use lib.Dec.{eqb}
+use Prim.Native.Nat.{ℕ}
 use lib.ListN.{replicate}
 use lib.IntN.{ℤ}
 use Rattle.refusal.specs.declared.Refusal.{Refusal}
@@ -13,12 +11,10 @@ use Rattle.name.specs.Name.{name_length}
 use Rattle.terms.specs.declared.Ready.{Ready}
 use Rattle.terms.specs.inner.Ready.{no_ready}
 use Rattle.given.specs.Lists.{any_of}
-use Rattle.given.specs.Arguments.{some, issue_of}
+use Rattle.given.specs.Arguments.{none, some, issue_of}
 use Rattle.places.specs.Gathered.{Card}
 use Rattle.places.specs.Finding.{card_place, stands_on}
-use Rattle.places.specs.inner.Parts.{place_or}
-use Rattle.places.specs.inner.Flat.{first_at, number_place, any_on}
-use Rattle.places.specs.laws.Founds.{not_there, is_there}
+use Rattle.places.specs.inner.Flat.{number_place, any_on}
 use Rattle.places.specs.laws.Gather.{card_place_lem, any_on_flat}
 use Rattle.model.specs.Board.{Board, Answered}
 use Rattle.model.specs.declared.Answer.{Answer}
@@ -71,25 +67,22 @@ module _ {b : Board} {numbers powers ticks : List ℕ} {switches : List Bool} {n
 
   -- ---- withdrawing
 
-  -- the issue number asked for, and its card's place or the number of places
-  module _ {issues cards : List ℕ} (q : issues ≡ b.issues) (r : cards ≡ b.cards) (z : ℤ) {n : ℕ} (e : n ≡ issue_of z)
-      {i : ℕ} (p : i ≡ place_or cards_most (number_place cards_most n held)) where
+  -- the issue number asked for, and its card's place or none
+  module _ {issues cards : List ℕ} (q : issues ≡ b.issues) (r : cards ≡ b.cards) (z : ℤ) {n : ℕ} (e : n ≡ issue_of z) where
     place_is : card_place n (cards_of b) ≡ number_place cards_most n held
     place_is = rw l.held_are (place_of b n)
 
     on_is : any_of (stands_on n) (transistors_of b) ≡ any_on n issues cards
     on_is = rw (q, r) (on_of b n)
 
-    pub lent_unknown : cards_most ≤ i →
+    pub lent_unknown : number_place cards_most n held ≡ none →
         LeavesCards (withdrawn_of b z) (Refused Unknown) numbers powers ticks switches names held b.next
     unfolding withdrawn_of withdraw_verdict
-    lent_unknown h =
-        let none-there = not_there cards_most (first_at cards_most n held) (eqb n 0) (omega (arith, p)) in
-        cards_stay (withdrawn_of b z) refl (rw (← e, place_is, none-there))
+    lent_unknown h = cards_stay (withdrawn_of b z) refl (rw (← e, place_is, h))
 
-    module _ (h : i < cards_most) where
+    module _ {i : ℕ} (h : number_place cards_most n held ≡ some i) where
       there : card_place n (cards_of b) ≡ some i
-      there = place_is ∙ is_there cards_most _ (omega (arith, p)) ∙ ap some (sym p)
+      there = place_is ∙ h
 
       pub lent_in_use : any_on n issues cards ≡ true →
           LeavesCards (withdrawn_of b z) (Refused CardInUse) numbers powers ticks switches names held b.next

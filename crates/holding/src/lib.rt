@@ -5,6 +5,7 @@
 ghost use Rattle.std.specs.Prelude.{◌≡◌, ◌<◌};
 ghost use Rattle.places.specs.Counts.{cards_most};
 ghost use Rattle.model.specs.Board.{Board};
+ghost use Rattle.model.specs.Answering.{answer_of};
 ghost use Rattle.model.specs.Model.{withdrawn_of};
 ghost use Rattle.holding.specs.inner.Lent.{CardArrays, LeavesCards, Holds, card_of};
 
@@ -48,19 +49,18 @@ pub fn withdraw(
     issues: &[u32; TRANSISTORS],
     cards: &[u32; TRANSISTORS],
     card: i64,
-) -> Answer
+) -> Result<Answer, Refusal>
     ensures { (b : Board) → CardArrays b numbers.old powers.old ticks.old
         switches.old names.old held.old → issues.now ≡ b.issues →
-        cards.now ≡ b.cards → LeavesCards (withdrawn_of b card) result numbers.new powers.new
+        cards.now ≡ b.cards → LeavesCards (withdrawn_of b card) (answer_of result) numbers.new powers.new
         ticks.new switches.new names.new held.new b.next }
 {
     let n = given::issue_of(card);
-    let i = places::card_at(held, n);
-    if CARDS <= i {
-        return Answer::Refused(Refusal::Unknown);
-    }
+    let Some(i) = places::place_of(held, n) else {
+        return Err(Refusal::Unknown);
+    };
     if places::any_on(issues, cards, n) {
-        return Answer::Refused(Refusal::CardInUse);
+        return Err(Refusal::CardInUse);
     }
     let gone: u32 = 0;
     let blank = [0u8; name::LENGTH];
@@ -68,5 +68,5 @@ pub fn withdraw(
     hold(
         numbers, powers, ticks, switches, names, held, i, gone, &blank, none,
     );
-    Answer::Done
+    Ok(Answer::Done)
 }

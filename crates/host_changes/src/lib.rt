@@ -22,12 +22,13 @@ pub fn fresh(board: Board, volts: &mut [i64], totals: &mut [i64]) -> Outcome
     ensures { Begun board result.board volts.old volts.new totals.old
         totals.new result.code }
 {
-    let asked = Board::fresh(volts, totals);
-    let answer = asked.answer;
-    let empty = asked.board;
-    let code = host_words::result_of(answer);
+    let begun = Board::fresh(volts, totals);
+    let code = host_words::result_of(begun.answer);
     if code == 0 {
-        return Outcome { board: empty, code };
+        return Outcome {
+            board: begun.board,
+            code,
+        };
     }
     Outcome { board, code }
 }
@@ -39,12 +40,9 @@ pub fn load(board: Board, name: &[u8], bytes: &[u8], issue: &mut u32) -> Outcome
         issue.old issue.new result.code }
 {
     let loaded = board.load(name, bytes);
-    let answer = loaded.answer;
-    let with_card = loaded.board;
-    let code = host_words::tell_issue(answer, issue);
     Outcome {
-        board: with_card,
-        code,
+        board: loaded.board,
+        code: host_words::tell_issue(loaded.answer, issue),
     }
 }
 
@@ -54,8 +52,8 @@ pub fn withdraw(board: Board, card: i64) -> Outcome
     ensures { Leaves (given_as (withdrawn_of (bare (model_of board)) card)) result.board result.code }
 {
     let withdrawn = board.withdraw(card);
-    let said = withdrawn.answer;
-    let rest = withdrawn.board;
-    let code = host_words::result_of(said);
-    Outcome { board: rest, code }
+    Outcome {
+        board: withdrawn.board,
+        code: host_words::result_of(withdrawn.answer),
+    }
 }

@@ -40,5 +40,5 @@ pub fn move_lent(
         volts, totals, currents, numbers, powers, ticks, switches, issues, seats, nodes, naming,
         pairs,
     );
-    host_words::tell_fault(moved, who, branch)
+    host_words::tell_fault(model::answer_of(moved), who, branch)
 }

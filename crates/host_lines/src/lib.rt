@@ -17,11 +17,8 @@ pub fn load_line(board: Board, line: &[u8], issue: &mut u32) -> Outcome
         issue.old issue.new result.code }
 {
     let loaded = fetching::load_line(board, line);
-    let answer = loaded.answer;
-    let with_card = loaded.board;
-    let code = host_words::tell_issue(answer, issue);
     Outcome {
-        board: with_card,
-        code,
+        board: loaded.board,
+        code: host_words::tell_issue(loaded.answer, issue),
     }
 }

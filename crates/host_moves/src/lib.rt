@@ -26,10 +26,10 @@ pub fn move_all(
         branch.new result.code }
 {
     let moved = board.move_all(volts, totals, pairs);
-    let answer = moved.answer;
-    let after = moved.board;
-    let code = host_words::tell_fault(answer, who, branch);
-    Outcome { board: after, code }
+    Outcome {
+        board: moved.board,
+        code: host_words::tell_fault(moved.answer, who, branch),
+    }
 }
 
 // One node moved.
@@ -47,11 +47,11 @@ pub fn move_to(
         (node ∷ microvolts ∷ [])) result.board volts.new totals.new who.old
         who.new branch.old branch.new result.code }
 {
-    let went = board.move_to(volts, totals, node, microvolts);
-    let answer = went.answer;
-    let later = went.board;
-    let code = host_words::tell_fault(answer, who, branch);
-    Outcome { board: later, code }
+    let went = board.move_all(volts, totals, &[node, microvolts]);
+    Outcome {
+        board: went.board,
+        code: host_words::tell_fault(went.answer, who, branch),
+    }
 }
 
 // A transistor taken off.
@@ -61,11 +61,8 @@ pub fn lift(board: Board, volts: &[i64], totals: &mut [i64], transistor: i64) ->
         result.board totals.new result.code }
 {
     let lifted = board.lift(volts, totals, transistor);
-    let told = lifted.answer;
-    let without = lifted.board;
-    let code = host_words::result_of(told);
     Outcome {
-        board: without,
-        code,
+        board: lifted.board,
+        code: host_words::result_of(lifted.answer),
     }
 }

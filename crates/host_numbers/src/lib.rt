@@ -12,10 +12,6 @@ pub fn put_numbers(numbers: &[i64], buffer: &mut [i64]) -> bool
     if buffer.len() < numbers.len() {
         return false;
     }
-    let mut i = 0;
-    while i < numbers.len() {
-        buffer[i] = numbers[i];
-        i += 1;
-    }
+    buffer[..numbers.len()].copy_from_slice(numbers);
     true
 }

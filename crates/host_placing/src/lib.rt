@@ -16,10 +16,7 @@ const INNER: usize = 7;
 fn is_list(nodes: &[i64]) -> bool
     ensures { result ≡ is_list nodes.now }
 {
-    if nodes.len() == INNER {
-        return true;
-    }
-    nodes.len() == ROLES
+    nodes.len() == INNER || nodes.len() == ROLES
 }
 
 // A transistor on a card and on the nodes of a list, of seven or of eleven: 1 for the list. Its number goes to one lent
@@ -41,12 +38,9 @@ pub fn place(
 {
     if is_list(nodes) {
         let placed = board.place(volts, totals, card, roles::roles_of(nodes));
-        let answer = placed.answer;
-        let with_one = placed.board;
-        let code = host_words::tell_placed(answer, issue, who, branch);
         return Outcome {
-            board: with_one,
-            code,
+            board: placed.board,
+            code: host_words::tell_placed(placed.answer, issue, who, branch),
         };
     }
     Outcome { board, code: 1 }

@@ -1,35 +1,52 @@
 -- What each call leaves, from what the library's operation ensures of its answer.
-use mathlib.Core.Path.{◌≡◌, ap, ◌∙◌}
-use mathlib.Core.List.{List}
-use Prim.Native.Nat.{ℕ}
-use lib.ListN.{length}
-use Rattle.refusal.specs.Order.{Verdict, number_told, tells, tells_one}
-use Rattle.finding.specs.declared.Located.{Located}
-use Rattle.finding.specs.Answers.{locating, verdict_located, told_located}
-use Rattle.library.specs.declared.Reading.{Reading}
-use Rattle.library.specs.Answers.{read, verdict_read, Reads}
+use Rattle.std.proofs.Common.{◌≡◌, ℕ, List, length, Ok, Err, ap}
+use Rattle.refusal.specs.declared.Refusal.{Refusal}
+use Rattle.refusal.specs.Told.{number_of}
+use Rattle.refusal.specs.Order.{Verdict, no, yes, number_told, tells, tells_one}
+use Rattle.finding.specs.declared.Place.{Place}
+use Rattle.finding.specs.Answers.{locating, told_located}
+use Rattle.library.specs.declared.Contents.{Contents}
+use Rattle.library.specs.Answers.{read, Reads}
 use Rattle.host_shelf.specs.Shelf.{first_over, second_over, ReadOut, Found}
 
-pub reads_out : {s ns ns' ws ws' : List ℕ} {a : Reading} {c c' v v' r : ℕ} → Reads s ns ws a ns' ws' →
-    c' ≡ first_over (verdict_read a) c → v' ≡ second_over (verdict_read a) v → r ≡ number_told (verdict_read a) →
-    ReadOut s ns ns' ws ws' c c' v v' r
-reads_out {s} {ns} {ns'} {ws} {ws'} {a} {c} {c'} {v} p f g h =
-    let e = tells_one (verdict_read a) (read s (length ns) (length ws)) p.answer in
-    record {
-      result = h ∙ ap number_told e;
-      names = p.names;
-      words = p.words;
-      cards = f ∙ ap (λ (d : Verdict (ℕ × ℕ)). first_over d c) e;
-      version = g ∙ ap (λ (d : Verdict (ℕ × ℕ)). second_over d v) e;
-    }
+module _ {s ns ns' ws ws' : List ℕ} (c v : ℕ) where
+  pub reads_out : (k : Contents) → Reads s ns ws (Ok k) ns' ws' → ReadOut s ns ns' ws ws' c k.cards v k.version 0
+  reads_out k p =
+      let e : yes (k.cards, k.version) ≡ read s (length ns) (length ws) = tells_one _ _ p.answer in
+      record {
+        result = ap number_told e;
+        names = p.names;
+        words = p.words;
+        cards = ap (λ (d : Verdict (ℕ × ℕ)). first_over d c) e;
+        version = ap (λ (d : Verdict (ℕ × ℕ)). second_over d v) e;
+      }
 
-pub finds : (s x : List ℕ) (l : Located) {a a' z z' r : ℕ} → told_located l ≡ tells (locating s x) →
-    a' ≡ first_over (verdict_located l) a → z' ≡ second_over (verdict_located l) z → r ≡ number_told (verdict_located l) →
-    Found s x a a' z z' r
-finds s x l {a} {a'} {z} p f g h =
-    let e = tells_one (verdict_located l) (locating s x) p in
-    record {
-      result = h ∙ ap number_told e;
-      at = f ∙ ap (λ (d : Verdict (ℕ × ℕ)). first_over d a) e;
-      size = g ∙ ap (λ (d : Verdict (ℕ × ℕ)). second_over d z) e;
-    }
+  pub reads_not : (f : Refusal) → Reads s ns ws (Err f) ns' ws' → ReadOut s ns ns' ws ws' c c v v (number_of f)
+  reads_not f p =
+      let e : no f ≡ read s (length ns) (length ws) = tells_one _ _ p.answer in
+      record {
+        result = ap number_told e;
+        names = p.names;
+        words = p.words;
+        cards = ap (λ (d : Verdict (ℕ × ℕ)). first_over d c) e;
+        version = ap (λ (d : Verdict (ℕ × ℕ)). second_over d v) e;
+      }
+
+module _ (s x : List ℕ) (a z : ℕ) where
+  pub finds : (l : Place) → told_located (Ok l) ≡ tells (locating s x) → Found s x a l.at z l.size 0
+  finds l p =
+      let e : yes (l.at, l.size) ≡ locating s x = tells_one _ _ p in
+      record {
+        result = ap number_told e;
+        at = ap (λ (d : Verdict (ℕ × ℕ)). first_over d a) e;
+        size = ap (λ (d : Verdict (ℕ × ℕ)). second_over d z) e;
+      }
+
+  pub finds_not : (f : Refusal) → told_located (Err f) ≡ tells (locating s x) → Found s x a a z z (number_of f)
+  finds_not f p =
+      let e : no f ≡ locating s x = tells_one _ _ p in
+      record {
+        result = ap number_told e;
+        at = ap (λ (d : Verdict (ℕ × ℕ)). first_over d a) e;
+        size = ap (λ (d : Verdict (ℕ × ℕ)). second_over d z) e;
+      }

@@ -1,16 +1,16 @@
 -- Bytes and texts kept in a room, a carriage return, and what a line is.
-use mathlib.Core.Path.{◌≡◌, refl, sym, ap, subst, ◌∙◌}
+use mathlib.Core.Path.{◌≡◌, refl, sym, ap, ◌∙◌}
 use mathlib.Core.Bool.{Bool, true, false, cond}
 use mathlib.Core.List.{List, [], ◌∷◌, ◌++◌, append_assoc}
 use Prim.Native.Nat.{ℕ, ◌+◌, ◌-◌, ◌≤◌, ◌<◌}
+use Rattle.std.specs.Prelude.{min}
+use Rattle.std.proofs.lemmas.List.{take_min}
 use native.Mathlib.Numerals.{add-one}
 use native.Mathlib.Omega.{arith}
 use borrow.Author.Tests.{lt-ltb, le-ltb, eq-eqb, ne_eqb}
 use lib.Dec.{eqb, ltb}
-use lib.ListN.{length, take, drop, get_or, set, length-set, length-take, take-append-drop}
-use lib.Seq.{take_all, take_at, take-suc-set, length-take-le}
-use Rattle.decimal_write.proofs.Puts as puts
-use Rattle.decimal_write.proofs.Puts.{Putting}
+use lib.ListN.{length, take, get_or, set, length-set}
+use lib.Seq.{take_all, take_at, take-append-add, take-suc-set, length-take-le}
 use Rattle.trimming.specs.Trimmed.{from_first, to_last, trimmed}
 use Rattle.joining.specs.declared.Kind.TheVariants.{Passed, Model, More}
 use Rattle.joining.specs.Lines.{longest_line, line_room, star_byte, plus_byte, return_byte, marked, kept_if, with_byte}
@@ -42,49 +42,21 @@ byte_over l n b x e h f =
 
 -- ---- a text more
 
--- its first i bytes are put, and the next one goes to the place at
-pub record Adding (text old : List ℕ) (n : ℕ) (new : List ℕ) (at i : ℕ) : Type 0 where
-  pub putting : Putting text old n new i
-  pub place : at ≡ n + i
-  pub room : length old ≡ line_room
+pub text_over : (l text : List ℕ) (n : ℕ) → length l ≡ line_room → line_room ≤ n → take n l ≡ with_text (take n l) text
+unfolding with_text
+text_over l text n e h =
+    let all : take n l ≡ l = take_all n l (omega arith) in
+    sym (ap (λ (t : List ℕ). take line_room (t ++ text)) all ∙ take_at l text line_room e ∙ sym all)
 
-module _ {text old new : List ℕ} {n at i : ℕ} (v : Adding text old n new at i) where
-  -- what is kept so far
-  so_far : take at new ≡ take n old ++ take i text
-  so_far = ap (λ (k : ℕ). take k new) v.place ∙ v.putting.added.same
-
-  long : length new ≡ line_room
-  long = v.putting.added.kept ∙ v.room
-
-  pub text_more : i < length text → at < line_room → Adding text old n (set new at (get_or text i 0)) (at + 1) (i + 1)
-  text_more h k =
-      let e = v.place in
-      record {
-        putting =
-            subst (λ (p : ℕ). Putting text old n (set new p (get_or text i 0)) (i + 1)) (sym e)
-            (puts.byte_put v.putting h (let l = long in omega arith));
-        place = omega arith;
-        room = v.room;
-      }
-
-  pub text_over : line_room ≤ at → take at new ≡ with_text (take n old) text
-  unfolding with_text
-  text_over h =
-      let p = take n old ++ take i text in
-      let z : length p ≡ line_room =
-      sym (ap length so_far) ∙ ap length (take_all at new (let k = long in omega arith)) ∙ long in
-      so_far ∙ sym (take_at p (drop i text) line_room z)
-      ∙ ap (take line_room) (append_assoc (take n old) (take i text) (drop i text)
-      ∙ ap (λ (t : List ℕ). take n old ++ t) (take-append-drop i text))
-
-  pub text_put : length text ≤ i → take at new ≡ with_text (take n old) text
-  unfolding with_text
-  text_put h =
-      let all : take i text ≡ text = take_all i text h in
-      let e : take at new ≡ take n old ++ text = so_far ∙ ap (λ (t : List ℕ). take n old ++ t) all in
-      let few : length (take n old ++ text) ≤ line_room =
-      rw (sym e) (let k = long in let m = length-take at new in omega arith) in
-      e ∙ sym (take_all line_room (take n old ++ text) few)
+pub text_more : (l text : List ℕ) (n k : ℕ) → length l ≡ line_room → n < line_room
+    → k ≡ min (line_room - n) (length text) → take n l ++ take k text ≡ with_text (take n l) text
+unfolding with_text
+text_more l text n k e h q =
+    let long : length (take n l) ≡ n = length-take-le n l (omega arith) in
+    let whole : length (take n l) + (line_room - n) ≡ line_room = omega arith in
+    ap (λ (t : List ℕ). take n l ++ t) (ap (λ (i : ℕ). take i text) q ∙ take_min (line_room - n) text)
+    ∙ sym (take-append-add (take n l) text (line_room - n))
+    ∙ ap (λ (i : ℕ). take i (take n l ++ text)) whole
 
 -- ---- a carriage return
 
@@ -94,12 +66,10 @@ bare_none [] h = refl
 bare_none (b ∷ l) h = absurd (omega arith)
 
 pub bare_return : (l : List ℕ) → get_or l (length l - 1) 0 ≡ return_byte
-    → take (length l - 1 - 0) (drop 0 l) ≡ bare_of l
+    → take (length l - 1) l ≡ bare_of l
 unfolding bare_of
 bare_return l e =
-    let z : length l - 1 - 0 ≡ length l - 1 = omega arith in
-    ap (λ (n : ℕ). take n l) z
-    ∙ sym (ap (λ (t : Bool). cond t (take (length l - 1) l) l) (eq-eqb (get_or l (length l - 1) 0) return_byte e))
+    sym (ap (λ (t : Bool). cond t (take (length l - 1) l) l) (eq-eqb (get_or l (length l - 1) 0) return_byte e))
 
 pub bare_other : (l : List ℕ) → (get_or l (length l - 1) 0 ≡ return_byte → ⊥) → l ≡ bare_of l
 unfolding bare_of

@@ -2,6 +2,7 @@
 use Rattle.std.specs.Prelude.{Bool, true, false, cond, List, [], ◌∷◌, ◌++◌, ℕ, suc, ◌-◌, eqb, ltb, length, take, get_or}
 use Rattle.spelling.specs.Bytes.{space}
 use Rattle.trimming.specs.Trimmed.{trimmed}
+use Rattle.joining.specs.declared.Line.{Line}
 use Rattle.joining.specs.declared.Kind.{Kind}
 use Rattle.joining.specs.declared.Kind.TheVariants.{Passed, Model, More}
 
@@ -24,6 +25,10 @@ abbrev pub return_byte : ℕ
 return_byte = 13
 
 -- ---- a line byte by byte
+
+-- the bytes that are kept of it
+abbrev pub kept_of : Line → List ℕ
+kept_of l = take l.used l.bytes
 
 -- of two bytes the later one, if it is no space
 abbrev pub marked : ℕ → ℕ → ℕ

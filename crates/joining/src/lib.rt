@@ -1,8 +1,8 @@
 // The lines of a file of models: their kind, and their bytes joined.
 #![tactic(auto)]
 
-ghost use Rattle.std.specs.Prelude.{◌≡◌, length, take};
-ghost use Rattle.joining.specs.Lines.{line_room, marked, with_byte, with_text, bare_of, kind_of};
+ghost use Rattle.std.specs.Prelude.{◌≡◌};
+ghost use Rattle.joining.specs.Lines.{marked, kept_of, with_byte, with_text, bare_of, kind_of};
 
 // The most bytes of a model line, and how much is kept of a line.
 pub const LONGEST_LINE: usize = 4096;
@@ -25,64 +25,66 @@ fn marked(a: u8, b: u8) -> u8
     if b == b' ' { a } else { b }
 }
 
-// A byte more of a line of which n bytes are kept.
-pub fn add_byte(line: &mut [u8], n: usize, b: u8) -> usize
-    requires { length line.old ≡ line_room }
-    ensures { take result line.new ≡ with_byte (take n line.old) b }
-{
-    if n < LINE_ROOM {
-        line[n] = b;
-        return n + 1;
-    }
-    line[LONGEST_LINE] = marked(line[LONGEST_LINE], line[LONGEST_LINE + 1]);
-    line[LONGEST_LINE + 1] = b;
-    LINE_ROOM
+// What is kept of a line: the first `used` bytes.
+#[derive(Drop)]
+pub struct Line {
+    pub bytes: [u8; LINE_ROOM],
+    pub used: usize,
 }
 
-// A text more of a line of which n bytes are kept.
-pub fn add_text(line: &mut [u8], n: usize, text: &[u8]) -> usize
-    requires { length line.old ≡ line_room }
-    ensures { take result line.new ≡ with_text (take n line.old) text.now }
-{
-    let mut at = n;
-    let mut i = 0;
-    while i < text.len() {
-        if LINE_ROOM <= at {
-            return at;
-        }
-        line[at] = text[i];
-        at += 1;
-        i += 1;
+impl Line {
+    pub fn kept(&self) -> &[u8]
+        ensures { result.now ≡ kept_of self.now }
+    {
+        &self.bytes[..self.used.min(LINE_ROOM)]
     }
-    at
+
+    // A byte more.
+    pub fn add_byte(&mut self, b: u8)
+        ensures { kept_of self.new ≡ with_byte (kept_of self.old) b }
+    {
+        if self.used < LINE_ROOM {
+            self.bytes[self.used] = b;
+            self.used += 1;
+            return;
+        }
+        self.bytes[LONGEST_LINE] = marked(self.bytes[LONGEST_LINE], self.bytes[LONGEST_LINE + 1]);
+        self.bytes[LONGEST_LINE + 1] = b;
+        self.used = LINE_ROOM;
+    }
+
+    // A text more.
+    pub fn add_text(&mut self, text: &[u8])
+        ensures { kept_of self.new ≡ with_text (kept_of self.old) text.now }
+    {
+        let n = self.used;
+        if n < LINE_ROOM {
+            let kept = (LINE_ROOM - n).min(text.len());
+            self.bytes[n..n + kept].copy_from_slice(&text[..kept]);
+            self.used = n + kept;
+        }
+    }
 }
 
 // A line without the carriage return at its end.
 pub fn bare(line: &[u8]) -> &[u8]
     ensures { result.now ≡ bare_of line.now }
 {
-    let n = line.len();
-    if n == 0 {
-        return line;
+    match line {
+        [rest @ .., b'\r'] => rest,
+        _ => line,
     }
-    if line[n - 1] == b'\r' {
-        return &line[0..n - 1];
-    }
-    line
 }
 
 pub fn kind_of(line: &[u8]) -> Kind
     ensures { result ≡ kind_of line.now }
 {
-    if trimming::trimmed(line).len() == 0 {
+    if trimming::trimmed(line).is_empty() {
         return Kind::Passed;
     }
-    if line.len() == 0 {
-        return Kind::Passed;
+    match line {
+        [] | [b'*', ..] => Kind::Passed,
+        [b'+', ..] => Kind::More,
+        _ => Kind::Model,
     }
-    let b = line[0];
-    if b == b'*' {
-        return Kind::Passed;
-    }
-    if b == b'+' { Kind::More } else { Kind::Model }
 }

@@ -14,7 +14,8 @@ use Rattle.decimal_write.specs.Added.{Added}
 use Rattle.decimal_write.proofs.Puts.{then}
 use Rattle.keys.specs.Keys.{key_count}
 use Rattle.keyed.specs.Keyed.{is_form, forms_up, key_text, keys_up}
-use Rattle.keyed.specs.inner.Parts.{KeyPut, KeysPut}
+use Rattle.std.specs.Prelude.{Option, None}
+use Rattle.keyed.specs.inner.Parts.{KeyPut, KeysPut, PutKeys}
 
 pub keys_begun : (rec room : List ℕ) (from : ℕ) → KeysPut rec room from room 0 from
 unfolding keys_up forms_up
@@ -48,8 +49,9 @@ stays rec n (suc m) h e = by (eq-or-lt_of_le h) (λ l. stays rec n m l e)
     by (inl z) f = rw z at e
     by (inr l) f = ap (λ (t : Bool). t && is_form (form_of (word_at rec m))) (f (le_of_suc-le-suc l))
 
-pub keys_fail : {rec old mid : List ℕ} {from n at w : ℕ} → KeysPut rec old from mid n at → w ≡ word_at rec n
-    → n < key_count → is_form (form_of w) ≡ false → forms_up rec key_count ≡ false
+pub keys_fail : {rec old mid : List ℕ} (new : List ℕ) {from n at w : ℕ} {r : Option ℕ} → KeysPut rec old from mid n at
+    → w ≡ word_at rec n → n < key_count → is_form (form_of w) ≡ false → r ≡ None → PutKeys rec old from new r
 unfolding forms_up
-keys_fail {rec} {n = n} v e h f =
-    stays rec (suc n) key_count h (ap₂ ◌&&◌ v.forms (ap (λ (x : ℕ). is_form (form_of x)) (sym e) ∙ f))
+keys_fail {rec} {old} new {from} {n} v e h f z =
+    subst (PutKeys rec old from new) (sym z)
+    (stays rec (suc n) key_count h (ap₂ ◌&&◌ v.forms (ap (λ (x : ℕ). is_form (form_of x)) (sym e) ∙ f)))

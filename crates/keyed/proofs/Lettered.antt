@@ -1,5 +1,5 @@
 -- A key's letters from its number, and a key with its number's text.
-use mathlib.Core.Path.{◌≡◌, refl, sym, ap, ◌∙◌}
+use mathlib.Core.Path.{◌≡◌, refl, sym, ap, subst, ◌∙◌}
 use mathlib.Core.Bool.{Bool, true, false, ◌&&◌}
 use mathlib.Core.List.{List, [], ◌∷◌, ◌++◌, append_assoc}
 use Prim.Native.Nat.{ℕ, ◌-◌, ◌≤◌, ◌<◌}
@@ -12,15 +12,15 @@ use Rattle.bytes_le.specs.Le.{bytes_of}
 use Rattle.name.specs.Name.{same, same_equal}
 use Rattle.whole.specs.laws.Every.{at_each}
 use Rattle.spelling.specs.Bytes.{space}
-use Rattle.decimal.specs.declared.Form.{Form}
-use Rattle.decimal.specs.declared.Form.TheVariants.{Number, Nothing}
+use Rattle.std.specs.Prelude.{Option, Some, None}
+use Rattle.decimal.specs.declared.Decimal.{Decimal}
 use Rattle.decimal.specs.Decimal.{digits_end, powers_end}
 use Rattle.shortest.specs.Form.{form_of}
 use Rattle.shortest.proofs.Fewest.{formed}
 use Rattle.decimal_write.specs.Written.{number_text, form_text}
 use Rattle.keys.specs.Keys.{key_count, key_word, packed_keys, key_lengths}
 use Rattle.keyed.specs.Keyed.{is_form, key_text}
-use Rattle.keyed.specs.inner.Parts.{key_start}
+use Rattle.keyed.specs.inner.Parts.{key_start, PutKey}
 
 -- ---- the letters, by a test of all keys
 
@@ -50,21 +50,19 @@ module _ {packed lengths : List ℕ} (p : packed ≡ packed_keys) (l : lengths �
 
 -- ---- a key with its number
 
-module _ (w : ℕ) {r : Form} {m : Bool} {d q : ℕ} (e : r ≡ form_of w) (f : r ≡ Number m d q) where
-  is_number : form_of w ≡ Number m d q
-  is_number = sym e ∙ f
-
+module _ (w : ℕ) {x : Decimal} (e : Some x ≡ form_of w) where
   pub has_form : is_form (form_of w) ≡ true
-  has_form = ap is_form is_number
+  has_form = ap is_form (sym e)
 
-  pub form_range : (d < digits_end) × (q < powers_end)
-  form_range = let s = rw is_number at (formed w) in (s.form.digits, s.form.power)
+  pub form_range : (x.digits < digits_end) × (x.power < powers_end)
+  form_range = let s = rw (sym e) at (formed w) in (s.form.digits, s.form.power)
 
-  pub keyed_text : (k : ℕ) → key_start k ++ number_text m d q ≡ key_text k w
+  pub keyed_text : (k : ℕ) → key_start k ++ number_text x.minus x.digits x.power ≡ key_text k w
   unfolding form_text
   keyed_text k =
-      ap (λ (t : List ℕ). space ∷ t) (append_assoc (key_word k) (61 ∷ []) (number_text m d q))
-      ∙ ap (λ (x : Form). space ∷ (key_word k ++ (61 ∷ form_text x))) (sym is_number)
+      ap (λ (t : List ℕ). space ∷ t) (append_assoc (key_word k) (61 ∷ []) (number_text x.minus x.digits x.power))
+      ∙ ap (λ (y : Option Decimal). space ∷ (key_word k ++ (61 ∷ form_text y))) e
 
-pub no_form : (w : ℕ) {r : Form} → r ≡ form_of w → r ≡ Nothing → is_form (form_of w) ≡ false
-no_form w e f = ap is_form (sym e ∙ f)
+pub no_form : (old : List ℕ) (at : ℕ) (new : List ℕ) (k w : ℕ) (r : Option ℕ) → r ≡ None → None ≡ form_of w
+    → PutKey old at new k w r
+no_form old at new k w r e f = subst (PutKey old at new k w) (sym e) (ap is_form (sym f))

@@ -1,17 +1,16 @@
 -- Every key with its number, in the record's order, one space before each; and whether each number has a form.
-use Rattle.std.specs.Prelude.{Bool, true, false, ◌&&◌, List, [], ◌∷◌, ◌++◌, ℕ, zero, suc}
+use Rattle.std.specs.Prelude.{Bool, true, false, ◌&&◌, List, [], ◌∷◌, ◌++◌, Option, Some, None, ℕ, zero, suc}
 use Rattle.clip.specs.Record.{word_at}
 use Rattle.spelling.specs.Bytes.{space}
-use Rattle.decimal.specs.declared.Form.{Form}
-use Rattle.decimal.specs.declared.Form.TheVariants.{Number, Nothing}
+use Rattle.decimal.specs.declared.Decimal.{Decimal}
 use Rattle.shortest.specs.Form.{form_of}
 use Rattle.decimal_write.specs.Written.{form_text}
 use Rattle.keys.specs.Keys.{key_word}
 
 -- whether a word has a form, and whether each of the first n has
-abbrev pub is_form : Form → Bool
-is_form (Number minus d q) = true
-is_form Nothing = false
+abbrev pub is_form : Option Decimal → Bool
+is_form (Some x) = true
+is_form None = false
 
 unfoldable pub forms_up : List ℕ → ℕ → Bool
 forms_up rec zero = true

@@ -1,5 +1,5 @@
 -- The keys of a model line: one list, in the order of a record's numbers, with what a key that is not given stands for.
-use Rattle.std.specs.Prelude.{◌≡◌, refl, List, [], ◌∷◌, ◌++◌, map, ℕ, zero, suc, length, get_or}
+use Rattle.std.specs.Prelude.{◌≡◌, refl, List, [], ◌∷◌, ◌++◌, map, Option, Some, None, ℕ, zero, suc, ◌<◌, length, get_or}
 use Prim.Native.String.{String}
 use Rattle.bytes_le.specs.Le.{le}
 use Rattle.roll.specs.Directory.{place_of}
@@ -7,8 +7,6 @@ use Rattle.clip.specs.Numbers.{mult, is, ik, bf, xibi, ibf, mlf, bri, iss, icss,
 use Rattle.clip.specs.Numbers.{level}
 use Rattle.clip.specs.Numbers.{ibr, vlr, re, rbc, rcc}
 use Rattle.spelling.specs.Bytes.{bytes}
-use Rattle.decimal_read.specs.declared.Reading.{Reading}
-use Rattle.decimal_read.specs.declared.Reading.TheVariants.{Word, Nothing}
 use Rattle.decimal_read.specs.Text.{word_read}
 
 -- the word, the number of the parameter, and the text of its default; no text where the key must be given
@@ -56,6 +54,11 @@ key_words = map (λ (k : Key). k.word) keys
 unfoldable pub key_number : List ℕ → ℕ
 key_number w = place_of w key_words
 
+-- how a search tells it: the number of a key that has the word, or that none has it
+abbrev pub IsNumberOf : List ℕ → Option ℕ → Type 0
+IsNumberOf w (Some k) = (k ≡ key_number w) × (k < key_count)
+IsNumberOf w None = key_number w ≡ key_count
+
 -- the key of a number
 abbrev pub key_word : ℕ → List ℕ
 key_word k = get_or key_words k []
@@ -63,9 +66,9 @@ key_word k = get_or key_words k []
 -- ---- what the record has before any key is taken
 
 -- a default's word; +0 where there is none
-abbrev pub word_in : Reading → ℕ
-word_in (Word w) = w
-word_in Nothing = 0
+abbrev pub word_in : Option ℕ → ℕ
+word_in (Some w) = w
+word_in None = 0
 
 -- the words of the polarities: +1 and -1
 abbrev pub plus_one : ℕ

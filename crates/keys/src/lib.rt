@@ -1,13 +1,18 @@
 // The keys of a model line: found by their words, and the record without any of them given.
 #![tactic(auto)]
 
-ghost use Rattle.std.specs.Prelude.{◌≡◌, ◌≤◌};
-ghost use Rattle.keys.specs.Keys.{key_count, key_number, defaults, packed_keys, key_lengths};
+ghost use Rattle.std.specs.Prelude.{◌≡◌};
+ghost use Rattle.keys.specs.Keys.{IsNumberOf, defaults, packed_keys, key_lengths};
 
 // How many keys there are, and the numbers of a record of version 2.
 pub const KEYS: usize = 21;
 
 const WORDS: usize = 24;
+
+// The words of the polarities: +1 and -1.
+pub const PLUS_ONE: u64 = 0x3ff0000000000000;
+
+pub const MINUS_ONE: u64 = 0xbff0000000000000;
 
 // The keys as numbers, in the record's order: the first byte is the lowest.
 const PACKED: [u64; KEYS] = [
@@ -62,16 +67,22 @@ const DEFAULTS: [u64; WORDS] = [
     0x4014000000000000,
     0x4037000000000000,
     0x4028000000000000,
-    0x3ff0000000000000,
+    PLUS_ONE,
     0,
     0,
 ];
 
 // The keys as numbers: had once for many words, and lent.
-pub fn packed() -> [u64; KEYS]
-    ensures { result ≡ packed_keys }
+#[derive(Drop)]
+pub struct PackedKeys {
+    pub numbers: [u64; KEYS],
+    pub ghost value: { numbers ≡ packed_keys },
+}
+
+pub fn packed() -> PackedKeys
+    ensures { result.numbers ≡ packed_keys }
 {
-    PACKED
+    PackedKeys { numbers: PACKED }
 }
 
 pub fn lengths() -> [usize; KEYS]
@@ -86,18 +97,10 @@ pub fn defaults() -> [u64; WORDS]
     DEFAULTS
 }
 
-// The number of the key with that word; how many there are, where none has it.
-pub fn number_of(packed: &[u64; KEYS], word: &[u8]) -> usize
-    requires { packed.now ≡ packed_keys }
-    ensures { (result ≡ key_number word.now) × (result ≤ key_count) }
+// The number of the key with that word.
+pub fn number_of(packed: &PackedKeys, word: &[u8]) -> Option<usize>
+    ensures { IsNumberOf word.now result }
 {
     let x = packing::packed(word);
-    let mut i = 0;
-    while i < KEYS {
-        if x == packed[i] {
-            return i;
-        }
-        i += 1;
-    }
-    KEYS
+    packed.numbers.iter().position(|key| x == *key)
 }

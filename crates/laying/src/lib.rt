@@ -1,55 +1,13 @@
 // A card made ready, written in its stretches of the flat arrays.
 #![tactic(auto)]
 
-ghost use Rattle.std.specs.Prelude.{◌≡◌, false, ◌*◌, ◌<◌};
-ghost use Rattle.deck.specs.Stretch.{written};
-ghost use Rattle.deck.specs.Layout.{cards_most, numbers_each, powers_each, ticks_each, switches_each};
+ghost use Rattle.std.specs.Prelude.{◌≡◌, ◌<◌};
+ghost use Rattle.deck.specs.Layout.{cards_most};
 ghost use Rattle.deck.specs.Layout.{numbers_of, powers_of, ticks_of, switches_of, Laid};
 
 use card::WorkedCard;
 use deck::{ALL_NUMBERS, ALL_POWERS, ALL_SWITCHES, ALL_TICKS, NUMBERS, POWERS, SWITCHES, TICKS};
 use terms::Ready;
-
-fn lay_numbers(all: &mut [u32; ALL_NUMBERS], i: usize, own: &[u32; NUMBERS])
-    requires { i < cards_most }
-    ensures { all.new ≡ written 0 all.old (numbers_each * i) own.now numbers_each }
-{
-    let at = NUMBERS * i;
-    for k in 0..NUMBERS {
-        all[at + k] = own[k];
-    }
-}
-
-fn lay_powers(all: &mut [u16; ALL_POWERS], i: usize, own: &[u16; POWERS])
-    requires { i < cards_most }
-    ensures { all.new ≡ written 0 all.old (powers_each * i) own.now powers_each }
-{
-    let at = POWERS * i;
-    for k in 0..POWERS {
-        all[at + k] = own[k];
-    }
-}
-
-fn lay_ticks(all: &mut [u64; ALL_TICKS], i: usize, own: &[u64; TICKS])
-    requires { i < cards_most }
-    ensures { all.new ≡ written 0 all.old (ticks_each * i) own.now ticks_each }
-{
-    let at = TICKS * i;
-    for k in 0..TICKS {
-        all[at + k] = own[k];
-    }
-}
-
-fn lay_switches(all: &mut [bool; ALL_SWITCHES], i: usize, own: &[bool; SWITCHES])
-    requires { i < cards_most }
-    ensures { all.new ≡ written false all.old (switches_each * i) own.now
-        switches_each }
-{
-    let at = SWITCHES * i;
-    for k in 0..SWITCHES {
-        all[at + k] = own[k];
-    }
-}
 
 fn numbers_of(r: Ready) -> [u32; NUMBERS]
     ensures { result ≡ numbers_of r }
@@ -145,12 +103,8 @@ pub fn put_ready(
         numbers.new powers.new ticks.new switches.new }
 {
     let card = r.card;
-    let own_numbers = numbers_of(r);
-    let own_powers = powers_of(card);
-    let own_ticks = ticks_of(r);
-    let own_switches = switches_of(card);
-    lay_numbers(numbers, i, &own_numbers);
-    lay_powers(powers, i, &own_powers);
-    lay_ticks(ticks, i, &own_ticks);
-    lay_switches(switches, i, &own_switches);
+    deck::put_stretch(numbers, i, &numbers_of(r));
+    deck::put_stretch(powers, i, &powers_of(card));
+    deck::put_stretch(ticks, i, &ticks_of(r));
+    deck::put_stretch(switches, i, &switches_of(card));
 }

@@ -1,18 +1,18 @@
 -- Each way out of reading, over plain values: the tests that lead there give the definition's verdict.
 use mathlib.Core.Path.{◌≡◌, refl, sym, ◌∙◌, ap}
-use mathlib.Core.Bool.{Bool, true, false, cond, ◌||◌}
-use mathlib.Core.List.{List, []}
+use mathlib.Core.Bool.{Bool, true, ◌||◌}
+use mathlib.Core.List.{List}
 use Prim.Native.Nat.{ℕ, ◌*◌, ◌-◌, ◌/◌, ◌≤◌}
 use native.Mathlib.Omega.{arith}
-use borrow.Author.Tests.{leb-true, leb-false, lt-ltb, le-ltb}
-use lib.Dec.{leb, ltb}
+use borrow.Author.Tests.{le-ltb}
+use lib.Dec.{ltb}
 use lib.ListN.{length, take, drop, length-drop}
 use Rattle.bytes_le.proofs.Laws.{rest}
 use Rattle.refusal.specs.declared.Refusal.{Refusal}
 use Rattle.refusal.specs.declared.Refusal.TheVariants.{ShortOutput}
 use Rattle.refusal.specs.Order.{Verdict, no, yes, refuse_if, tells}
-use Rattle.library.specs.declared.Reading.{Reading}
-use Rattle.library.specs.declared.Reading.TheVariants.{Cards, Refused}
+use Rattle.std.proofs.Common.{Result, Ok, Err}
+use Rattle.library.specs.declared.Contents.{Contents}
 use Rattle.library.specs.Answers.{Reads, left, read, verdict_read}
 use Rattle.directory.specs.Judged.{library_judged}
 use Rattle.roll.specs.Directory.{name_bytes}
@@ -37,17 +37,11 @@ records_words {s} {n} v = let l = v.long in rw (rest s (records_at n), length-dr
 
 -- ---- the ways out of reading
 
--- the words that are handed on, all where w is room enough, have room
-pub words_room_lem : {s : List ℕ} {n k : ℕ} → Inspected s n k → (w : ℕ) {q : List ℕ}
-    → q ≡ cond (leb (k * n) w) (records_part s n) [] → length q / word_bytes ≤ w
-words_room_lem {s} {n} {k} v w e = rw e (by_test (leb (k * n) w) refl)
-  where
-    by_test : (t : Bool) → leb (k * n) w ≡ t → length (cond t (records_part s n) []) / word_bytes ≤ w
-    by_test true g = let i : k * n ≤ w = leb-true (k * n) w g in rw (records_words v) i
-    by_test false g = omega arith
+pub records_room : {s : List ℕ} {n k w : ℕ} → Inspected s n k → k * n ≤ w → length (records_part s n) / word_bytes ≤ w
+records_room v h = rw (records_words v) h
 
 module _ (s ns ws : List ℕ) where
-  reads_by : (v : Verdict (ℕ × ℕ)) → read s (length ns) (length ws) ≡ v → (r : Reading) → verdict_read r ≡ v
+  reads_by : (v : Verdict (ℕ × ℕ)) → read s (length ns) (length ws) ≡ v → (r : Result Contents Refusal) → verdict_read r ≡ v
       → Reads s ns ws r (left v (directory s) ns) (left v (words_in (records s)) ws)
   reads_by v e r g =
       record {
@@ -56,9 +50,9 @@ module _ (s ns ws : List ℕ) where
         words = ap (λ (w : Verdict (ℕ × ℕ)). left w (words_in (records s)) ws) (sym e);
       }
 
-  pub read_refused : {f : Refusal} → library_judged s ≡ no f → Reads s ns ws (Refused f) ns ws
+  pub read_refused : {f : Refusal} → library_judged s ≡ no f → Reads s ns ws (Err f) ns ws
   unfolding read
-  read_refused {f} e = reads_by (no f) (rw e) (Refused f) refl
+  read_refused {f} e = reads_by (no f) (rw e) (Err f) refl
 
   module _ {n k : ℕ} (v : Inspected s n k) where
     to_five : {t : Bool} → (ltb (length ns) (name_bytes * n) || ltb (length ws) (k * n)) ≡ t
@@ -67,27 +61,17 @@ module _ (s ns ws : List ℕ) where
     to_five e = rw v.judged (ap (λ (b : Bool). refuse_if b ShortOutput (yes (n, version s))) e)
 
     pub read_short : (ltb (length ns) (name_bytes * n) || ltb (length ws) (k * n)) ≡ true
-        → Reads s ns ws (Refused ShortOutput) ns ws
-    read_short e = reads_by (no ShortOutput) (to_five e) (Refused ShortOutput) refl
+        → Reads s ns ws (Err ShortOutput) ns ws
+    read_short e = reads_by (no ShortOutput) (to_five e) (Err ShortOutput) refl
 
     pub read_yes : name_bytes * n ≤ length ns → k * n ≤ length ws
         → read s (length ns) (length ws) ≡ yes (n, version s)
     read_yes hn hw = to_five (or_false (le-ltb (length ns) (name_bytes * n) hn) ∙ le-ltb (length ws) (k * n) hw)
 
-    -- d and q are what was handed on of the directory's part and of the records' part, and d' and q' what that left in
-    -- the buffers
-    module _ (hn : name_bytes * n ≤ length ns) {d q d' q' : List ℕ}
-        (ed : d ≡ cond (leb (k * n) (length ws)) (directory_part s n) [])
-        (eq : q ≡ cond (leb (k * n) (length ws)) (records_part s n) [])
-        (ed' : d' ≡ over d ns) (eq' : q' ≡ over (words_in q) ws) where
-      pub read_cards : leb (k * n) (length ws) ≡ true → {u : ℕ} → u ≡ version s → Reads s ns ws (Cards n u) d' q'
-      read_cards h eu =
-          rw (ed', eq', ed, eq, h, directory_part_lem s v.is_count, records_part_lem v, eu)
-          (reads_by (yes (n, version s)) (read_yes hn (leb-true (k * n) (length ws) h)) (Cards n (version s)) refl)
-
-      pub read_none : leb (k * n) (length ws) ≡ false → Reads s ns ws (Refused ShortOutput) d' q'
-      read_none h =
-          rw (ed', eq', ed, eq, h)
-          (read_short
-          (or_false (le-ltb (length ns) (name_bytes * n) hn) ∙ lt-ltb (length ws) (k * n)
-          (leb-false (k * n) (length ws) h)))
+    -- d and q are what stands in the buffers after the directory's part and the words of the records' part
+    pub read_cards : name_bytes * n ≤ length ns → k * n ≤ length ws → {d q : List ℕ} {u : ℕ}
+        → d ≡ over (directory_part s n) ns → q ≡ over (words_in (records_part s n)) ws → u ≡ version s
+        → Reads s ns ws (Ok (record { cards = n; version = u })) d q
+    read_cards hn hw ed eq eu =
+        rw (ed, eq, directory_part_lem s v.is_count, records_part_lem v, eu)
+        (reads_by (yes (n, version s)) (read_yes hn hw) (Ok (record { cards = n; version = version s })) refl)

@@ -1,33 +1,31 @@
 -- One input has one result: any two answers, and any two contents of a lent buffer, that a contract permits are equal.
-use Rattle.std.specs.Prelude.{◌≡◌, List, ℕ, length}
+use Rattle.std.specs.Prelude.{◌≡◌, Result, Ok, Err, List, ℕ, length}
 use Rattle.std.proofs.Common.{ap}
 use Rattle.refusal.specs.Unique.{unique_by_equation}
 use Rattle.refusal.specs.Order.{Verdict, no, yes, tells, tells_one}
-use Rattle.library.specs.declared.Reading.{Reading}
-use Rattle.library.specs.declared.Reading.TheVariants as reading
-use Rattle.library.specs.declared.Writing.{Writing}
-use Rattle.library.specs.declared.Writing.TheVariants as writing
+use Rattle.refusal.specs.declared.Refusal.{Refusal}
+use Rattle.library.specs.declared.Contents.{Contents}
 use Rattle.library.specs.Answers.{told_read, read, Reads, told_written, written, Writes}
 
 -- the answer that a verdict is: one whatever tells it
 
-abbrev pub as_reading : Verdict (ℕ × ℕ) → Reading
-as_reading (yes p) = reading.Cards p.0 p.1
-as_reading (no f) = reading.Refused f
+abbrev pub as_reading : Verdict (ℕ × ℕ) → Result Contents Refusal
+as_reading (yes p) = Ok (record { cards = p.0; version = p.1 })
+as_reading (no f) = Err f
 
-abbrev pub as_writing : Verdict ℕ → Writing
-as_writing (yes n) = writing.Bytes n
-as_writing (no f) = writing.Refused f
+abbrev pub as_writing : Verdict ℕ → Result ℕ Refusal
+as_writing (yes n) = Ok n
+as_writing (no f) = Err f
 
-pub reading_told : (r : Reading) (v : Verdict (ℕ × ℕ)) → told_read r ≡ tells v → r ≡ as_reading v
-reading_told (reading.Cards n k) v e = ap as_reading (tells_one (yes (n, k)) v e)
-reading_told (reading.Refused f) v e = ap as_reading (tells_one (no f) v e)
+pub reading_told : (r : Result Contents Refusal) (v : Verdict (ℕ × ℕ)) → told_read r ≡ tells v → r ≡ as_reading v
+reading_told (Ok c) v e = ap as_reading (tells_one (yes (c.cards, c.version)) v e)
+reading_told (Err f) v e = ap as_reading (tells_one (no f) v e)
 
-pub writing_told : (r : Writing) (v : Verdict ℕ) → told_written r ≡ tells v → r ≡ as_writing v
-writing_told (writing.Bytes n) v e = ap as_writing (tells_one (yes n) v e)
-writing_told (writing.Refused f) v e = ap as_writing (tells_one (no f) v e)
+pub writing_told : (r : Result ℕ Refusal) (v : Verdict ℕ) → told_written r ≡ tells v → r ≡ as_writing v
+writing_told (Ok n) v e = ap as_writing (tells_one (yes n) v e)
+writing_told (Err f) v e = ap as_writing (tells_one (no f) v e)
 
-pub unique_read : {s ns ws : List ℕ} {r r' : Reading} {n n' w w' : List ℕ}
+pub unique_read : {s ns ws : List ℕ} {r r' : Result Contents Refusal} {n n' w w' : List ℕ}
     → Reads s ns ws r n w → Reads s ns ws r' n' w' → (r ≡ r') × (n ≡ n') × (w ≡ w')
 unique_read {s} {ns} {ws} {r} {r'} a b =
     let v = read s (length ns) (length ws) in (
@@ -36,7 +34,7 @@ unique_read {s} {ns} {ws} {r} {r'} a b =
       unique_by_equation a.words b.words,
     )
 
-pub unique_write : {v : ℕ} {ns ws l : List ℕ} {r r' : Writing} {m m' : List ℕ}
+pub unique_write : {v : ℕ} {ns ws l : List ℕ} {r r' : Result ℕ Refusal} {m m' : List ℕ}
     → Writes v ns ws l r m → Writes v ns ws l r' m' → (r ≡ r') × (m ≡ m')
 unique_write {v} {ns} {ws} {l} {r} {r'} a b =
     let w = written v ns ws (length l) in (

@@ -9,10 +9,12 @@ use native.Mathlib.Omega.{arith}
 use lib.ListN.{length, take, drop, get_or, length-drop}
 use lib.Seq.{length-take-le, drop-drop}
 use denote.Ref.{Bor}
-use Rattle.finding.specs.declared.Located.{Located}
-use Rattle.finding.specs.declared.Located.TheVariants.{Record, Refused}
+use Rattle.std.proofs.Common.{Result, Ok, Err}
+use Rattle.refusal.specs.declared.Refusal.{Refusal}
+use Rattle.finding.specs.declared.Place.{Place}
 use Rattle.directory.specs.Format.{words_of, version, count, directory, records, records_at}
 use Rattle.roll.specs.Directory.{names_in, pieces, place_of}
+use Rattle.copying.proofs.WordsRead.{piece}
 use Rattle.finding.specs.Answers.{locating, handed, standing, Finds, told_located, record_at, HandsOut}
 use Rattle.directory.specs.Judged.{Sound}
 use Rattle.directory.proofs.Headers.{known_version}
@@ -31,13 +33,15 @@ pub record Part (l : Bor (List ℕ)) (at size : ℕ) (p : Bor (List ℕ)) : Type
   pub known : (version l.now ≡ 1) ⊎ (version l.now ≡ 2)
 
 -- what an answer of locating says of the part that is found
-abbrev pub Agree : Bor (List ℕ) → Located → Bor (List ℕ) → Type 0
-Agree l (Record at size) p = Part l at size p
-Agree l (Refused f) p = p.now ≡ []
+abbrev pub Agree : Bor (List ℕ) → Result Place Refusal → Bor (List ℕ) → Type 0
+Agree l (Ok a) p = Part l a.at a.size p
+Agree l (Err f) p = p.now ≡ []
 
-pub find_agrees : {l : Bor (List ℕ)} {x : List ℕ} {p : Bor (List ℕ)} (r : Located)
+pub find_agrees : {l : Bor (List ℕ)} {x : List ℕ} {p : Bor (List ℕ)} (r : Result Place Refusal)
     → Finds l x p → told_located r ≡ tells (locating l.now x) → Agree l r p
-find_agrees {l} {x} {p} (Record at size) f e =
+find_agrees {l} {x} {p} (Ok a) f e =
+    let at : ℕ = a.at in
+    let size : ℕ = a.size in
     let g : yes (at, size) ≡ locating l.now x = tells_one (yes (at, size)) (locating l.now x) e in
     let w = located_within l.now x (sym g) in
     let b : p.now ≡ take size (drop at l.now) = f.bytes ∙ ap (λ (v : Verdict (ℕ × ℕ)). handed v l.now) (sym g) in
@@ -49,18 +53,10 @@ find_agrees {l} {x} {p} (Record at size) f e =
       width = w.wide;
       known = known_version (version l.now) w.known;
     }
-find_agrees {l} {x} (Refused g) f e =
+find_agrees {l} {x} (Err g) f e =
     f.bytes ∙ ap (λ (v : Verdict (ℕ × ℕ)). handed v l.now) (sym (tells_one (no g) (locating l.now x) e))
 
 -- ---- handing out
-
--- piece k of w elements
-piece : (w n : ℕ) (s : List ℕ) (k : ℕ) → k < n → get_or (pieces w n s) k [] ≡ take w (drop (w * k) s)
-piece w zero s k h = absurd (omega arith)
-piece w (suc n) s zero h = ap (λ (m : ℕ). take w (drop m s)) (sym (mul-zero w))
-piece w (suc n) s (suc k) h =
-    let e : w + w * k ≡ w * suc k = omega (arith, mul-suc w k) in
-    piece w n (drop w s) k (omega arith) ∙ ap (take w) (drop-drop (w * k) w s ∙ ap (λ (m : ℕ). drop m s) e)
 
 -- the records of a sound library, one for each card
 abbrev pub records_in : List ℕ → List (List ℕ)
@@ -73,7 +69,7 @@ record_of_card {l} {r} {k} g h d =
     let w : ℕ = words_of (version s) in
     let e : records_at (count s) + word_bytes * w * k ≡ records_at (count s) + word_bytes * (w * k) = omega arith in
     d.bytes ∙ ap (λ (p : ℕ × ℕ). handed (yes p) s) (record_sound s k g h) ∙ sym
-    (piece (word_bytes * w) (count s) (records s) k h ∙ ap (take (word_bytes * w))
+    (piece (word_bytes * w) (count s) (records s) k [] h ∙ ap (take (word_bytes * w))
     (drop-drop (word_bytes * w * k) (records_at (count s)) s ∙ ap (λ (m : ℕ). drop m s) e))
 
 pub record_of_name : {l p r : Bor (List ℕ)} {x : List ℕ} {q : ℕ × ℕ}

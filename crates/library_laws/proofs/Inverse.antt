@@ -11,10 +11,9 @@ use lib.ListN.{length, take, drop, length-append, length-drop, take-append-drop}
 use lib.Seq.{take_at, drop_at, drop-drop, take-add, get_or-drop, length-take-le}
 use Rattle.bytes_le.specs.Le.{le, le_at, bytes_of, le_bytes, Below, bytes_le, byte_values, word_bytes}
 use Rattle.name.proofs.Laws.{and_true}
-use Rattle.library.specs.declared.Reading.{Reading}
-use Rattle.library.specs.declared.Reading.TheVariants.{Cards}
-use Rattle.library.specs.declared.Writing.{Writing}
-use Rattle.library.specs.declared.Writing.TheVariants.{Bytes}
+use Rattle.std.proofs.Common.{Result, Ok}
+use Rattle.refusal.specs.declared.Refusal.{Refusal}
+use Rattle.library.specs.declared.Contents.{Contents}
 use Rattle.roll.specs.Directory.{all_named, twice, name_bytes, names_held, names_in}
 use Rattle.directory.specs.Format.{words_of, records_at, whole_of, version, count, agree, headed, directory, records}
 use Rattle.directory.specs.Format.{words_in, bytes_of_all, header_of, library_of, offered, header_bytes, most_cards}
@@ -32,7 +31,6 @@ use Rattle.library.proofs.Outcomes.{read_yes}
 use Rattle.directory.proofs.Offers.{Offered, offers}
 use Rattle.library.proofs.Writings.{write_yes}
 use Rattle.refusal.specs.Order.{Verdict, tells_one, yes}
-use Rattle.roll.proofs.Names.{shorter}
 use Rattle.refusal.specs.declared.Refusal.TheVariants.{Malformed, ShortOutput}
 use Rattle.bytes_le.specs.Buffer.{over}
 
@@ -170,10 +168,10 @@ written_yes v ns ws a e =
 
 -- what was written into any buffer and is read into any buffers that are long enough comes back, at the start of each,
 -- and the version told is the one that was written
-pub read_after_write : {v : ℕ} {ns ws l l' : List ℕ} {m : ℕ} {n₀ w₀ n₁ w₁ : List ℕ} {r : Reading}
-    → Writes v ns ws l (Bytes m) l' → Below (2 ^ 64) ws → Reads (take m l') n₀ w₀ r n₁ w₁
+pub read_after_write : {v : ℕ} {ns ws l l' : List ℕ} {m : ℕ} {n₀ w₀ n₁ w₁ : List ℕ} {r : Result Contents Refusal}
+    → Writes v ns ws l (Ok m) l' → Below (2 ^ 64) ws → Reads (take m l') n₀ w₀ r n₁ w₁
     → length ns ≤ length n₀ → length ws ≤ length w₀
-    → (r ≡ Cards (names_held ns) v) × (n₁ ≡ over ns n₀) × (w₁ ≡ over ws w₀)
+    → (r ≡ Ok (record { cards = names_held ns; version = v })) × (n₁ ≡ over ns n₀) × (w₁ ≡ over ws w₀)
 read_after_write {v} {ns} {ws} {l} {l'} {m} {n₀} {w₀} {r = r} w b d hn hw =
     let answer : yes m ≡ written v ns ws (length l) = tells_one (yes m) (written v ns ws (length l)) w.answer in
     let t = written_yes v ns ws (length l) (sym answer) in
@@ -288,10 +286,10 @@ read_yes_of s p q e =
 
 -- a library that was read into any buffers and is written from their starts, in the version that reading told, into any
 -- buffer that is long enough comes back
-pub write_after_read : {s ns ws ns' ws' : List ℕ} {n v : ℕ} {l l' : List ℕ} {r : Writing}
-    → Reads s ns ws (Cards n v) ns' ws' → Below byte_values s
+pub write_after_read : {s ns ws ns' ws' : List ℕ} {n v : ℕ} {l l' : List ℕ} {r : Result ℕ Refusal}
+    → Reads s ns ws (Ok (record { cards = n; version = v })) ns' ws' → Below byte_values s
     → Writes v (take (name_bytes * n) ns') (take (words_of v * n) ws') l r l' → length s ≤ length l
-    → (r ≡ Bytes (length s)) × (l' ≡ over s l)
+    → (r ≡ Ok (length s)) × (l' ≡ over s l)
 write_after_read {s} {ns} {ws} {ns'} {ws'} {n} {v} {l} {l'} {r} d b w h =
     let answer : yes (n, v) ≡ read s (length ns) (length ws) =
     tells_one (yes (n, v)) (read s (length ns) (length ws)) d.answer in

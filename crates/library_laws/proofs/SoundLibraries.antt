@@ -10,8 +10,9 @@ use lib.Dec.{lit<}
 use lib.ListN.{length, get_or, replicate, length-replicate, length-append}
 use Rattle.name.specs.Name.{mark, well_formed}
 use Rattle.name.proofs.Laws.{and_true, same_not}
-use Rattle.library.specs.declared.Reading.{Reading}
-use Rattle.library.specs.declared.Reading.TheVariants.{Cards}
+use Rattle.std.proofs.Common.{Result, Ok}
+use Rattle.refusal.specs.declared.Refusal.{Refusal}
+use Rattle.library.specs.declared.Contents.{Contents}
 use Rattle.roll.specs.Directory.{all_named, among, twice, name_bytes, names_held, names_in}
 use Rattle.directory.specs.Format.{words_of, version, count, headed, directory, library_of, offered, most_cards}
 use Rattle.library.specs.Answers.{read, Reads}
@@ -46,9 +47,9 @@ not_refused s a b h₁ h₂ h₃ =
     (numbers_of s) h₁ h₂ h₃
 
 -- a sound library is read wherever the buffers are long enough, and reading tells its version
-pub sound_read : {s ns ws ns' ws' : List ℕ} {r : Reading}
+pub sound_read : {s ns ws ns' ws' : List ℕ} {r : Result Contents Refusal}
     → Sound s → name_bytes * count s ≤ length ns → words_of (version s) * count s ≤ length ws
-    → Reads s ns ws r ns' ws' → r ≡ Cards (count s) (version s)
+    → Reads s ns ws r ns' ws' → r ≡ Ok (record { cards = count s; version = version s })
 sound_read {s} {ns} {ws} {r = r} g hn hw d =
     reading_told r (read s (length ns) (length ws)) d.answer ∙ ap as_reading (read_yes s ns ws (inspected s g) hn hw)
 

@@ -1,24 +1,23 @@
 -- Lifting on arrays that are a board's, beside two slices: each end of a call, with what it leaves in them.
 use mathlib.Core.Path.{◌≡◌, sym, subst}
-use mathlib.Core.Bool.{Bool, true, false}
+use mathlib.Core.Bool.{true, false}
 use mathlib.Core.List.{List}
-use Prim.Native.Nat.{ℕ, ◌*◌, ◌≤◌}
-use lib.Dec.{eqb}
+use Prim.Native.Nat.{ℕ, ◌*◌}
 use lib.ListN.{length, set, replicate}
 use lib.IntN.{ℤ, pos}
+use Rattle.std.specs.Prelude.{Result, Ok, Err}
 use Rattle.refusal.specs.declared.Refusal.{Refusal}
-use Rattle.refusal.specs.declared.Refusal.TheVariants.{OutOfReach, OutOfRange, Unknown}
+use Rattle.refusal.specs.declared.Refusal.TheVariants.{OutOfRange, Unknown}
 use Rattle.terms.specs.Rows.{roles, branches}
 use Rattle.totals.specs.Flow.{ticks_give}
 use Rattle.totals.specs.inner.Sums.{More, Givable}
-use Rattle.given.specs.Arguments.{some, issue_of}
+use Rattle.given.specs.Arguments.{some, issue_of, none as nowhere}
 use Rattle.deck.specs.Stretch.{written}
 use Rattle.slices.specs.Slices.{off_slices, changed, StandsIn}
 use Rattle.small.specs.inner.Small.{Near}
 use Rattle.places.specs.Naming.{parted}
-use Rattle.places.specs.inner.Flat.{first_at, number_place}
-use Rattle.places.specs.inner.Parts.{place_or, Entering}
-use Rattle.places.specs.laws.Founds.{not_there}
+use Rattle.places.specs.inner.Flat.{number_place}
+use Rattle.places.specs.inner.Parts.{Entering}
 use Rattle.settle.specs.inner.Working.{nodes_at, held_at}
 use Rattle.settle.proofs.Alone.{none_small, one_small}
 use Rattle.model.specs.Board.{Board}
@@ -98,14 +97,13 @@ module _ {r : Rest} {issues cards seats nodes naming : List ℕ} {currents : Lis
     ground : Ground (board_in was)
     ground = ground_in was (subst Reached (sym standing_is) k) good
 
-    pub lift_none : transistors_most ≤ place_or transistors_most (number_place transistors_most (issue_of z) issues) →
+    pub lift_none : number_place transistors_most (issue_of z) issues ≡ nowhere →
         Lifts r (Refused Unknown) issues cards seats nodes naming totals currents
     unfolding lifted_lent
     lift_none h =
         turned
         (refused_by (λ (b : Board). lifted_of b z) was good
-        (lift_unknown (board_in was) ground.footing z
-        (not_there transistors_most (first_at transistors_most (issue_of z) issues) (eqb (issue_of z) 0) h)))
+        (lift_unknown (board_in was) ground.footing z h))
 
     module _ (i : ℕ) (e : number_place transistors_most (issue_of z) issues ≡ some i) {on : List ℕ}
         (o : on ≡ nodes_at nodes i) {held : List ℤ} (p : held ≡ held_at currents i) where
@@ -125,16 +123,16 @@ module _ {r : Rest} {issues cards seats nodes naming : List ℕ} {currents : Lis
         lift_taken : Taken (lifted_of (board_in was) z).answer
         lift_taken = rw (lift_goes (board_in was) ground.footing z i e)
 
-        module _ {fits : Bool} {next : List ℤ} (stands : StandsIn totals none going fits next) where
-          pub lift_leaves_64 : fits ≡ false →
-              Lifts r (Refused OutOfReach) issues cards seats nodes naming next currents
+        module _ {told : Result (Unit {0}) Refusal} {next : List ℤ} (stands : StandsIn totals none going told next) where
+          pub lift_leaves_64 : {f : Refusal} → told ≡ Err f →
+              Lifts r (Refused f) issues cards seats nodes naming next currents
           unfolding lifted_lent
           lift_leaves_64 bad =
               let y = stood_bad stands bad in
-              rw y.1
-              (turned (leaves_64 (λ (b : Board). lifted_of b z) was good lift_taken (rw (← lift_changed) y.0)))
+              rw (y.0, y.1.1)
+              (turned (leaves_64 (λ (b : Board). lifted_of b z) was good lift_taken (rw (← lift_changed) y.1.0)))
 
-          pub lift_done : fits ≡ true →
+          pub lift_done : {u : Unit {0}} → told ≡ Ok u →
               Lifts r Done (set issues i 0) (set cards i 0) (set seats i 0)
               (written 0 nodes (roles * i) (replicate roles 0) roles) (parted naming i on) next
               (written (pos 0) currents (branches * i) (replicate branches (pos 0)) branches)

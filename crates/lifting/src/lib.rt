@@ -2,6 +2,7 @@
 // and writes last, so that a refusal leaves all as it was.
 #![tactic(auto)]
 
+ghost use Rattle.model.specs.Answering.{answer_of};
 ghost use Rattle.lending.specs.Rest.{Rest};
 ghost use Rattle.lending.specs.Lending.{lifted_lent};
 ghost use Rattle.lending.specs.Reached.{Reached};
@@ -24,38 +25,34 @@ pub fn lift(
     volts: &[i64],
     totals: &mut [i64],
     transistor: i64,
-) -> Answer
+) -> Result<Answer, Refusal>
     requires { (r : Rest) × Reached r × LendsStanding r issues.old cards.old seats.old nodes.old naming.old
         currents.old }
     ensures { (r : Rest) → Reached r → LendsStanding r issues.old
         cards.old seats.old nodes.old naming.old currents.old →
         LeavesPlaces (lifted_lent (state_with r volts.now totals.old) transistor)
-        result issues.new cards.new seats.new nodes.new naming.new
+        (answer_of result) issues.new cards.new seats.new nodes.new naming.new
         totals.new currents.new r.next }
 {
     if !keeping::good_slices(volts, totals) {
-        return Answer::Refused(Refusal::OutOfRange);
+        return Err(Refusal::OutOfRange);
     }
     let n = given::issue_of(transistor);
-    let i = places::transistor_at(issues, n);
-    if places::TRANSISTORS <= i {
-        return Answer::Refused(Refusal::Unknown);
-    }
+    let Some(i) = places::place_of(issues, n) else {
+        return Err(Refusal::Unknown);
+    };
     let on = sets::nodes_at(nodes, i);
     let own = sets::currents_at(currents, i);
     let coming = [0i64; NODES];
     let mut going = [0i64; NODES];
     settle::put_in(&mut going, &on, &own);
-    if !standing::stand_in(totals, &coming, &going, true) {
-        return Answer::Refused(Refusal::OutOfReach);
-    }
+    let stood = standing::stand_in(totals, &coming, &going, true);
+    stood?;
     issues[i] = 0;
     cards[i] = 0;
     seats[i] = 0;
-    let none = [0u8; ROLES];
-    sets::put_nodes(nodes, i, &none);
+    sets::put_nodes(nodes, i, &[0u8; ROLES]);
     sets::leave(naming, i, &on);
-    let still = [0i64; BRANCHES];
-    sets::put_currents(currents, i, &still);
-    Answer::Done
+    sets::put_currents(currents, i, &[0i64; BRANCHES]);
+    Ok(Answer::Done)
 }

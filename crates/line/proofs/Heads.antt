@@ -1,32 +1,34 @@
 -- The first words of a line: one word after the other, and what each brings to the head.
-use mathlib.Core.Path.{◌≡◌, refl, sym, ap, ap₂, ◌∙◌}
+use mathlib.Core.Path.{◌≡◌, sym, ap, ap₂, ◌∙◌}
 use mathlib.Core.Bool.{Bool, true, false, not}
 use mathlib.Core.List.{List, [], ◌∷◌, map}
-use Prim.Native.Nat.{ℕ, ◌-◌, ◌≤◌, ◌<◌}
+use Prim.Native.Nat.{ℕ, ◌-◌}
 use native.Mathlib.Omega.{arith}
-use lib.ListN.{length, take, drop}
+use lib.ListN.{take, drop}
 use Rattle.refusal.specs.declared.Refusal.TheVariants.{BadName, BadLine}
 use Rattle.refusal.specs.Order.{Verdict, no, yes, refuse_if}
 use Rattle.name.specs.Name.{asked, same}
 use Rattle.spelling.specs.Bytes.{bytes}
-use Rattle.words.specs.Words.{Span, part_of}
-use Rattle.words.specs.inner.Passing.{NextWord}
+use Rattle.words.specs.declared.Span.{Span}
+use Rattle.words.specs.Words.{part_at}
+use Rattle.words.specs.inner.Passing.{outside, FirstWord}
 use Rattle.words.proofs.Parts.{part_there}
 use Rattle.keys.specs.Keys.{plus_one, minus_one}
 use Rattle.line.specs.Line.{Head, words_from, starts_in_space, typed_if, typed, named, headed, head_of}
 
 -- ---- a word more of the line
 
-module _ {line : List ℕ} {at s e : ℕ} (v : NextWord line at s e) where
-  pub next_words : s < e → words_from line at ≡ take (e - s) (drop s line) ∷ words_from line e
-  unfolding words_from
-  next_words h =
-      ap (map (λ (p : Span). part_of line p.start p.end)) (v.some h)
-      ∙ ap (λ (w : List ℕ). w ∷ words_from line e) (sym (part_there line s e v.order v.most))
+pub next_words : {line : List ℕ} {at : ℕ} {s : Span} → FirstWord line at s
+    → words_from line at ≡ take (s.end - s.start) (drop s.start line) ∷ words_from line s.end
+unfolding words_from
+next_words {line} {at} {s} v =
+    let o = v.order in
+    ap (map (part_at line)) v.parted
+    ∙ ap (λ (w : List ℕ). w ∷ words_from line s.end) (sym (part_there line s.start s.end (omega arith) v.most))
 
-  pub next_none : e ≤ s → words_from line at ≡ []
-  unfolding words_from
-  next_none h = ap (map (λ (p : Span). part_of line p.start p.end)) (v.none h).0
+pub next_none : (line : List ℕ) (at : ℕ) → outside line at ≡ [] → words_from line at ≡ []
+unfolding words_from
+next_none line at e = ap (map (part_at line)) e
 
 -- ---- the type
 
@@ -59,10 +61,6 @@ module _ {ws : List (List ℕ)} where
     name_good f g = g ∙ ap (λ (t : Bool). refuse_if (not t) BadName (typed w r)) f ∙ ap named (sym e)
 
 -- ---- `.model`
-
-pub nothing_first : (line : List ℕ) → length line ≡ 0 → false ≡ starts_in_space line
-nothing_first [] h = refl
-nothing_first (b ∷ l) h = absurd (omega arith)
 
 module _ (line : List ℕ) where
   pub space_first : starts_in_space line ≡ true → no BadLine ≡ head_of line

@@ -2,60 +2,56 @@
 use mathlib.Core.Path.{◌≡◌, sym, ap, ap₂, ◌∙◌}
 use mathlib.Core.Bool.{Bool, true, false}
 use mathlib.Core.List.{List, [], ◌∷◌}
-use Prim.Native.Nat.{ℕ, suc, ◌+◌, ◌-◌, ◌≤◌, ◌<◌, zero-le}
-use native.Mathlib.Nat.{zero-add}
+use Prim.Native.Nat.{ℕ, suc, ◌+◌, ◌-◌, ◌≤◌, ◌<◌}
 use native.Mathlib.Numerals.{add-one}
 use native.Mathlib.Omega.{arith}
 use lib.Dec.{leb}
-use lib.ListN.{length, take, drop, get_or, set, drop_of_length-le}
-use lib.Seq.{drop-cons}
-use borrow.Author.Tests.{eq-eqb, ne_eqb, le-leb, lt-leb}
+use lib.ListN.{length, take, drop, get_or, set}
+use borrow.Author.Tests.{le-leb, lt-leb}
 use Rattle.refusal.specs.declared.Refusal.{Refusal}
 use Rattle.refusal.specs.declared.Refusal.TheVariants.{BadKey, BadNumber, BadLine}
 use Rattle.refusal.specs.Order.{Verdict, no, yes, refuse_if, and_then}
 use Rattle.bytes_le.proofs.Laws.{rest}
-use Rattle.decimal_read.specs.declared.Reading.{Reading}
-use Rattle.decimal_read.specs.declared.Reading.TheVariants.{Word, Nothing}
+use Rattle.std.specs.Prelude.{Option, Some, None}
+use Rattle.std.specs.List.{position, position_or_len}
+use Rattle.std.proofs.Common.{refl, cond, eqb, ltb}
+use mathlib.Core.Bool.{not}
+use borrow.Author.Tests.{ltb-true, ltb-false}
 use Rattle.decimal_read.specs.Text.{word_read}
 use Rattle.keys.specs.Keys.{key_count, key_number}
-use Rattle.words.specs.Words.{spans_from}
-use Rattle.line.specs.Line.{words_from, Taken, taken, equals_at, key_of, number_of, with_number, take_key}
+use Rattle.line.specs.Line.{words_from, Taken, taken, equals_at, equals_if, key_of, number_of, with_number, take_key}
 use Rattle.line.specs.Line.{take_keys}
 
 -- ---- the first `=`
 
--- none of the first i bytes is one
-pub record Before (w : List ℕ) (i : ℕ) : Type 0 where
-  pub within : i ≤ length w
-  pub so_far : equals_at w ≡ i + equals_at (drop i w)
+-- as std counts the bytes before it
+equals_is : (w : List ℕ) → equals_at w ≡ position_or_len (λ b. eqb b 61) w
+unfolding equals_at
+equals_is [] = refl
+equals_is (b ∷ w) = by_byte (eqb b 61) (equals_is w)
+  where
+    by_byte : (t : Bool) {m n : ℕ} → m ≡ n → equals_if t m ≡ cond (not t) (1 + n) 0
+    by_byte true e = refl
+    by_byte false e = omega arith
 
-pub before_none : (w : List ℕ) → Before w 0
-before_none w = record { within = zero-le; so_far = sym (zero-add (equals_at w)) }
+by_place : (n l : ℕ) (t : Bool) → ltb n l ≡ t → {m : ℕ} → cond t (Some n) None ≡ Some m → (m ≡ n) × (m < l)
+by_place n l true e f = let g : n ≡ _ = cc in (sym g, rw g at (ltb-true n l e))
+by_place n l false e f = absurd (cc)
 
-module _ {w : List ℕ} {i : ℕ} (v : Before w i) where
-  pub equals_here : i < length w → get_or w i 0 ≡ 61 → (i ≡ equals_at w) × (i ≤ length w)
-  unfolding equals_at
-  equals_here h e =
-      let f : equals_at (drop i w) ≡ 0 = rw (drop-cons w i 0 h, eq-eqb (get_or w i 0) 61 e) in
-      let s = v.so_far in (omega arith, omega arith)
+by_none : (n l : ℕ) (t : Bool) → ltb n l ≡ t → cond t (Some n) None ≡ None → l ≤ n
+by_none n l true e f = absurd (cc)
+by_none n l false e f = ltb-false n l e
 
-  pub equals_on : i < length w → (get_or w i 0 ≡ 61 → ⊥) → Before w (i + 1)
-  unfolding equals_at
-  equals_on h n =
-      let f : equals_at (drop i w) ≡ suc (equals_at (drop (suc i) w)) =
-      rw (drop-cons w i 0 h, ne_eqb (get_or w i 0) 61 n) in
-      let s = v.so_far in record { within = omega arith; so_far = rw add-one (omega arith) }
+pub equals_here : (w : List ℕ) {m : ℕ} → position (λ b. eqb b 61) w ≡ Some m → (m ≡ equals_at w) × (m < length w)
+equals_here w e = rw (equals_is w) (by_place _ (length w) (ltb _ (length w)) refl e)
 
-  pub equals_none : length w ≤ i → (i ≡ equals_at w) × (i ≤ length w)
-  unfolding equals_at
-  equals_none h =
-      let f : equals_at (drop i w) ≡ 0 = rw (drop_of_length-le w h) in
-      let s = v.so_far in (omega arith, v.within)
+pub equals_none : (w : List ℕ) → position (λ b. eqb b 61) w ≡ None → length w ≤ equals_at w
+equals_none w e = rw (equals_is w) (by_none _ (length w) (ltb _ (length w)) refl e)
 
 -- ---- one key
 
 -- what is judged of a key after its `=` was found
-abbrev keyed : Taken → ℕ → Reading → Verdict Taken
+abbrev keyed : Taken → ℕ → Option ℕ → Verdict Taken
 keyed s k r = refuse_if (leb key_count k) BadKey (refuse_if (get_or s.given k false) BadKey (with_number s k r))
 
 module _ (s : Taken) (w : List ℕ) {m : ℕ} (p : m ≡ equals_at w) where
@@ -90,18 +86,18 @@ module _ (s : Taken) (w : List ℕ) {m : ℕ} (p : m ≡ equals_at w) where
       pub key_again : get_or s.given k false ≡ true → no BadKey ≡ take_key s w
       key_again e = known true e
 
-      module _ (e : get_or s.given k false ≡ false) {r : Reading}
+      module _ (e : get_or s.given k false ≡ false) {r : Option ℕ}
           (f : r ≡ word_read (take (length w - (m + 1)) (drop (m + 1) w))) where
         number : r ≡ number_of w
         number =
             f ∙ ap word_read (rest w (m + 1) ∙ ap (λ (n : ℕ). drop n w) (add-one m)
             ∙ ap (λ (n : ℕ). drop (suc n) w) p)
 
-        pub key_number_lem : {x : ℕ} → r ≡ Word x
+        pub key_number_lem : {x : ℕ} → r ≡ Some x
             → yes (taken (set s.words k x) (set s.given k true)) ≡ take_key s w
         key_number_lem g = ap (with_number s k) (sym g ∙ number) ∙ known false e
 
-        pub key_text_lem : r ≡ Nothing → no BadNumber ≡ take_key s w
+        pub key_text_lem : r ≡ None → no BadNumber ≡ take_key s w
         key_text_lem g = ap (with_number s k) (sym g ∙ number) ∙ known false e
 
 -- ---- all keys
@@ -118,11 +114,6 @@ module _ (s : Taken) {w : List ℕ} {ws rs : List (List ℕ)} (e : ws ≡ w ∷ 
 pub keys_none : (s : Taken) {ws : List (List ℕ)} → ws ≡ [] → yes s ≡ take_keys s ws
 unfolding take_keys
 keys_none s e = ap (take_keys s) (sym e)
-
--- past the line's end there is no word
-pub words_end : (line : List ℕ) (at : ℕ) → length line ≤ at → words_from line at ≡ []
-unfolding words_from spans_from
-words_end line at h = rw (drop_of_length-le line h)
 
 -- what is left of the line comes to what the whole of it does
 pub record Going (line : List ℕ) (from : ℕ) (first : Taken) (s : Taken) (at : ℕ) : Type 0 where

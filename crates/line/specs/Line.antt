@@ -1,15 +1,15 @@
 -- A model line: `.model`, a name, a type, then keys with their numbers, in any order. The first fault by its place in
 -- the line is told, and a key that is missing last of all.
-use Rattle.std.specs.Prelude.{Bool, true, false, not, List, [], ◌∷◌, map, ℕ, suc, ◌-◌, eqb, leb, length, take, drop, get_or, set, replicate}
+use Rattle.std.specs.Prelude.{Bool, true, false, not, List, [], ◌∷◌, map, Option, Some, None, ℕ, suc, ◌-◌, eqb, leb, length}
+use Rattle.std.specs.Prelude.{take, drop, get_or, set, replicate}
 use Rattle.refusal.specs.declared.Refusal.TheVariants.{BadName, BadKey, BadNumber, KeyMissing, BadLine}
 use Rattle.refusal.specs.Order.{Verdict, no, yes, refuse_if, and_then}
 use Rattle.name.specs.Name.{asked, same}
 use Rattle.clip.specs.Numbers.{octave, polarity}
 use Rattle.spelling.specs.Bytes.{bytes, space}
-use Rattle.words.specs.Words.{Span, part_of}
+use Rattle.words.specs.declared.Span.{Span}
+use Rattle.words.specs.Words.{part_of}
 use Rattle.words.specs.inner.Passing.{outside}
-use Rattle.decimal_read.specs.declared.Reading.{Reading}
-use Rattle.decimal_read.specs.declared.Reading.TheVariants.{Word, Nothing}
 use Rattle.decimal_read.specs.Text.{word_read}
 use Rattle.keys.specs.Keys.{key_count, key_number, defaults, plus_one, minus_one}
 
@@ -79,12 +79,12 @@ equals_at (b ∷ w) = equals_if (eqb b 61) (equals_at w)
 abbrev pub key_of : List ℕ → ℕ
 key_of w = key_number (take (equals_at w) w)
 
-abbrev pub number_of : List ℕ → Reading
+abbrev pub number_of : List ℕ → Option ℕ
 number_of w = word_read (drop (suc (equals_at w)) w)
 
-abbrev pub with_number : Taken → ℕ → Reading → Verdict Taken
-with_number s k (Word x) = yes (taken (set s.words k x) (set s.given k true))
-with_number s k Nothing = no BadNumber
+abbrev pub with_number : Taken → ℕ → Option ℕ → Verdict Taken
+with_number s k (Some x) = yes (taken (set s.words k x) (set s.given k true))
+with_number s k None = no BadNumber
 
 -- a word without `=`; a key that is none; one that was given; then its number
 unfoldable pub take_key : Taken → List ℕ → Verdict Taken

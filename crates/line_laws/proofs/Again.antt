@@ -15,8 +15,8 @@ use Rattle.clip.specs.Numbers.{polarity, spare}
 use Rattle.clip.specs.Record.{is_wide, word_at}
 use Rattle.directory.specs.Format.{bytes_of_all}
 use Rattle.copying.proofs.BytesWritten.{length_all}
-use Rattle.decimal.specs.declared.Form.{Form}
-use Rattle.decimal.specs.declared.Form.TheVariants.{Number, Nothing}
+use Rattle.std.specs.Prelude.{Option, Some, None}
+use Rattle.decimal.specs.declared.Decimal.{Decimal}
 use Rattle.shortest.specs.Form.{form_of}
 use Rattle.decimal_laws.proofs.Numbered.{Numbered, numbered_form, numbered_below}
 use Rattle.keys.specs.Keys.{key_count, plus_one, minus_one}
@@ -49,9 +49,9 @@ words_up_lem ws b (suc n) h =
 has_form : (w : ℕ) → Numbered w → is_form (form_of w) ≡ true
 has_form w v = by (form_of w) refl
   where
-    by : (f : Form) → form_of w ≡ f → is_form f ≡ true
-    by (Number m d q) e = refl
-    by Nothing e = absurd (numbered_form w v e)
+    by : (f : Option Decimal) → form_of w ≡ f → is_form f ≡ true
+    by (Some x) e = refl
+    by None e = absurd (numbered_form w v e)
 
 module _ (m : Model) (g : GoodModel m) where
   below : Below (2 ^ 64) m.words

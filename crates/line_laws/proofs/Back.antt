@@ -20,8 +20,8 @@ use Rattle.packing.proofs.Packs.{both}
 use Rattle.spelling.specs.Bytes.{bytes, space}
 use Rattle.spelling.specs.Digits.{plain_digits, sign_of}
 use Rattle.words.specs.laws.Split.{spaceless, IsWord}
-use Rattle.decimal.specs.declared.Form.{Form}
-use Rattle.decimal.specs.declared.Form.TheVariants.{Number, Nothing}
+use Rattle.std.specs.Prelude.{Option, Some, None}
+use Rattle.decimal.specs.declared.Decimal.{Decimal}
 use Rattle.shortest.specs.Form.{form_of}
 use Rattle.decimal_write.specs.Written.{power_if, power_text, number_text, form_text}
 use Rattle.decimal_write.proofs.Puts.{one_digit, more_digits}
@@ -102,12 +102,13 @@ ends_power q = by (ltb q 22)
     by true = ends_after (45 ∷ []) (plain_digits 2 (22 - q)) (ends_digits 1 (22 - q))
     by false = ends_digits 1 (q - 22)
 
-ends_form : (f : Form) → is_form f ≡ true → Ends (form_text f)
+ends_form : (f : Option Decimal) → is_form f ≡ true → Ends (form_text f)
 unfolding form_text number_text
-ends_form (Number m d q) h =
-    ends_after (sign_of m) (plain_digits 15 d ++ (101 ∷ power_text q))
-    (ends_after (plain_digits 15 d) (101 ∷ power_text q) (ends_after (101 ∷ []) (power_text q) (ends_power q)))
-ends_form Nothing h = absurd (true≢false (sym h))
+ends_form (Some x) h =
+    let d = plain_digits 15 x.digits in
+    let p = power_text x.power in
+    ends_after (sign_of x.minus) (d ++ (101 ∷ p)) (ends_after d (101 ∷ p) (ends_after (101 ∷ []) p (ends_power x.power)))
+ends_form None h = absurd (true≢false (sym h))
 
 -- ---- a record's words and its bytes
 

@@ -10,7 +10,8 @@ use lib.ListN.{length, take, length-append}
 use lib.Seq.{take_at, drop_at}
 use Rattle.refusal.specs.Clash.{clash}
 use Rattle.spelling.specs.Bytes.{space}
-use Rattle.words.specs.Words.{Span, spans_from, part_of}
+use Rattle.words.specs.declared.Span.{Span}
+use Rattle.words.specs.Words.{spans_from, part_of}
 use Rattle.words.specs.laws.Split.{spaceless, IsWord}
 use Rattle.words.proofs.Parts.{part_there}
 use Rattle.line.specs.Line.{words_from}

@@ -15,12 +15,10 @@ use Rattle.bytes_le.specs.Buffer.{over}
 use Rattle.name.specs.Name.{name_length, padded}
 use Rattle.directory.specs.Format.{bytes_of_all}
 use Rattle.line.specs.Line.{Model, line_of}
-use Rattle.line.specs.declared.Answer as answered
-use Rattle.line.specs.declared.Answer.TheVariants as answer
+use Rattle.std.proofs.Common.{Result, Ok, Err}
+use Rattle.refusal.specs.declared.Refusal.{Refusal}
 use Rattle.line.specs.Answers as read
 use Rattle.line.specs.Answers.{record_bytes, reading_of, Reads}
-use Rattle.line_write.specs.declared.Written.{Written}
-use Rattle.line_write.specs.declared.Written.TheVariants as written
 use Rattle.line_write.specs.Text.{line_text, text_of}
 use Rattle.line_write.specs.Answers as write
 use Rattle.line_write.specs.Answers.{writing_of, Writes}
@@ -44,7 +42,7 @@ number_in : Answer ℕ → ℕ
 number_in (given n) = n
 number_in (refused l) = 0
 
-module _ (name rec old : List ℕ) {new : List ℕ} {n : ℕ} (w : Writes name rec old (written.Bytes n) new) where
+module _ (name rec old : List ℕ) {new : List ℕ} {n : ℕ} (w : Writes name rec old (Ok n) new) where
   wrote : Wrote name rec new n
   unfolding writing_of number_in
   wrote = by (text_of name rec) refl
@@ -74,9 +72,9 @@ module _ (name rec old : List ℕ) {new : List ℕ} {n : ℕ} (w : Writes name r
       by (yes text) e = room text e (ltb (length old) (length text)) refl
 
 -- a text that has room is written
-pub wrote_all : (name rec old : List ℕ) {new text : List ℕ} {r : Written} → text_of name rec ≡ yes text →
+pub wrote_all : (name rec old : List ℕ) {new text : List ℕ} {r : Result ℕ Refusal} → text_of name rec ≡ yes text →
     length text ≤ length old
-    → Writes name rec old r new → r ≡ written.Bytes (length text)
+    → Writes name rec old r new → r ≡ Ok (length text)
 unfolding writing_of
 wrote_all name rec old {new} {text} {r} e h w =
     by r (w.told ∙ ap (λ (x : Verdict (List ℕ)). tells (write.answered x)) v)
@@ -84,20 +82,20 @@ wrote_all name rec old {new} {text} {r} e h w =
     v : writing_of name rec old ≡ yes text
     v = rw (e, le-ltb (length old) (length text) h)
 
-    by : (r : Written) → write.told_answer r ≡ given (length text) → r ≡ written.Bytes (length text)
-    by (written.Bytes n) e = cc
-    by (written.Refused f) e = clash cc
+    by : (r : Result ℕ Refusal) → write.told_answer r ≡ given (length text) → r ≡ Ok (length text)
+    by (Ok n) e = cc
+    by (Err f) e = clash cc
 
 -- ---- a line that is read
 
-module _ (t nb rb : List ℕ) {nb' rb' : List ℕ} {r : answered.Answer} (m : Model) (e : reading_of t nb rb ≡ yes m)
+module _ (t nb rb : List ℕ) {nb' rb' : List ℕ} {r : Result (Unit {0}) Refusal} (m : Model) (e : reading_of t nb rb ≡ yes m)
     (g : Reads t nb rb r nb' rb') where
-  taken : r ≡ answer.Taken
+  taken : r ≡ Ok tt
   taken = by r (g.told ∙ ap (λ (x : Verdict Model). tells (read.answered x)) e)
     where
-      by : (r : answered.Answer) → read.told_answer r ≡ given tt → r ≡ answer.Taken
-      by answer.Taken e = refl
-      by (answer.Refused f) e = clash cc
+      by : (r : Result (Unit {0}) Refusal) → read.told_answer r ≡ given tt → r ≡ Ok tt
+      by (Ok t) e = refl
+      by (Err f) e = clash cc
 
   name_left : nb' ≡ over (padded m.name) nb
   name_left = g.named ∙ ap (λ (x : Verdict Model). read.name_left x nb) e
@@ -112,10 +110,10 @@ has_room t nb rb m e p q =
     rw (e, le-ltb (length nb) name_length p, le-ltb (length rb) record_bytes q)
 
 -- reading what writing a card left gives the card's name and record, where both buffers have room
-pub line_after_record_left : (name rec old nb rb : List ℕ) {new nb' rb' : List ℕ} {n : ℕ} {r : answered.Answer}
-    → Below 256 rec → Writes name rec old (written.Bytes n) new → Reads (take n new) nb rb r nb' rb'
+pub line_after_record_left : (name rec old nb rb : List ℕ) {new nb' rb' : List ℕ} {n : ℕ} {r : Result (Unit {0}) Refusal}
+    → Below 256 rec → Writes name rec old (Ok n) new → Reads (take n new) nb rb r nb' rb'
     → name_length ≤ length nb → record_bytes ≤ length rb
-    → (r ≡ answer.Taken) × (nb' ≡ over (padded name) nb) × (rb' ≡ over rec rb)
+    → (r ≡ Ok tt) × (nb' ≡ over (padded name) nb) × (rb' ≡ over rec rb)
 line_after_record_left name rec old nb rb {new} {n = n} b w g p q =
     let v = wrote name rec old w in
     let l = line_after_record name rec v.text v.is_text b in
@@ -132,11 +130,11 @@ pub record Again (nb rb nb' rb' : List ℕ) : Type 0 where
   pub named : nb' ≡ over (padded name) nb
   pub worded : rb' ≡ over rec rb
   pub long : ℕ
-  pub writes : (old new : List ℕ) (r : Written) → long ≤ length old → Writes name rec old r new → r ≡ written.Bytes long
-  pub reads : (old new nb'' rb'' : List ℕ) (s : answered.Answer) → Writes name rec old (written.Bytes long) new
-      → Reads (take long new) nb rb s nb'' rb'' → (s ≡ answer.Taken) × (nb'' ≡ nb') × (rb'' ≡ rb')
+  pub writes : (old new : List ℕ) (r : Result ℕ Refusal) → long ≤ length old → Writes name rec old r new → r ≡ Ok long
+  pub reads : (old new nb'' rb'' : List ℕ) (s : Result (Unit {0}) Refusal) → Writes name rec old (Ok long) new
+      → Reads (take long new) nb rb s nb'' rb'' → (s ≡ Ok tt) × (nb'' ≡ nb') × (rb'' ≡ rb')
 
-module _ (line nb rb nb' rb' : List ℕ) (g : Reads line nb rb answer.Taken nb' rb') where
+module _ (line nb rb nb' rb' : List ℕ) (g : Reads line nb rb (Ok tt) nb' rb') where
   again : (m : Model) → line_of line ≡ yes m → name_length ≤ length nb → record_bytes ≤ length rb → Again nb rb nb' rb'
   unfolding text_in
   again m e p q =

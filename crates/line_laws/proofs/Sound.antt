@@ -16,8 +16,7 @@ use Rattle.name.specs.Name.{asked, same}
 use Rattle.clip.specs.Numbers.{octave, polarity, spare}
 use Rattle.spelling.specs.Bytes.{bytes}
 use Rattle.decimal.specs.Decimal.{word_of, value_of}
-use Rattle.decimal_read.specs.declared.Reading.{Reading}
-use Rattle.decimal_read.specs.declared.Reading.TheVariants.{Word, Nothing}
+use Rattle.std.specs.Prelude.{Option, Some, None}
 use Rattle.decimal_read.specs.Text.{word_read}
 use Rattle.decimal_laws.proofs.Numbered.{Numbered, read_numbered}
 use lib.Ieee.{round, to_bits}
@@ -65,9 +64,9 @@ set_in (y ∷ ws) zero x v n = more_in x ws n (λ k. v (suc k))
 set_in (y ∷ ws) (suc i) x v n = more_in y (set ws i x) (v 0) (set_in ws i x (λ k. v (suc k)) n)
 
 -- a default, which is +0 where the key must be given
-default_in : (s : List ℕ) (r : Reading) → word_read s ≡ r → Numbered (word_in r)
-default_in s (Word w) e = read_numbered s w e
-default_in s Nothing e = zero_numbered
+default_in : (s : List ℕ) (r : Option ℕ) → word_read s ≡ r → Numbered (word_in r)
+default_in s (Some w) e = read_numbered s w e
+default_in s None e = zero_numbered
 
 abbrev default_of : Key → ℕ
 default_of k = word_in (word_read k.default)
@@ -115,12 +114,12 @@ words_in : Verdict Taken → List ℕ
 words_in (no f) = []
 words_in (yes t) = t.words
 
-number_sound : (s t : Taken) (k : ℕ) (text : List ℕ) (r : Reading) → word_read text ≡ r → k < key_count → Sound s.words
+number_sound : (s t : Taken) (k : ℕ) (text : List ℕ) (r : Option ℕ) → word_read text ≡ r → k < key_count → Sound s.words
     → with_number s k r ≡ yes t → Sound t.words
 unfolding words_in
-number_sound s t k text (Word x) e h v g =
+number_sound s t k text (Some x) e h v g =
     subst Sound (ap words_in g) (sound_set s.words k x v (omega arith) (read_numbered text x e))
-number_sound s t k text Nothing e h v g = clash cc
+number_sound s t k text None e h v g = clash cc
 
 key_sound : (s t : Taken) (w : List ℕ) → Sound s.words → take_key s w ≡ yes t → Sound t.words
 unfolding take_key

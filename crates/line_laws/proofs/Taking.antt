@@ -16,10 +16,9 @@ use Rattle.clip.specs.Record as record-words
 use Rattle.spelling.specs.Bytes.{space}
 use Rattle.spelling.specs.Digits.{plain_digits, sign_of}
 use Rattle.words.specs.laws.Split.{spaceless, IsWord}
-use Rattle.decimal.specs.declared.Form.{Form}
-use Rattle.decimal.specs.declared.Form.TheVariants.{Number, Nothing}
+use Rattle.std.specs.Prelude.{Option, Some, None}
+use Rattle.decimal.specs.declared.Decimal.{Decimal}
 use Rattle.shortest.specs.Form.{form_of}
-use Rattle.decimal_read.specs.declared.Reading.TheVariants.{Word}
 use Rattle.decimal_read.specs.Text.{word_read}
 use Rattle.decimal_write.specs.Written.{power_if, power_text, number_text, form_text}
 use Rattle.decimal_write.proofs.Puts.{one_digit, more_digits}
@@ -66,12 +65,14 @@ spaceless_sign : (m : Bool) → spaceless (sign_of m) ≡ true
 spaceless_sign true = refl
 spaceless_sign false = refl
 
-spaceless_form : (f : Form) → spaceless (form_text f) ≡ true
+spaceless_form : (f : Option Decimal) → spaceless (form_text f) ≡ true
 unfolding form_text number_text
-spaceless_form Nothing = refl
-spaceless_form (Number m d q) =
-    spaceless_two (sign_of m) (plain_digits 15 d ++ (101 ∷ power_text q)) (spaceless_sign m)
-    (spaceless_two (plain_digits 15 d) (101 ∷ power_text q) (spaceless_digits 15 d) (spaceless_power q))
+spaceless_form None = refl
+spaceless_form (Some x) =
+    let d = plain_digits 15 x.digits in
+    let p = power_text x.power in
+    spaceless_two (sign_of x.minus) (d ++ (101 ∷ p)) (spaceless_sign x.minus)
+    (spaceless_two d (101 ∷ p) (spaceless_digits 15 x.digits) (spaceless_power x.power))
 
 -- ---- every key, by one test
 
@@ -120,7 +121,7 @@ equals_at_lem (b ∷ k) t h = by (eqb b 61) refl h (equals_at_lem k t)
     by false e h f = rw e (ap suc (f h))
 
 key_taken : (s : Taken) (n : ℕ) (t : List ℕ) (x : ℕ) → n < key_count → get_or s.given n false ≡ false
-    → word_read t ≡ Word x
+    → word_read t ≡ Some x
     → take_key s (key_word n ++ (61 ∷ t)) ≡ yes (taken (set s.words n x) (set s.given n true))
 key_taken s n t x h g r =
     let w = key_word n ++ (61 ∷ t) in
@@ -185,14 +186,14 @@ module _ (rec : List ℕ) where
   taken_up n = taken (words_up n ++ drop n defaults) (replicate n true ++ replicate (key_count - n) false)
 
   reads_back : (n : ℕ) → is_form (form_of (record-words.word_at rec n)) ≡ true
-      → word_read (form_text (form_of (record-words.word_at rec n))) ≡ Word (record-words.word_at rec n)
+      → word_read (form_text (form_of (record-words.word_at rec n))) ≡ Some (record-words.word_at rec n)
   unfolding form_text
   reads_back n h = by (form_of (record-words.word_at rec n)) refl h
     where
-      by : (f : Form) → form_of (record-words.word_at rec n) ≡ f → is_form f ≡ true
-          → word_read (form_text f) ≡ Word (record-words.word_at rec n)
-      by (Number m d q) e h = read_of_written (record-words.word_at rec n) m d q e
-      by Nothing e h = absurd (true≢false (sym h))
+      by : (f : Option Decimal) → form_of (record-words.word_at rec n) ≡ f → is_form f ≡ true
+          → word_read (form_text f) ≡ Some (record-words.word_at rec n)
+      by (Some x) e h = read_of_written (record-words.word_at rec n) x.minus x.digits x.power e
+      by None e h = absurd (true≢false (sym h))
 
   -- the next key is not given yet
   fresh : (n : ℕ) → n < key_count

@@ -1,27 +1,23 @@
 -- The head of a line, the whole line, and what is left in the buffer.
 use mathlib.Core.Path.{◌≡◌, refl, sym, ap, ◌∙◌, subst}
-use mathlib.Core.Bool.{Bool, true, false, not, ◌&&◌, cond}
+use mathlib.Core.Bool.{Bool, true, false, not, ◌&&◌}
 use mathlib.Core.List.{List, ◌++◌}
-use Prim.Native.Nat.{ℕ, ◌-◌, ◌≤◌, ◌<◌}
-use native.Mathlib.Nat.{sub-zero}
+use Prim.Native.Nat.{ℕ, ◌≤◌}
 use lib.Dec.{eqb, leb, ltb}
 use lib.ListN.{length, take}
 use lib.Seq.{length-take-le}
-use borrow.Author.Tests.{lt-ltb, le-ltb, eq-eqb, ne_eqb, leb-true}
+use borrow.Author.Tests.{leb-true}
 use Rattle.refusal.specs.declared.Refusal.{Refusal}
-use Rattle.refusal.specs.declared.Refusal.TheVariants.{Malformed, BadName, ShortOutput, BadExsub, BadNumber}
+use Rattle.refusal.specs.declared.Refusal.TheVariants.{Malformed, BadName, BadExsub, BadNumber}
 use Rattle.refusal.specs.Order.{Verdict, no, yes, refuse_if, and_then}
-use Rattle.bytes_le.specs.Buffer.{over}
 use Rattle.name.specs.Name.{name_length, run, asked}
 use Rattle.packing.proofs.Packs.{both}
 use Rattle.clip.specs.Numbers.{polarity}
 use Rattle.clip.specs.Record.{is_wide, word_at}
-use Rattle.spelling.specs.Bytes.{bytes}
 use Rattle.decimal_write.specs.Added.{Added}
 use Rattle.decimal_write.proofs.Puts.{then}
 use Rattle.keys.specs.Keys.{key_count, minus_one}
-use Rattle.line_write.specs.declared.Written as declared
-use Rattle.line_write.specs.declared.Written.TheVariants as written
+use Rattle.std.proofs.Common.{Result, Err}
 use Rattle.keyed.specs.Keyed.{forms_up, keys_up}
 use Rattle.line_write.specs.Text.{settled, line_text, text_of}
 use Rattle.line_write.specs.Answers.{room_for, writing_of, Leaves}
@@ -30,23 +26,16 @@ use Rattle.line_write.specs.inner.Parts.{head_of, good_text}
 
 -- ---- the head
 
-module _ (name : List ℕ) (sign : ℕ) where
-  abbrev pub typed : Bool → List ℕ
-  typed t = bytes ".model " ++ (name ++ cond t (bytes " pnp") (bytes " npn"))
+module _ (name : List ℕ) (pnp : Bool) where
+  pub head_pnp : pnp ≡ true → head_of name true ≡ head_of name pnp
+  head_pnp e = ap (head_of name) (sym e)
 
-  pub head_pnp : sign ≡ minus_one → typed true ≡ head_of name sign
-  head_pnp e = ap typed (sym (eq-eqb sign minus_one e))
-
-  pub head_npn : (sign ≡ minus_one → ⊥) → typed false ≡ head_of name sign
-  head_npn n = ap typed (sym (ne_eqb sign minus_one n))
+  pub head_npn : pnp ≡ false → head_of name false ≡ head_of name pnp
+  head_npn e = ap (head_of name) (sym e)
 
 -- ---- the line of a good card
 
 module _ (name rec line : List ℕ) where
-  pub good_refused : forms_up rec key_count ≡ false → no BadNumber ≡ good_text name rec line
-  good_refused e =
-      sym (ap (λ (t : Bool). and_then (refuse_if (not t) BadNumber (yes (line_text name rec))) (room_for line)) e)
-
   pub good_text_lem : {text : List ℕ} → text ≡ line_text name rec → forms_up rec key_count ≡ true
       → room_for line text ≡ good_text name rec line
   good_text_lem t e =
@@ -54,33 +43,23 @@ module _ (name rec line : List ℕ) where
       ∙ sym (ap (λ (t : Bool). and_then (refuse_if (not t) BadNumber (yes (line_text name rec))) (room_for line)) e)
 
 pub whole_line : (name rec : List ℕ) {old mid new : List ℕ} {sign at to : ℕ} → sign ≡ word_at rec polarity
-    → Added old 0 mid at (head_of name sign) → KeysPut rec mid at new key_count to → take to new ≡ line_text name rec
+    → Added old 0 mid at (head_of name (eqb sign minus_one)) → KeysPut rec mid at new key_count to → take to new ≡ line_text name rec
 unfolding line_text
 whole_line name rec e h k =
-    (then h k.added).same ∙ ap (λ (s : ℕ). head_of name s ++ keys_up rec key_count) e
+    (then h k.added).same ∙ ap (λ (s : ℕ). head_of name (eqb s minus_one) ++ keys_up rec key_count) e
 
 -- ---- the buffer
 
 pub refused_leaves : {v : Verdict (List ℕ)} (line : List ℕ) {f : Refusal} → no f ≡ v
-    → Leaves v line (written.Refused f) line
+    → Leaves v line (Err f) line
 refused_leaves line {f} e =
-    subst (λ (v : Verdict (List ℕ)). Leaves v line (written.Refused f) line) e (record { told = refl; left = refl })
+    subst (λ (v : Verdict (List ℕ)). Leaves v line (Err f) line) e (record { told = refl; left = refl })
 
 module _ (room : List ℕ) (n : ℕ) (line : List ℕ) (h : n ≤ length room) where
   long : length (take n room) ≡ n
   long = length-take-le n room h
 
-  pub short_line : length line < n → Leaves (room_for line (take n room)) line (written.Refused ShortOutput) line
-  short_line l = refused_leaves line (rw (long, lt-ltb _ _ l) refl)
-
-  pub fit_line : {line' : List ℕ} → n ≤ length line → line' ≡ over (take (n - 0) room) line
-      → Leaves (room_for line (take n room)) line (written.Bytes n) line'
-  fit_line {line'} l e =
-      let v : yes (take n room) ≡ room_for line (take n room) = rw (long, le-ltb _ _ l) refl in
-      subst (λ (v : Verdict (List ℕ)). Leaves v line (written.Bytes n) line') v
-      (record { told = rw long refl; left = e ∙ ap (λ (m : ℕ). over (take m room) line) (sub-zero n) })
-
-pub same_verdict : {v w : Verdict (List ℕ)} {line : List ℕ} {r : declared.Written} {line' : List ℕ} → v ≡ w
+pub same_verdict : {v w : Verdict (List ℕ)} {line : List ℕ} {r : Result ℕ Refusal} {line' : List ℕ} → v ≡ w
     → Leaves v line r line' → Leaves w line r line'
 same_verdict {line = line} {r} {line'} e l = subst (λ (v : Verdict (List ℕ)). Leaves v line r line') e l
 

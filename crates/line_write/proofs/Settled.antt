@@ -10,12 +10,6 @@ use Rattle.clip.specs.Record.{word_at}
 use Rattle.keys.specs.Keys.{plus_one, minus_one}
 use Rattle.line_write.specs.Text.{settled}
 
-pub polarity_plus : (w : ℕ) → w ≡ plus_one → true ≡ (eqb w plus_one || eqb w minus_one)
-polarity_plus w e = sym (ap (λ (t : Bool). t || eqb w minus_one) (eq-eqb w plus_one e))
-
-pub polarity_other : (w : ℕ) → (w ≡ plus_one → ⊥) → eqb w minus_one ≡ (eqb w plus_one || eqb w minus_one)
-polarity_other w n = sym (ap (λ (t : Bool). t || eqb w minus_one) (ne_eqb w plus_one n))
-
 module _ (rec : List ℕ) {p : ℕ} where
   pub not_signed : false ≡ (eqb p plus_one || eqb p minus_one) → p ≡ word_at rec polarity → false ≡ settled rec
   unfolding settled

@@ -16,8 +16,11 @@ settled rec =
     (eqb (word_at rec polarity) plus_one || eqb (word_at rec polarity) minus_one)
     && (eqb (word_at rec spare) 0 && eqb (word_at rec (spare + 1)) 0)
 
+abbrev pub type_of : Bool → List ℕ
+type_of pnp = cond pnp (bytes " pnp") (bytes " npn")
+
 abbrev pub type_text : ℕ → List ℕ
-type_text p = cond (eqb p minus_one) (bytes " pnp") (bytes " npn")
+type_text p = type_of (eqb p minus_one)
 
 abbrev pub head_text : List ℕ → List ℕ → List ℕ
 head_text name rec = bytes ".model " ++ (name ++ type_text (word_at rec polarity))

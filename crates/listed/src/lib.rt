@@ -8,14 +8,10 @@ ghost use Rattle.listed.specs.Listed.{unpadded, listed_mask};
 pub fn bare_name(padded: &[u8]) -> &[u8]
     ensures { result.now ≡ unpadded padded.now }
 {
-    let mut i = 0;
-    while i < padded.len() {
-        if padded[i] == 0 {
-            return &padded[0..i];
-        }
-        i += 1;
+    match padded.iter().position(|b| *b == 0) {
+        Some(n) => &padded[..n],
+        None => padded,
     }
-    padded
 }
 
 // The mask that is listed beside a number.

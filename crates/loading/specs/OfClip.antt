@@ -4,6 +4,5 @@ pub use Rattle.working.specs.OfClip.Limits
 pub use Rattle.working.specs.OfClip.Numbers
 pub use Rattle.working.specs.OfClip.Record
 pub use Rattle.working.specs.OfClip.laws
-pub use Rattle.working.specs.OfClip.Answer
 pub use Rattle.working.specs.OfClip.Clipping
 pub use Rattle.working.specs.OfClip.limits

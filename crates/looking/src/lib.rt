@@ -3,6 +3,7 @@
 
 ghost use Rattle.std.specs.Prelude.{◌≡◌};
 ghost use Rattle.model.specs.Board.{Board};
+ghost use Rattle.model.specs.Answering.{answer_of};
 ghost use Rattle.model.specs.Model.{looked_of};
 
 use model::Answer;
@@ -10,17 +11,16 @@ use places::{ALL_NAMES, CARDS};
 use refusal::Refusal;
 
 // The highest issue number among the cards of a name: 2, 4.
-pub fn look_up(held: &[u32; CARDS], names: &[u8; ALL_NAMES], name: &[u8]) -> Answer
+pub fn look_up(held: &[u32; CARDS], names: &[u8; ALL_NAMES], name: &[u8]) -> Result<Answer, Refusal>
     ensures { (b : Board) → held.now ≡ b.held → names.now ≡ b.names →
-        result ≡ (looked_of b name.now).answer }
+        answer_of result ≡ (looked_of b name.now).answer }
 {
     if !name::is_asked(name) {
-        return Answer::Refused(Refusal::BadName);
+        return Err(Refusal::BadName);
     }
     let asked = name::pad(name);
-    let n = newest::highest(held, names, &asked);
-    if n == 0 {
-        return Answer::Refused(Refusal::NameNotHeld);
-    }
-    Answer::Issue(n)
+    let Some(issue) = newest::highest(held, names, &asked) else {
+        return Err(Refusal::NameNotHeld);
+    };
+    Ok(Answer::Issue(issue))
 }

@@ -24,8 +24,7 @@ use Rattle.directory.proofs.Verdicts.{library_yes}
 use Rattle.library.specs.Answers.{left}
 use Rattle.copying.proofs.BytesWritten.{part_from, part_put, then_part}
 use Rattle.library.proofs.Outcomes.{records_part, records_part_lem}
-use Rattle.mending.specs.declared.Mending.{Mending}
-use Rattle.mending.specs.declared.Mending.TheVariants.{Set, Refused}
+use Rattle.std.proofs.Common.{Result, Ok, Err}
 use Rattle.signals.specs.Records.{icss_end, mended_all, signalling}
 use Rattle.mending.specs.Mended.{records_in, mended_of, count_of}
 use Rattle.mending.specs.Answers.{verdict_mended, mending, Mends}
@@ -56,14 +55,14 @@ module _ {s : List ℕ} {n k : ℕ} (v : Inspected s n k) where
       omega arith
 
 module _ (s o : List ℕ) where
-  mends_by : (v : Verdict ℕ) → mending s (length o) ≡ v → (r : Mending) → verdict_mended r ≡ v
+  mends_by : (v : Verdict ℕ) → mending s (length o) ≡ v → (r : Result ℕ Refusal) → verdict_mended r ≡ v
       → Mends s o r (left v (mended_of s) o)
   mends_by v e r g =
       record { answer = ap tells (g ∙ sym e); output = ap (λ (w : Verdict ℕ). left w (mended_of s) o) (sym e) }
 
-  pub mend_refused : {f : Refusal} → library_judged s ≡ no f → Mends s o (Refused f) o
+  pub mend_refused : {f : Refusal} → library_judged s ≡ no f → Mends s o (Err f) o
   unfolding mending
-  mend_refused {f} e = mends_by (no f) (rw e) (Refused f) refl
+  mend_refused {f} e = mends_by (no f) (rw e) (Err f) refl
 
   module _ {n k : ℕ} (v : Inspected s n k) where
     to_five : {t : Bool} → ltb (length o) (length s) ≡ t
@@ -71,8 +70,8 @@ module _ (s o : List ℕ) where
     unfolding mending
     to_five e = rw v.judged (ap (λ (b : Bool). refuse_if b ShortOutput (yes (count_of s))) e)
 
-    pub mend_short : length o < length s → Mends s o (Refused ShortOutput) o
-    mend_short h = mends_by (no ShortOutput) (to_five (lt-ltb (length o) _ h)) (Refused ShortOutput) refl
+    pub mend_short : length o < length s → Mends s o (Err ShortOutput) o
+    mend_short h = mends_by (no ShortOutput) (to_five (lt-ltb (length o) _ h)) (Err ShortOutput) refl
 
     -- the records as they are handed on
     handed_on : cut (word_bytes * k) (records_part s n) ≡ records_in s
@@ -83,7 +82,7 @@ module _ (s o : List ℕ) where
     pub mend_set : length s ≤ length o → (l₁ : List ℕ) → l₁ ≡ over (take (records_at n) s) o
         → (y : List ℕ) → y ≡ over (mended_all (cut (word_bytes * k) (records_part s n))) (part_from (records_at n) l₁)
         → {c : ℕ} → c ≡ signalling (cut (word_bytes * k) (records_part s n))
-        → Mends s o (Set c) (part_put (records_at n) l₁ y)
+        → Mends s o (Ok c) (part_put (records_at n) l₁ y)
     unfolding mended_of count_of
     mend_set h l₁ e₁ y ey {c} ec =
         let head : List ℕ = take (records_at n) s in
@@ -94,4 +93,4 @@ module _ (s o : List ℕ) where
         ap₂ (λ (i : ℕ) (l : List (List ℕ)). take (records_at i) s ++ mended_all l) v.is_count handed_on in
         let told : c ≡ count_of s = ec ∙ ap signalling handed_on in
         rw (filled, same, told)
-        (mends_by (yes (count_of s)) (to_five (le-ltb (length o) _ h)) (Set (count_of s)) refl)
+        (mends_by (yes (count_of s)) (to_five (le-ltb (length o) _ h)) (Ok (count_of s)) refl)

@@ -12,8 +12,8 @@ use Rattle.bytes_le.specs.Buffer.{over}
 use Rattle.directory.specs.Judged.{library_judged, Sound}
 use Rattle.directory.proofs.Verdicts.{library_yes, library_pass, refuse_yes, then_yes}
 use Rattle.library.specs.Answers.{left}
-use Rattle.mending.specs.declared.Mending.{Mending}
-use Rattle.mending.specs.declared.Mending.TheVariants.{Set}
+use Rattle.std.proofs.Common.{Result, Ok}
+use Rattle.refusal.specs.declared.Refusal.{Refusal}
 use Rattle.mending.specs.Mended.{mended_of, count_of}
 use Rattle.mending.specs.Answers.{mending, Mends}
 use Rattle.mending.specs.Unique.{as_mending, mending_told}
@@ -35,7 +35,7 @@ pub record Leaves (s o : List ℕ) (n : ℕ) (o' : List ℕ) : Type 0 where
   pub start : take (length s) o' ≡ mended_of s
   pub beyond : drop (length s) o' ≡ drop (length s) o
 
-module _ {s o : List ℕ} {n : ℕ} {o' : List ℕ} (m : Mends s o (Set n) o') where
+module _ {s o : List ℕ} {n : ℕ} {o' : List ℕ} (m : Mends s o (Ok n) o') where
   answered : mending s (length o) ≡ yes n
   answered = sym (tells_one (yes n) (mending s (length o)) m.answer)
 
@@ -69,8 +69,8 @@ module _ {s o : List ℕ} {n : ℕ} {o' : List ℕ} (m : Mends s o (Set n) o') w
       out ∙ ap (λ (l : List ℕ). over l o) (nothing_to_mend s leaves.sound (sym leaves.told ∙ z))
 
   -- mended again it tells 0, and comes out as it is
-  pub mend_again : {p : List ℕ} {r : Mending} {p' : List ℕ} → length s ≤ length p
-      → Mends (take (length s) o') p r p' → (r ≡ Set 0) × (p' ≡ over (take (length s) o') p)
+  pub mend_again : {p : List ℕ} {r : Result ℕ Refusal} {p' : List ℕ} → length s ≤ length p
+      → Mends (take (length s) o') p r p' → (r ≡ Ok 0) × (p' ≡ over (take (length s) o') p)
   mend_again {p} {r} h w =
       let t : List ℕ = take (length s) o' in
       let g = leaves.sound in

@@ -7,9 +7,9 @@ use lib.IntN.{ℤ, pos, neg_ℤ, ◌-ℤ◌, neg_ℤ-neg_ℤ}
 use Rattle.card.specs.declared.WorkedCard.{WorkedCard}
 use Rattle.terms.specs.Rows.{Role, role_index, rows_for}
 use Rattle.terms.specs.Values.{bias_of}
-use Rattle.rows.specs.declared.Outcome.{Outcome}
+use Rattle.std.specs.Prelude.{Ok, Err}
 use Rattle.rows.specs.Ticks.{row_ticks}
-use Rattle.rows.specs.Outcome.{first_over, outcome_at, outcome_across}
+use Rattle.rows.specs.Outcome.{Outcome, first_over, outcome_at, outcome_across}
 use Rattle.polarity.specs.Polarity.{turned, seen_by, turned_outcome, outcome_of}
 use Rattle.mirrors.specs.Sister.{sister_of}
 use Rattle.polarity.proofs.Laws.{negated_at}
@@ -27,6 +27,11 @@ turned_twice true x = sym (neg_ℤ-neg_ℤ x)
 all_twice : (pnp : Bool) (l : List ℤ) → map (turned (not pnp)) l ≡ map neg_ℤ (map (turned pnp) l)
 all_twice pnp [] = refl
 all_twice pnp (x ∷ l) = ap₂ ◌∷◌ (turned_twice pnp x) (all_twice pnp l)
+
+-- what overloads knows of no polarity
+outcome_twice : (pnp : Bool) (o : Outcome) → turned_outcome (not pnp) o ≡ turned_outcome true (turned_outcome pnp o)
+outcome_twice pnp (Ok ticks) = ap Ok (all_twice pnp ticks)
+outcome_twice pnp (Err o) = refl
 
 -- the rows of the sister see the same voltages
 seen_same : (c : WorkedCard) (volts : List ℤ) → seen_by (sister_of c) (map neg_ℤ volts) ≡ seen_by c volts
@@ -53,6 +58,5 @@ pub pnp_mirrors : (c : WorkedCard) (volts : List ℤ) →
     outcome_of (sister_of c) (map neg_ℤ volts) ≡ turned_outcome true (outcome_of c volts)
 unfolding outcome_of
 pnp_mirrors c volts =
-    let o : Outcome = outcome_across c (seen_by c volts) in
     ap (turned_outcome (not c.pnp)) (rows_same c _ ∙ ap (outcome_across c) (seen_same c volts))
-    ∙ (λ i. record { over = o.over; ticks = all_twice c.pnp o.ticks i })
+    ∙ outcome_twice c.pnp (outcome_across c (seen_by c volts))

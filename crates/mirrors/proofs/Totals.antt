@@ -8,7 +8,7 @@ use lib.ListN.{get_or}
 use lib.IntN.{ℤ, pos, neg_ℤ, ◌+ℤ◌, ◌-ℤ◌, neg_ℤ-+ℤ}
 use Rattle.card.specs.declared.WorkedCard.{WorkedCard}
 use Rattle.terms.specs.Rows.{Row, role_index, rows_for}
-use Rattle.rows.specs.declared.Outcome.{Outcome}
+use Rattle.rows.specs.Outcome.{Outcome, told_ticks}
 use Rattle.polarity.specs.Polarity.{outcome_of}
 use Rattle.polarity.proofs.Turned.{turned_less}
 use Rattle.totals.specs.Gives.{nodes_most, at_node, rows_give}
@@ -20,7 +20,7 @@ use Rattle.days.specs.Fitted.{Fitted, fitted_in}
 use Rattle.days.proofs.Perms.{perm_sum}
 use Rattle.days.proofs.Totals.{totals_fitted}
 use Rattle.mirrors.specs.Sister.{sister_of, sister_fitted, Mirrored}
-use Rattle.polarity.proofs.Laws.{negated_at}
+use Rattle.polarity.proofs.Laws.{negated_at, told_turned}
 use Rattle.mirrors.proofs.Currents.{pnp_mirrors}
 
 roles_negated : (volts : List ℤ) (nodes : List ℕ) → roles_at (map neg_ℤ volts) nodes ≡ map neg_ℤ (roles_at volts nodes)
@@ -46,9 +46,11 @@ flow_mirrors : (c : WorkedCard) (nodes : List ℕ) (volts : List ℤ) (n : ℕ) 
     flow (sister_of c) nodes (map neg_ℤ volts) n ≡ neg_ℤ (flow c nodes volts n)
 unfolding flow
 flow_mirrors c nodes volts n =
-    ap (λ (o : Outcome). rows_give (rows_for c.exsub) nodes o.ticks n)
+    ap (λ (o : Outcome). rows_give (rows_for c.exsub) nodes (told_ticks o) n)
     (ap (outcome_of (sister_of c)) (roles_negated volts nodes) ∙ pnp_mirrors c (roles_at volts nodes))
-    ∙ gives_negated (rows_for c.exsub) nodes (outcome_of c (roles_at volts nodes)).ticks n
+    ∙ ap (λ (l : List ℤ). rows_give (rows_for c.exsub) nodes l n)
+    (told_turned true (outcome_of c (roles_at volts nodes)))
+    ∙ gives_negated (rows_for c.exsub) nodes (told_ticks (outcome_of c (roles_at volts nodes))) n
 
 sum_mirrors : (volts : List ℤ) (n : ℕ) (l : List Fitted) →
     sum_over (λ (f : Fitted). flow f.worked f.nodes (map neg_ℤ volts) n) (map sister_fitted l)

@@ -35,5 +35,5 @@ pub fn spares_good(bytes: &[u8]) -> bool
 {
     let first = word_at(bytes, numbers::SPARE);
     let second = word_at(bytes, numbers::SPARE + 1);
-    if first == 0 { second == 0 } else { false }
+    first == 0 && second == 0
 }

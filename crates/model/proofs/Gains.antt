@@ -12,6 +12,7 @@ use borrow.Author.Tests.{eqb-true, eqb-false, ne_eqb, eq-eqb}
 use Rattle.refusal.specs.Clash.{clash}
 use Rattle.volts.specs.Volts.{given_back, kept_as}
 use Rattle.card.specs.declared.WorkedCard.{WorkedCard}
+use Rattle.settle.specs.OfRows.Outcome.{told_ticks}
 use Rattle.settle.specs.OfPolarity.Polarity.{outcome_of}
 use Rattle.settle.specs.OfTotals.Gives.{nodes_most}
 use Rattle.settle.specs.OfTotals.Flow.{roles_at, ticks_at, flow, sum_over, sum_below, with_more}
@@ -90,7 +91,7 @@ pub ticks_same : (shifts : List Shift) (volts : List ℕ) (c : WorkedCard) (t : 
     touched shifts t ≡ false →
     ticks_at c t.nodes (map given_back (shifted volts shifts)) ≡ ticks_at c t.nodes (map given_back volts)
 unfolding ticks_at
-ticks_same shifts volts c t h e = ap (λ (v : List ℤ). (outcome_of c v).ticks) (roles_same shifts volts t h e)
+ticks_same shifts volts c t h e = ap (λ (v : List ℤ). told_ticks (outcome_of c v)) (roles_same shifts volts t h e)
 
 -- what is worked stands
 pub touched_stands : (shifts : List Shift) (t : Transistor) → touched shifts t ≡ true → t.issue ≡ 0 → ⊥

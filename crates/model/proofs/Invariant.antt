@@ -14,7 +14,7 @@ use Rattle.volts.specs.Volts.{given_back, kept_as}
 use Rattle.volts.specs.laws.Keeping.{near_replicate}
 use Rattle.card.specs.declared.WorkedCard.{WorkedCard}
 use Rattle.settle.specs.OfTerms.Rows.{roles}
-use Rattle.settle.specs.OfRows.Outcome.{is_over}
+use Rattle.settle.specs.OfRows.Outcome.{is_over, told_over}
 use Rattle.settle.specs.OfPolarity.Polarity.{outcome_of}
 use Rattle.settle.specs.OfTotals.Flow.{roles_at, over_at, overloads, flow, sum_over}
 use Rattle.settle.specs.OfGiven.Arguments.{issue_of}
@@ -23,6 +23,7 @@ use Rattle.settle.specs.OfDeck.laws.Ups.{up_all, up_same}
 use Rattle.settle.specs.OfPlaces.Gathered.{Card, Transistor, empty_card, empty_transistor, no_card, no_transistor, worked_at}
 use Rattle.settle.specs.OfPlaces.Finding.{card_place, free_card, free_transistor}
 use Rattle.settle.specs.Change.{changes}
+use Rattle.settle.specs.First.{first_by}
 use Rattle.settle.specs.laws.Firsts.{first_quiet}
 use Rattle.settle.specs.OfFlows.inner.Workable.{Volts}
 use Rattle.model.specs.Board.{Board}
@@ -256,12 +257,12 @@ module _ {b : Board} (g : Invariant b) (shifts : List Shift) where
     where
       there :
           is_over
-          (outcome_of (worked_on b j)
-          (roles_at (map given_back (shifted b.volts shifts)) (transistor_at b j).nodes)).over ≡ false
+          (told_over (outcome_of (worked_on b j)
+          (roles_at (map given_back (shifted b.volts shifts)) (transistor_at b j).nodes))) ≡ false
       there = rw (roles_same shifts b.volts (transistor_at b j) h e) (g.holds.quiet j h)
 
   -- every transistor is within its limits at the new voltages: those worked by the test, the others as they were
-  pub still : is_over (first_over b shifts).over ≡ false → (j : ℕ) → ((transistor_at b j).issue ≡ 0 → ⊥) →
+  pub still : is_over (first_by (first_over b shifts)) ≡ false → (j : ℕ) → ((transistor_at b j).issue ≡ 0 → ⊥) →
       overloads (worked_on b j) (transistor_at b j).nodes (map given_back (shifted b.volts shifts)) ≡ false
   unfolding overloads
   still quiet j h = go (touched shifts (transistor_at b j)) refl
@@ -302,7 +303,7 @@ module _ {b : Board} (g : Invariant b) (shifts : List Shift) where
       (λ i q. ap (place_gives (cards_of b) volts (0 + n))
       (transistor_then g.footing.sized shifts i (rw (transistors_count g.footing.sized shifts) at q))))
 
-  pub invariant_settled : is_over (first_over b shifts).over ≡ false → Volts (shifted b.volts shifts) →
+  pub invariant_settled : is_over (first_by (first_over b shifts)) ≡ false → Volts (shifted b.volts shifts) →
       Invariant (then g.footing.sized shifts)
   unfolding changes cards_of
   invariant_settled quiet volts =

@@ -10,9 +10,11 @@ use Rattle.card.specs.declared.WorkedCard.{WorkedCard}
 use Rattle.card.specs.Judge.{judge_of}
 use Rattle.clip.specs.Record.{right_length}
 use Rattle.name.specs.Name.{asked}
+use Rattle.std.specs.Prelude.{Option}
 use Rattle.settle.specs.OfRowsTypes.Over.{Over}
 use Rattle.settle.specs.OfRows.Outcome.{is_over}
 use Rattle.settle.specs.declared.First.{First}
+use Rattle.settle.specs.First.{first_by}
 use lib.Dec.{leb, ltb}
 use borrow.Author.Tests.{leb-false}
 use Rattle.model.specs.Counts.{nodes_most}
@@ -45,7 +47,7 @@ loads name {bytes} {no_room} {used} {c} e =
         let s = passes_if used _ _ _ r.1 in
         let same : d ≡ c = cc in record { judged = j ∙ ap yes same; room = r.0; number = s.0 }
 
-pub record Places {A : Type 0} (found : Found A) (joins : A → Ties) (over : A → Over) (nodes : List ℤ)
+pub record Places {A : Type 0} (found : Found A) (joins : A → Ties) (over : A → Option Over) (nodes : List ℤ)
     (no_room used : Bool) (a : A) : Type 0 where
   pub there : found ≡ some a
   pub on : some_node_off nodes ≡ false
@@ -55,7 +57,7 @@ pub record Places {A : Type 0} (found : Found A) (joins : A → Ties) (over : A 
   pub quiet : is_over (over a) ≡ false
 
 pub places :
-    {A : Type 0} (found : Found A) {joins : A → Ties} {over : A → Over} (next : ℕ) {nodes : List ℤ}
+    {A : Type 0} (found : Found A) {joins : A → Ties} {over : A → Option Over} (next : ℕ) {nodes : List ℤ}
     {no_room used : Bool} {a : A} →
     place_verdict found joins over next nodes no_room used ≡ yes a → Places found joins over nodes no_room used a
 unfolding place_verdict
@@ -76,18 +78,18 @@ places (some b) {joins} {over} next {nodes} {no_room} {used} {a} e =
       quiet = rw (← same) t.0;
     }
 
-pub record Moves (pairs : List ℤ) (first : First) (shifts : List Shift) : Type 0 where
+pub record Moves (pairs : List ℤ) (first : Option First) (shifts : List Shift) : Type 0 where
   pub by : shifts ≡ shifts_of pairs
   pub on : some_pair_off pairs ≡ false
-  pub quiet : is_over first.over ≡ false
+  pub quiet : is_over (first_by first) ≡ false
 
-pub moves : {pairs : List ℤ} {first : First} {shifts : List Shift} → move_verdict pairs first ≡ yes shifts →
+pub moves : {pairs : List ℤ} {first : Option First} {shifts : List Shift} → move_verdict pairs first ≡ yes shifts →
     Moves pairs first shifts
 unfolding move_verdict
 moves {pairs} {first} e =
     let p = passes_if (not (are_pairs pairs)) _ _ _ e in
     let q = passes_if (some_pair_off pairs) _ _ _ p.1 in
-    let r = passes_if (is_over first.over) _ _ _ q.1 in record { by = cc; on = q.0; quiet = r.0 }
+    let r = passes_if (is_over (first_by first)) _ _ _ q.1 in record { by = cc; on = q.0; quiet = r.0 }
 
 pub lifts : {A : Type 0} (found : Found A) {a : A} → lift_verdict found ≡ yes a → found ≡ some a
 unfolding lift_verdict

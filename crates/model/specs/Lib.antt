@@ -1,5 +1,6 @@
 pub mod Counts
 pub mod Board
+pub mod Answering
 pub mod Verdict
 pub mod Faults
 pub mod Largest

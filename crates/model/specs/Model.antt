@@ -1,5 +1,6 @@
 -- The board of places, kept sets, held currents and stored totals, and what each of its methods gives: the answer and
 -- the next board, whole.
+use Rattle.std.specs.Prelude.{Option}
 use Rattle.std.specs.Prelude.{◌≡◌, Bool, false, List, [], ◌∷◌, map, ℕ, ◌+◌, ◌*◌, leb, ltb, length, get_or, set, replicate, ℤ, pos, nat_abs}
 use Rattle.refusal.specs.declared.Refusal.{Refusal}
 use Rattle.refusal.specs.Order.{Verdict, no, yes}
@@ -82,7 +83,7 @@ abbrev pub touched : List Shift → Transistor → Bool
 touched shifts t = any_of (λ (s : Shift). stands_at s.node t) shifts
 
 -- the first transistor that would overload
-abbrev pub first_over : Board → List Shift → First
+abbrev pub first_over : Board → List Shift → Option First
 first_over b shifts =
     first_below (λ (i : ℕ). touched shifts (transistor_at b i)) (λ (i : ℕ). (transistor_at b i).issue)
     (λ (i : ℕ). over_at (worked_on b i) (transistor_at b i).nodes (map given_back (shifted b.volts shifts)))

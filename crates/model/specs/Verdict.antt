@@ -1,6 +1,6 @@
 -- Which refusal a call gets on the board, each in the order of its rule: one test a clause, from plain facts about what
 -- its places hold. The desk states its own orders; they are proved the same.
-use Rattle.std.specs.Prelude.{Bool, not, List, ℕ, eqb, ℤ, nat_abs}
+use Rattle.std.specs.Prelude.{Bool, not, Option, List, ℕ, eqb, ℤ, nat_abs}
 use Rattle.refusal.specs.declared.Refusal.TheVariants.{Malformed, BadName, NameNotHeld, NoRoom, OutOfRange}
 use Rattle.refusal.specs.declared.Refusal.TheVariants.{SplitCollector, CardInUse, NumbersUsedUp, ShortOutput}
 use Rattle.refusal.specs.Order.{Verdict, yes, refuse_if, and_then}
@@ -13,6 +13,7 @@ use Rattle.settle.specs.OfRows.Outcome.{is_over, drawn_by}
 use Rattle.settle.specs.OfGiven.Arguments.{Found, known, off_node, some_node_off, Ties, torn}
 use Rattle.settle.specs.OfGiven.Pairs.{are_pairs, some_pair_off, Shift, shifts_of}
 use Rattle.settle.specs.declared.First.{First}
+use Rattle.settle.specs.First.{first_by, first_issue}
 
 -- Loading: 1, 2, 6, 7, 8, 19, 9, 10, 11, 17, from what the record is judged to be
 abbrev pub load_order : List ℕ → List ℕ → Verdict WorkedCard → Bool → Bool → Verdict WorkedCard
@@ -27,12 +28,12 @@ unfoldable pub load_verdict : List ℕ → List ℕ → Bool → Bool → Verdic
 load_verdict name bytes no_room used_up = load_order name bytes (judge_of bytes) no_room used_up
 
 -- 15 or 18, by what the transistor of a number overloads, if by anything
-abbrev pub refuse_over : {A : Type 0} → ℕ → Over → Verdict A → Verdict A
+abbrev pub refuse_over : {A : Type 0} → ℕ → Option Over → Verdict A → Verdict A
 refuse_over issue over next = refuse_if (is_over over) (drawn_by issue over) next
 
 -- Placing: 12, 13, 14, 11, 17, 15 or 18 of the number to come; `ties` says which roles a card holds together
 unfoldable pub place_verdict :
-    {A : Type 0} → Found A → (A → Ties) → (A → Over) → ℕ → List ℤ → Bool → Bool → Verdict A
+    {A : Type 0} → Found A → (A → Ties) → (A → Option Over) → ℕ → List ℤ → Bool → Bool → Verdict A
 place_verdict {A} found ties over next nodes no_room used_up =
     and_then (known found)
     (λ (a : A). refuse_if (some_node_off nodes) OutOfRange
@@ -42,10 +43,11 @@ place_verdict {A} found ties over next nodes no_room used_up =
     (refuse_over next (over a) (yes a))))))
 
 -- Moving voltages: 1, 13, 15 or 18 of the first that would overload
-unfoldable pub move_verdict : List ℤ → First → Verdict (List Shift)
+unfoldable pub move_verdict : List ℤ → Option First → Verdict (List Shift)
 move_verdict pairs first =
     refuse_if (not (are_pairs pairs)) Malformed
-    (refuse_if (some_pair_off pairs) OutOfRange (refuse_over first.issue first.over (yes (shifts_of pairs))))
+    (refuse_if (some_pair_off pairs) OutOfRange
+    (refuse_over (first_issue first) (first_by first) (yes (shifts_of pairs))))
 
 -- Lifting: 12
 unfoldable pub lift_verdict : {A : Type 0} → Found A → Verdict A

@@ -1,11 +1,13 @@
 -- Where the tests of a move lead, with what settling the places of its set gives.
 use mathlib.Core.Path.{◌≡◌, refl, sym, ap, ◌∙◌, subst}
-use mathlib.Core.Bool.{Bool, true, false, cond, not}
+use mathlib.Core.Bool.{Bool, true, false, not}
 use mathlib.Core.List.{List, map}
 use Prim.Native.Nat.{ℕ, ◌<◌}
 use native.Mathlib.Omega.{arith}
 use lib.ListN.{length, get_or}
 use lib.IntN.{ℤ}
+use Rattle.std.specs.Prelude.{Option, Some, None, Result, Ok, Err, is_ok}
+use Rattle.std.proofs.Common.{◌⊎◌, inl, inr, ⊎_elim}
 use Rattle.refusal.specs.declared.Refusal.{Refusal}
 use Rattle.refusal.specs.declared.Refusal.TheVariants.{Malformed, OutOfReach, OutOfRange}
 use Rattle.refusal.specs.Clash.{clash}
@@ -20,10 +22,11 @@ use Rattle.places.specs.Finding.{stands_at}
 use Rattle.places.specs.Sets.{member}
 use Rattle.places.specs.laws.Members.{member_set}
 use Rattle.flows.specs.inner.Workable.{deck_of}
-use Rattle.settle.specs.declared.Judgement.{Judgement}
+use Rattle.settle.specs.declared.First.{First}
 use Rattle.settle.specs.inner.Working.{card_at, nodes_at, held_at, Round, round_of}
 use Rattle.settle.specs.inner.Working.{gained, over_of, new_at, first_so, held_from}
-use Rattle.settle.specs.inner.Working.{standing, is_taken, Settling, Settled}
+use Rattle.settle.specs.inner.Working.{standing, Settling, Settled}
+use Rattle.settle.specs.First.{first_by, first_issue, judged}
 use Rattle.settle.specs.laws.Firsts.{first_same}
 use Rattle.settle.specs.laws.Changes.{changes_same}
 use Rattle.settle.specs.laws.Renewals.{renewed_same}
@@ -46,8 +49,22 @@ use Rattle.lending.specs.inner.Lent.{state_with, Lends, LeavesLevels}
 use Rattle.lending.proofs.Footing.{ground_in}
 use Rattle.lending.proofs.Cases.{off_slices_lem, refused_by, leaves_64, taken_so}
 use Rattle.pairs.specs.inner.Pairs.{NamesAny}
-use Rattle.moving.specs.inner.Told.{answer_to}
 use Rattle.pairs.proofs.Pairs.{any_same}
+
+-- ---- by what is told
+
+left_by : (first : Option First) (leaves : Bool) {f : Refusal} → judged first (not leaves) ≡ Err f →
+    ((is_over (first_by first) ≡ true) × (f ≡ drawn_by (first_issue first) (first_by first)))
+    ⊎ ((is_over (first_by first) ≡ false) × ((leaves ≡ true) × (f ≡ OutOfReach)))
+left_by (Some x) leaves e = inl (refl, cc)
+left_by None true e = inr (refl, (refl, cc))
+left_by None false e = clash cc
+
+taken_by : (first : Option First) (leaves : Bool) {u : Unit {0}} → judged first (not leaves) ≡ Ok u →
+    (is_over (first_by first) ≡ false) × (leaves ≡ false)
+taken_by (Some x) leaves e = clash cc
+taken_by None true e = clash cc
+taken_by None false e = (refl, refl)
 
 -- ---- refusals before anything is worked
 
@@ -147,42 +164,37 @@ module _ (b : Board) (g : Ground b) (pairs : List ℤ) (good : are_pairs pairs �
       (current_then b shifts) b.currents transistors_most 0 (λ j h. worked_is j (omega arith))
       (λ j h t. rw (worked_there b g.footing j (omega arith) (stands j t), nodes_there b j (omega arith))))
 
-  module _ {told : Judgement} {next held : List ℤ} (s : Settled round b.currents b.totals 0 told next held) where
-    told_is : told.first ≡ first_over b shifts
-    told_is = s.first_is ∙ first_is
+  abbrev first : Option First
+  first = first_over b shifts
 
-    move_over : is_over told.first.over ≡ true →
-        moved_of b pairs ≡ old.refuse b (drawn_by told.first.issue told.first.over)
-    unfolding moved_of move_verdict
-    move_over o = rw (good, on, ← told_is, o)
+  abbrev leaves : Bool
+  leaves = some_outside (with_more b.totals (gains b shifts))
 
-    moves_it : is_over told.first.over ≡ false → moved_of b pairs ≡ moved b (yes shifts)
-    unfolding moved_of move_verdict
-    moves_it o = rw (good, on, ← told_is, o)
+  move_over : is_over (first_by first) ≡ true →
+      moved_of b pairs ≡ old.refuse b (drawn_by (first_issue first) (first_by first))
+  unfolding moved_of move_verdict
+  move_over o = rw (good, on, o)
 
-    -- whether a total would leave
-    out_is : (out : Bool) → told.fits ≡ not out → (told.fits ≡ false → out ≡ true) × (told.fits ≡ true → out ≡ false)
-    out_is true e = (λ f. refl, λ f. clash cc)
-    out_is false e = (λ f. clash cc, λ f. refl)
+  moves_it : is_over (first_by first) ≡ false → moved_of b pairs ≡ moved b (yes shifts)
+  unfolding moved_of move_verdict
+  moves_it o = rw (good, on, o)
 
-    module _ (o : is_over told.first.over ≡ false) where
-      fits_out : told.fits ≡ false → some_outside (with_more b.totals (gains b shifts)) ≡ true
-      fits_out f = rw (← standing_is) ((out_is _ (s.fits_is o)).0 f)
+  module _ {told : Result (Unit {0}) Refusal} {next held : List ℤ}
+      (s : Settled round b.currents b.totals 0 told next held) where
+    told_is : told ≡ judged first (not leaves)
+    told_is = s.told_is ∙ rw (first_is, standing_is)
 
-      fits_in : told.fits ≡ true → some_outside (with_more b.totals (gains b shifts)) ≡ false
-      fits_in f = rw (← standing_is) ((out_is _ (s.fits_is o)).1 f)
+    totals_stand : is_ok told ≡ true → next ≡ with_more b.totals (gains b shifts)
+    totals_stand t = s.totals_are ∙ rw (t, standing_is)
 
-      totals_stand : told.fits ≡ true → next ≡ with_more b.totals (gains b shifts)
-      totals_stand f = s.totals_are ∙ rw (o, f, standing_is)
-
-    totals_stay : is_taken told ≡ false → next ≡ b.totals
+    totals_stay : is_ok told ≡ false → next ≡ b.totals
     totals_stay e = s.totals_are ∙ rw e
 
-    held_on : is_taken told ≡ false → held ≡ b.currents
+    held_on : is_ok told ≡ false → held ≡ b.currents
     held_on e = s.held ∙ rw e
 
-    held_anew : is_over told.first.over ≡ false → told.fits ≡ true → held ≡ held_then b shifts
-    held_anew o f = s.held ∙ rw (o, f, held_is_then)
+    held_anew : is_ok told ≡ true → held ≡ held_then b shifts
+    held_anew t = s.held ∙ rw (t, held_is_then)
 
 -- ---- the same of arrays that are a board's, beside two slices
 
@@ -238,7 +250,7 @@ module _ {r : Rest} {numbers powers ticks : List ℕ} {switches : List Bool} {is
           )
           (settling_move (board_in state) ground pairs good on will will-is places own_places)
 
-      module _ {told : Judgement} {next held : List ℤ}
+      module _ {told : Result (Unit {0}) Refusal} {next held : List ℤ}
           (s : Settled (round_of (deck_of numbers powers ticks switches) issues seats nodes places will) currents totals 0
           told next held) where
         own_settled : Settled (round_of (deck_in (board_in state)) r.issues r.seats r.nodes places will)
@@ -256,7 +268,7 @@ module _ {r : Rest} {numbers powers ticks : List ℕ} {switches : List Bool} {is
             ) s
 
         -- a refusal after the places were worked
-        stays : {f : Refusal} → moved_lent state pairs ≡ refuse state f → is_taken told ≡ false →
+        stays : {f : Refusal} → moved_lent state pairs ≡ refuse state f → is_ok told ≡ false →
             LeavesLevels (moved_lent state pairs) (Refused f) volts next held
         stays e t =
             rw (
@@ -265,64 +277,44 @@ module _ {r : Rest} {numbers powers ticks : List ℕ} {switches : List Bool} {is
             )
             (levels_stay (moved_lent state pairs) e)
 
-        lent_over : is_over told.first.over ≡ true →
-            LeavesLevels (moved_lent state pairs) (Refused (drawn_by told.first.issue told.first.over)) volts next
-            held
-        unfolding moved_lent
-        lent_over o =
-            stays
-            (refused_by call state taken
-            (move_over (board_in state) ground pairs good on will will-is places own_places own_settled o))
-            (rw o)
-
-        module _ (o : is_over told.first.over ≡ false) where
-          moves : moved_of (board_in state) pairs ≡ moved (board_in state) (yes (shifts_of pairs))
-          moves = moves_it (board_in state) ground pairs good on will will-is places own_places own_settled o
-
-          lent_leaves : told.fits ≡ false →
-              LeavesLevels (moved_lent state pairs) (Refused OutOfReach) volts next held
-          unfolding moved_lent
-          lent_leaves f =
-              stays
-              (leaves_64 call state taken (rw moves refl)
-              (rw moves (fits_out (board_in state) ground pairs good on will will-is places own_places own_settled o f)))
-              (rw (o, f))
-
-          lent_moves : told.fits ≡ true →
-              LeavesLevels (moved_lent state pairs) Done (map given_back will) next held
-          unfolding moved_lent
-          lent_moves f =
-              subst (λ (a : Lent). LeavesLevels a Done (map given_back will) next held)
-              (sym
-              (taken_so call state taken (rw moves refl)
-              (rw moves (fits_in (board_in state) ground pairs good on will will-is places own_places own_settled o f))
-              ∙ ap lent_as moves))
-              (record {
-                answer_is = refl;
-                volts_are = ap (map given_back) will-is;
-                totals_are =
-                    totals_stand (board_in state) ground pairs good on will will-is places own_places own_settled o f;
-                currents_are =
-                    held_anew (board_in state) ground pairs good on will will-is places own_places own_settled o f;
-              })
-
         -- by what is told
-        pub lent_taken : is_taken told ≡ true →
-            LeavesLevels (moved_lent state pairs) (answer_to told) (map given_back will) next held
-        lent_taken t = go (is_over told.first.over) refl told.fits refl t
-          where
-            go : (over : Bool) → is_over told.first.over ≡ over → (fits : Bool) → told.fits ≡ fits →
-                cond over false fits ≡ true →
-                LeavesLevels (moved_lent state pairs) (answer_to told) (map given_back will) next held
-            go true o fits f e = clash cc
-            go false o true f e = rw (o, f) (lent_moves o f)
-            go false o false f e = clash cc
+        pub lent_left : {f : Refusal} → told ≡ Err f →
+            LeavesLevels (moved_lent state pairs) (Refused f) volts next held
+        unfolding moved_lent
+        lent_left {f} t =
+            stays
+            (⊎_elim
+            (λ o. rw o.1
+            (refused_by call state taken
+            (move_over (board_in state) ground pairs good on will will-is places own_places o.0)))
+            (λ o. rw o.1.1
+            (leaves_64 call state taken
+            (rw (moves_it (board_in state) ground pairs good on will will-is places own_places o.0) refl)
+            (rw (moves_it (board_in state) ground pairs good on will will-is places own_places o.0) o.1.0)))
+            (left_by _ _ (sym (told_is (board_in state) ground pairs good on will will-is places own_places own_settled)
+            ∙ t)))
+            (rw t)
 
-        pub lent_left : is_taken told ≡ false → LeavesLevels (moved_lent state pairs) (answer_to told) volts next held
-        lent_left t = go (is_over told.first.over) refl told.fits refl t
+        pub lent_taken : {u : Unit {0}} → told ≡ Ok u →
+            LeavesLevels (moved_lent state pairs) Done (map given_back will) next held
+        unfolding moved_lent
+        lent_taken t =
+            subst (λ (a : Lent). LeavesLevels a Done (map given_back will) next held)
+            (sym (taken_so call state taken (rw moves refl) (rw moves o.1) ∙ ap lent_as moves))
+            (record {
+              answer_is = refl;
+              volts_are = ap (map given_back) will-is;
+              totals_are =
+                  totals_stand (board_in state) ground pairs good on will will-is places own_places own_settled (rw t);
+              currents_are =
+                  held_anew (board_in state) ground pairs good on will will-is places own_places own_settled (rw t);
+            })
           where
-            go : (over : Bool) → is_over told.first.over ≡ over → (fits : Bool) → told.fits ≡ fits →
-                cond over false fits ≡ false → LeavesLevels (moved_lent state pairs) (answer_to told) volts next held
-            go true o fits f e = rw o (lent_over o)
-            go false o true f e = clash cc
-            go false o false f e = rw (o, f) (lent_leaves o f)
+            o : (is_over (first_by (first_over (board_in state) (shifts_of pairs))) ≡ false)
+                × (some_outside (with_more totals (gains (board_in state) (shifts_of pairs))) ≡ false)
+            o =
+                taken_by _ _
+                (sym (told_is (board_in state) ground pairs good on will will-is places own_places own_settled) ∙ t)
+
+            moves : moved_of (board_in state) pairs ≡ moved (board_in state) (yes (shifts_of pairs))
+            moves = moves_it (board_in state) ground pairs good on will will-is places own_places o.0

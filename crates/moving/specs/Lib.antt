@@ -1,3 +1,2 @@
--- Moving nodes together: the words of inner contracts.
-pub mod inner
+-- What is handed on.
 pub mod OfLending

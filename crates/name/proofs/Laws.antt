@@ -1,15 +1,16 @@
--- One turn of each loop over a name's bytes, on plain values, and what two equal words say of two names.
+-- The tests of a name's bytes on plain values, its padding, and what two equal words say of two names.
 use mathlib.Core.Path.{◌≡◌, refl, sym, ◌∙◌, ap, ap₂}
 use mathlib.Core.Bool.{Bool, true, false, cond, ◌&&◌, true≢false}
 use mathlib.Core.List.{List, [], ◌∷◌, ◌++◌}
-use Prim.Native.Nat.{ℕ, zero, suc, ◌+◌, ◌-◌, ◌^◌, ◌<◌, ◌≤◌, zero-le}
+use Prim.Native.Nat.{ℕ, zero, suc, ◌+◌, ◌-◌, ◌^◌, ◌<◌, ◌≤◌, min, zero-le}
 use native.Mathlib.Nat.{le_of_eq, sub-zero}
 use native.Mathlib.Numerals.{add-one}
 use native.Mathlib.Omega.{arith}
 use borrow.Author.Tests.{lt-leb, le-leb, eqb-true, eqb-false, eq-eqb, ne_eqb, lt-ltb, le-ltb}
 use lib.Dec.{eqb}
 use lib.ListN.{length, take, drop, get_or, set, replicate, length-append, length-drop, length-take, length-set}
-use lib.ListN.{length-replicate, drop_of_length-le}
+use lib.ListN.{length-replicate}
+use Rattle.std.proofs.lemmas.List.{take_min}
 use lib.Seq.{take-add, take_at, drop_at, drop-cons, take_all, take-suc, set_at, append_snoc, length-take-le}
 use Rattle.bytes_le.specs.Le.{le, bytes_of, Word, le_bytes, length_bytes}
 use Rattle.bytes_le.proofs.Laws.{rest}
@@ -21,28 +22,7 @@ and_true {a} {b} e = ap (λ (t : Bool). t && b) e
 pub and_false : {a : Bool} → a ≡ false → (b : Bool) → a && b ≡ false
 and_false e b = ap (λ (t : Bool). t && b) e
 
--- the element at i and those after it
-split : (s : List ℕ) (i : ℕ) → i < length s → drop i s ≡ get_or s i 0 ∷ drop (i + 1) s
-split s i h = rw (add-one, drop-cons s i 0)
-
 -- ---- the leading bytes
-
-pub record Ran (s : List ℕ) (i : ℕ) : Type 0 where
-  pub within : i ≤ length s
-  pub so_far : run s ≡ i + run (drop i s)
-
-module _ {s : List ℕ} {i : ℕ} (v : Ran s i) (h : i < length s) where
-  run_here : {t : Bool} → mark (get_or s i 0) ≡ t → run (drop i s) ≡ cond t (suc (run (drop (i + 1) s))) 0
-  run_here e = ap run (split s i h) ∙ ap (λ (t : Bool). cond t (suc (run (drop (i + 1) s))) 0) e
-
-  pub run_ends : mark (get_or s i 0) ≡ false → i ≡ run s
-  run_ends e = omega (arith, run_here e)
-
-  pub run_on : mark (get_or s i 0) ≡ true → Ran s (i + 1)
-  run_on e = let f = run_here e in record { within = omega arith; so_far = omega arith }
-
-pub run_all : {s : List ℕ} {i : ℕ} → Ran s i → length s ≤ i → i ≡ run s
-run_all {s} {i} v h = let e : run (drop i s) ≡ 0 = ap run (drop_of_length-le s h) in omega arith
 
 run_step : (t : Bool) (m n : ℕ) → m ≤ n → cond t (suc m) 0 ≤ suc n
 run_step true m n h = omega arith
@@ -51,25 +31,6 @@ run_step false m n h = omega arith
 pub run_within : (s : List ℕ) → run s ≤ length s
 run_within [] = omega arith
 run_within (b ∷ s) = run_step (mark b) (run s) (length s) (run_within s)
-
--- ---- zero bytes
-
-pub record Zeros (s : List ℕ) (i : ℕ) : Type 0 where
-  pub within : i ≤ length s
-  pub so_far : zeros s ≡ zeros (drop i s)
-
-module _ {s : List ℕ} {i : ℕ} (v : Zeros s i) (h : i < length s) where
-  pub zeros_not : (get_or s i 0 ≡ 0 → ⊥) → false ≡ zeros s
-  zeros_not l = sym (v.so_far ∙ ap zeros (split s i h) ∙ and_false (ne_eqb (get_or s i 0) 0 l) _)
-
-  pub zeros_on : get_or s i 0 ≡ 0 → Zeros s (i + 1)
-  zeros_on l = record {
-    within = omega arith;
-    so_far = v.so_far ∙ ap zeros (split s i h) ∙ and_true (eq-eqb (get_or s i 0) 0 l);
-  }
-
-pub zeros_all : {s : List ℕ} {i : ℕ} → Zeros s i → length s ≤ i → true ≡ zeros s
-zeros_all {s} v h = sym (v.so_far ∙ ap zeros (drop_of_length-le s h))
 
 -- ---- the tests of a whole name
 
@@ -161,24 +122,14 @@ drop_zeros (suc k) zero = let e : 0 ≡ 0 - suc k = omega arith in ap (λ (m : �
 drop_zeros (suc k) (suc n) =
     let e : n - k ≡ suc n - suc k = omega arith in drop_zeros k n ∙ ap (λ (m : ℕ). replicate m 0) e
 
-pub taken_few : (x : List ℕ) → length (take name_length x) ≤ length {A = ℕ} (replicate name_length 0)
-taken_few x = rw length-take (omega arith)
-
-pub taken_short : (x : List ℕ) → length x < name_length → length x ≡ length (take name_length x)
-taken_short x h = let l : length x ≤ name_length = omega arith in sym (ap length (take_all name_length x l))
-
-pub taken_sixteen : (x : List ℕ) → name_length ≤ length x → name_length ≡ length (take name_length x)
-taken_sixteen x h = sym (length-take-le name_length x h)
-
-pub is_padded : (x : List ℕ) {cur : List ℕ} {i : ℕ} → Filled (take name_length x) (replicate name_length 0) cur i
-    → length (take name_length x) ≤ i
-    → cur ≡ padded x
+-- its first bytes, as many as it has room for, and zeros after them
+pub is_padded : (x : List ℕ) {cur : List ℕ} {n : ℕ} → n ≡ min name_length (length x) → cur ≡ take n x
+    → cur ++ drop n (replicate name_length 0) ≡ padded x
 unfolding padded
-is_padded x v h =
-    let e : name_length - length (take name_length x) ≡ name_length - length x = rw length-take (omega arith) in
-    fill_all v h
-    ∙ ap (λ (l : List ℕ). take name_length x ++ l)
-    (drop_zeros (length (take name_length x)) name_length ∙ ap (λ (n : ℕ). replicate n 0) e)
+is_padded x {cur} {n} h e =
+    let f : name_length - n ≡ name_length - length x = omega arith in
+    ap₂ ◌++◌ (e ∙ ap (λ (m : ℕ). take m x) h ∙ take_min name_length x)
+    (drop_zeros n name_length ∙ ap (λ (m : ℕ). replicate m 0) f)
 
 -- ---- two names as words
 

@@ -15,39 +15,21 @@ pub const LENGTH: usize = 16;
 fn marks(b: u8) -> bool
     ensures { result ≡ mark b }
 {
-    if b < 0x21 {
-        return false;
-    }
-    b <= 0x7e
+    b.is_ascii_graphic()
 }
 
 // The count of leading bytes that are all allowed in a name.
 fn leading(s: &[u8]) -> usize
     ensures { result ≡ run s.now }
 {
-    let mut i = 0;
-    while i < s.len() {
-        if marks(s[i]) {
-            i += 1;
-        } else {
-            return i;
-        }
-    }
-    i
+    s.iter().take_while(|b| marks(**b)).count()
 }
 
 // Whether there are only zero bytes.
 fn blank(s: &[u8]) -> bool
     ensures { result ≡ zeros s.now }
 {
-    let mut i = 0;
-    while i < s.len() {
-        if s[i] != 0 {
-            return false;
-        }
-        i += 1;
-    }
-    true
+    s.iter().all(|b| *b == 0)
 }
 
 // Whether the bytes are a name with its padding.
@@ -58,43 +40,26 @@ pub fn is_well_formed(s: &[u8]) -> bool
         return false;
     }
     let k = leading(s);
-    if k == 0 {
-        return false;
-    }
-    blank(&s[k..])
+    0 < k && blank(&s[k..])
 }
 
 // Whether the bytes are a name without padding.
 pub fn is_asked(x: &[u8]) -> bool
     ensures { result ≡ asked x.now }
 {
-    if x.len() == 0 {
+    if x.is_empty() {
         return false;
     }
-    if LENGTH < x.len() {
-        return false;
-    }
-    leading(x) == x.len()
-}
-
-// How many bytes of x a name has room for.
-fn taken(x: &[u8]) -> usize
-    ensures { result ≡ length (take name_length x.now) }
-{
-    if x.len() < LENGTH { x.len() } else { LENGTH }
+    x.len() <= LENGTH && leading(x) == x.len()
 }
 
 // The name with its padding; of more than sixteen bytes the first sixteen.
 pub fn pad(x: &[u8]) -> [u8; LENGTH]
     ensures { result ≡ padded x.now }
 {
-    let n = taken(x);
-    let mut held = [0u8; LENGTH];
-    let mut i = 0;
-    while i < n {
-        held[i] = x[i];
-        i += 1;
-    }
+    let n = LENGTH.min(x.len());
+    let mut held = [0; LENGTH];
+    held[..n].copy_from_slice(&x[..n]);
     held
 }
 
@@ -111,8 +76,5 @@ pub fn stands_at(s: &[u8], at: usize, low: u64, high: u64) -> bool
     }
     let x = bytes_le::u64_at(s, at);
     let y = bytes_le::u64_at(s, at + WORD_BYTES);
-    if low != x {
-        return false;
-    }
-    high == y
+    low == x && high == y
 }

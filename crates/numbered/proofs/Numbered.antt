@@ -1,39 +1,44 @@
 -- The words of a line as numbers: whether all are, and their values.
-use mathlib.Core.Path.{◌≡◌, sym, ap, ◌∙◌}
-use mathlib.Core.Bool.{Bool, true, false, ◌&&◌}
+use mathlib.Core.Path.{◌≡◌, refl, ap, ap₂, ◌∙◌}
+use mathlib.Core.Bool.{◌&&◌}
 use mathlib.Core.List.{List}
-use Prim.Native.Nat.{ℕ, suc, ◌+◌, ◌-◌, ◌<◌, ◌≤◌}
+use Prim.Native.Nat.{ℕ, zero, suc, ◌+◌}
 use native.Mathlib.Numerals.{add-one}
-use native.Mathlib.Omega.{arith}
-use lib.IntN.{ℤ}
+use lib.IntN.{ℤ, pos}
 use lib.ListN.{set}
+use Rattle.std.specs.Prelude.{Option, Some, None}
+use Rattle.std.specs.List.{list_all, range_with_len}
+use Rattle.std.specs.Option.{is_some, unwrap_or}
 use Rattle.spelling.specs.Number.{parsed_of}
 use Rattle.words.specs.declared.Words.{Words}
 use Rattle.words.specs.Words.{word_at}
 use Rattle.numbered.specs.Numbers.{is_number, value_of, are_numbers, numbers_to}
 
--- the words before k are numbers, so that those from k on tell
-pub record Still (line : List ℕ) (w : Words) (n k : ℕ) : Type 0 where
-  pub least : 1 ≤ k
-  pub same : are_numbers line w 1 (n - 1) ≡ are_numbers line w k (n - k)
+-- a number is told by std's words
+some_number : (o : Option ℤ) → is_some o ≡ is_number o
+some_number (Some z) = refl
+some_number None = refl
 
-module _ {line : List ℕ} {w : Words} {n k : ℕ} (v : Still line w n k) where
-  step : k < n → {t : Bool} → t ≡ is_number (parsed_of (word_at line w k))
-      → are_numbers line w 1 (n - 1) ≡ t && are_numbers line w (k + 1) (n - (k + 1))
-  unfolding are_numbers
-  step h e =
-      let f : n - k ≡ suc (n - (k + 1)) = omega arith in
-      v.same ∙ ap (are_numbers line w k) f ∙ rw (add-one, e)
+unwrapped : (o : Option ℤ) → unwrap_or o (pos 0) ≡ value_of o
+unwrapped (Some z) = refl
+unwrapped None = refl
 
-  pub still_on : k < n → true ≡ is_number (parsed_of (word_at line w k)) → Still line w n (k + 1)
-  still_on h e = record { least = omega arith; same = step h e }
+module _ {o : Option ℤ} {s w : List ℕ} (e : o ≡ parsed_of s) (f : s ≡ w) where
+  of_word : o ≡ parsed_of w
+  of_word = e ∙ ap parsed_of f
 
-  pub still_not : k < n → false ≡ is_number (parsed_of (word_at line w k)) → false ≡ are_numbers line w 1 (n - 1)
-  still_not h e = sym (step h e)
+  pub value_told : (z : ℤ) → z ≡ unwrap_or o (pos 0) → z ≡ value_of (parsed_of w)
+  value_told z g = g ∙ unwrapped o ∙ ap value_of of_word
 
-  pub still_all : n ≤ k → true ≡ are_numbers line w 1 (n - 1)
-  unfolding are_numbers
-  still_all h = let f : n - k ≡ 0 = omega arith in sym (v.same ∙ ap (are_numbers line w k) f)
+-- each of m words from word k on
+pub all_told : (line : List ℕ) (w : Words) (k m : ℕ)
+    → list_all (λ (i : ℕ). is_some (parsed_of (word_at line w i))) (range_with_len k m) ≡ are_numbers line w k m
+unfolding are_numbers
+all_told line w k zero = refl
+all_told line w k (suc m) =
+    ap₂ ◌&&◌ (some_number (parsed_of (word_at line w k)))
+    (ap (λ (i : ℕ). list_all (λ (i : ℕ). is_some (parsed_of (word_at line w i))) (range_with_len i m)) (add-one k)
+    ∙ all_told line w (suc k) m)
 
 pub value_more : (line : List ℕ) (w : Words) (k : ℕ) (l : List ℤ) (z : ℤ) → l ≡ numbers_to line w k
     → z ≡ value_of (parsed_of (word_at line w (k + 1))) → set l k z ≡ numbers_to line w (k + 1)

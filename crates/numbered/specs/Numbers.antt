@@ -1,7 +1,5 @@
 -- The words of a line as numbers: whether they are, and which.
-use Rattle.std.specs.Prelude.{Bool, true, false, ◌&&◌, List, ℕ, zero, suc, ℤ, pos, set, replicate}
-use Rattle.spelling.specs.declared.Parsed.{Parsed}
-use Rattle.spelling.specs.declared.Parsed.TheVariants as parsed
+use Rattle.std.specs.Prelude.{Bool, true, false, ◌&&◌, List, Option, Some, None, ℕ, zero, suc, ℤ, pos, set, replicate}
 use Rattle.spelling.specs.Number.{parsed_of}
 use Rattle.words.specs.declared.Words.{Words}
 use Rattle.words.specs.Words.{word_at}
@@ -10,13 +8,13 @@ use Rattle.words.specs.Words.{word_at}
 abbrev pub most_numbers : ℕ
 most_numbers = 12
 
-abbrev pub is_number : Parsed → Bool
-is_number (parsed.Number z) = true
-is_number parsed.Nothing = false
+abbrev pub is_number : Option ℤ → Bool
+is_number (Some z) = true
+is_number None = false
 
-abbrev pub value_of : Parsed → ℤ
-value_of (parsed.Number z) = z
-value_of parsed.Nothing = pos 0
+abbrev pub value_of : Option ℤ → ℤ
+value_of (Some z) = z
+value_of None = pos 0
 
 -- each of the m words from word k on is a number
 unfoldable pub are_numbers : List ℕ → Words → ℕ → ℕ → Bool

@@ -4,6 +4,7 @@ use mathlib.Core.Bool.{Bool}
 use mathlib.Core.List.{List}
 use Prim.Native.Nat.{ℕ}
 use lib.IntN.{ℤ}
+use Rattle.page.specs.declared.Page.{Page}
 use Rattle.page.specs.Page.{Writes}
 use Rattle.page.proofs.Pages.{as_bytes}
 use Rattle.script.specs.declared.Command.{Command}
@@ -24,21 +25,21 @@ use Rattle.evening.specs.Said.{who_said, sheet_said}
 use Rattle.obeying.specs.Obeyed.{obeyed_of, Obeys}
 
 module _ (b : Board) (v t : List ℤ) (shelf : List ℕ) (allowed : Bool) (c : Command) (line spelled : List ℕ)
-    {old new : List ℕ} {at end : ℕ} where
+    {N : ℕ} {old new : Page N} where
   pub obeys_call : {k : Call} → asks_of c.verb ≡ asks.Board k → {library : List ℕ} → library ≡ held_of shelf →
       {r : Board} {v' t' : List ℤ} →
-      Calls (asked_of (state_in b v t) k c line spelled library) k c r v' t' old at new end →
-      Obeys (obeyed_of (state_in b v t) shelf allowed c line spelled) r v' t' shelf old at new end
+      Calls (asked_of (state_in b v t) k c line spelled library) k c r v' t' old new →
+      Obeys (obeyed_of (state_in b v t) shelf allowed c line spelled) r v' t' shelf old new
   unfolding obeyed_of
   obeys_call {k} e h {r} {v'} {t'} p =
       let q = subst
-      (λ (x : List ℕ). Calls (asked_of (state_in b v t) k c line spelled x) k c r v' t' old at new end) h p in
+      (λ (x : List ℕ). Calls (asked_of (state_in b v t) k c line spelled x) k c r v' t' old new) h p in
       rw e
       (record { board = q.board; volts = q.volts; totals = q.totals; shelf = refl; said = q.said })
 
   pub obeys_who : asks_of c.verb ≡ asks.Who → {z : ℤ} → z ≡ number_in c.numbers →
-      Writes (who_said (bare (model_of b)) z) old at new end →
-      Obeys (obeyed_of (state_in b v t) shelf allowed c line spelled) b v t shelf old at new end
+      Writes (who_said (bare (model_of b)) z) old new →
+      Obeys (obeyed_of (state_in b v t) shelf allowed c line spelled) b v t shelf old new
   unfolding obeyed_of
   obeys_who e f w =
       rw e
@@ -50,20 +51,20 @@ module _ (b : Board) (v t : List ℤ) (shelf : List ℕ) (allowed : Bool) (c : C
         said = as_bytes (ap (who_said (bare (model_of b))) f) w;
       })
 
-  pub obeys_sheet : asks_of c.verb ≡ asks.Sheet → Writes (sheet_said (state_in b v t)) old at new end →
-      Obeys (obeyed_of (state_in b v t) shelf allowed c line spelled) b v t shelf old at new end
+  pub obeys_sheet : asks_of c.verb ≡ asks.Sheet → Writes (sheet_said (state_in b v t)) old new →
+      Obeys (obeyed_of (state_in b v t) shelf allowed c line spelled) b v t shelf old new
   unfolding obeyed_of
   obeys_sheet e w = rw e (record { board = refl; volts = refl; totals = refl; shelf = refl; said = w })
 
   pub obeys_poke : asks_of c.verb ≡ asks.Slices → {v' t' : List ℤ} →
       (v' ≡ poked_volts (pokes allowed c line) c v) × ((t' ≡ poked_totals (pokes allowed c line) c t)
-      × Writes (poke_said (pokes allowed c line) c line) old at new end) →
-      Obeys (obeyed_of (state_in b v t) shelf allowed c line spelled) b v' t' shelf old at new end
+      × Writes (poke_said (pokes allowed c line) c line) old new) →
+      Obeys (obeyed_of (state_in b v t) shelf allowed c line spelled) b v' t' shelf old new
   unfolding obeyed_of
   obeys_poke e p = rw e (record { board = refl; volts = p.0; totals = p.1.0; shelf = refl; said = p.1.1 })
 
   pub obeys_apart : {what : Apart} → asks_of c.verb ≡ asks.Apart what → {shelf' : List ℕ} →
-      Writes (apart_said what c.words line shelf) old at new end × (shelf' ≡ apart_shelf what shelf) →
-      Obeys (obeyed_of (state_in b v t) shelf allowed c line spelled) b v t shelf' old at new end
+      Writes (apart_said what c.words line shelf) old new × (shelf' ≡ apart_shelf what shelf) →
+      Obeys (obeyed_of (state_in b v t) shelf allowed c line spelled) b v t shelf' old new
   unfolding obeyed_of
   obeys_apart e p = rw e (record { board = refl; volts = refl; totals = refl; shelf = p.1; said = p.0 })

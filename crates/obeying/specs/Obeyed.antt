@@ -1,5 +1,6 @@
 -- A command obeyed: the board, the slices and the library held that it leaves, and what is said.
 use Rattle.std.specs.Prelude.{◌≡◌, Bool, List, ℕ, ℤ}
+use Rattle.page.specs.declared.Page.{Page}
 use Rattle.page.specs.Page.{Writes}
 use Rattle.script.specs.declared.Command.{Command}
 use Rattle.asks.specs.declared.Asks.{Asks}
@@ -47,10 +48,9 @@ obeyed_by (asks.Apart what) s shelf allowed c line spelled =
 unfoldable pub obeyed_of : State → List ℕ → Bool → Command → List ℕ → List ℕ → Obeyed
 obeyed_of s shelf allowed c line spelled = obeyed_by (asks_of c.verb) s shelf allowed c line spelled
 
-pub record Obeys (o : Obeyed) (r : Board) (v' t' : List ℤ) (shelf' old : List ℕ) (at : ℕ) (new : List ℕ) (end : ℕ)
-    : Type 0 where
+pub record Obeys {N : ℕ} (o : Obeyed) (r : Board) (v' t' : List ℤ) (shelf' : List ℕ) (old new : Page N) : Type 0 where
   pub board : r ≡ board_of o.state.rest
   pub volts : v' ≡ o.state.volts
   pub totals : t' ≡ o.state.totals
   pub shelf : shelf' ≡ o.shelf
-  pub said : Writes o.said old at new end
+  pub said : Writes o.said old new

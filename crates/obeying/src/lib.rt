@@ -1,5 +1,5 @@
-// A command obeyed, but for what reads a file: whom it asks does what it says, and the answer is put to the bytes that
-// wait. Voltages and totals stand in two slices that are lent to the board.
+// A command obeyed, but for what reads a file: whom it asks does what it says, and the answer is put on the page.
+// Voltages and totals stand in two slices that are lent to the board.
 #![tactic(auto)]
 
 ghost use Rattle.evening.specs.OfBoard.Promise.{state_in, Reached};
@@ -8,7 +8,7 @@ ghost use Rattle.obeying.specs.Obeyed.{obeyed_of, Obeys};
 use asks::Asks;
 pub use evening::board;
 use evening::board::Board;
-use page::ROOM;
+use page::{Page, ROOM};
 use script::{Command, MOST_BYTES};
 use shelving::MOST;
 use totals::NODES;
@@ -23,20 +23,16 @@ pub fn obey(
     line: &[u8],
     spelled: &[u8; MOST_BYTES],
     held: &mut [u8; MOST],
-    out: &mut [u8; ROOM],
-    at: &mut usize,
+    page: &mut Page<ROOM>,
 ) -> Board
     requires { Reached board }
     ensures obeys { Obeys (obeyed_of (state_in board volts.old totals.old) held.old
         pokes c line.now spelled.now)
         result volts.new totals.new held.new
-        out.old at.old out.new at.new }
+        page.old page.new }
     ensures reached { Reached result }
 {
-    let words = c.words;
-    let v = c.numbers;
-    let verb = c.verb;
-    match asks::asked_by(verb) {
+    match asks::asked_by(c.verb) {
         Asks::Board(call) => calling::make(
             board,
             volts,
@@ -46,23 +42,22 @@ pub fn obey(
             line,
             spelled,
             shelving::held(held),
-            out,
-            at,
+            page,
         ),
         Asks::Who => {
-            evening::list_node(board, v[0], out, at);
+            evening::list_node(board, c.numbers[0], page);
             board
         }
         Asks::Sheet => {
-            evening::put_sheet(board, volts, totals, out, at);
+            evening::put_sheet(board, volts, totals, page);
             board
         }
         Asks::Slices => {
-            poking::poke(pokes, c, line, volts, totals, out, at);
+            poking::poke(pokes, c, line, volts, totals, page);
             board
         }
         Asks::Apart(what) => {
-            shelving::obey_apart(what, words, line, held, out, at);
+            shelving::obey_apart(what, c.words, line, held, page);
             board
         }
     }

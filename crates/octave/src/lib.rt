@@ -91,7 +91,7 @@ const POWERS: Table = [
 ];
 
 // The reciprocal of the octave w, FINE * 2^54 / w, is high * 2^32 + low; base and add raise a position by BIAS.
-#[derive(Clone, Copy)]
+#[derive(Clone, Copy, Default)]
 pub struct Reciprocal {
     pub w: u32,
     pub high: u32,
@@ -101,7 +101,7 @@ pub struct Reciprocal {
 }
 
 // m, and n raised by BIAS.
-#[derive(Clone, Copy)]
+#[derive(Clone, Copy, Default)]
 pub struct Exponential {
     pub m: u64,
     pub n: u64,
@@ -135,13 +135,7 @@ pub fn reciprocal_of(w: u64) -> Reciprocal
 pub fn no_reciprocal() -> Reciprocal
     ensures { result ≡ no_reciprocal }
 {
-    Reciprocal {
-        w: 0,
-        high: 0,
-        low: 0,
-        base: 0,
-        add: 0,
-    }
+    Reciprocal::default()
 }
 
 // The position of u - SPAN microvolts, raised by BIAS octaves, in parts of one and rounded downward.
@@ -154,19 +148,13 @@ pub fn place(u: u64, o: Reciprocal) -> u64
     (o.base as u64) + (high >> TOP)
 }
 
-fn wide(x: u32) -> u64
-    ensures { result ≡ x }
-{
-    x as u64
-}
-
 // The entry at j of the lent table.
 fn entry(t: &Table, j: usize) -> u64
     requires j_le_points { j ≤ points }
     requires t_value { t.now ≡ entries }
     ensures { result ≡ entry_of j }
 {
-    wide(t[j])
+    u64::from(t[j])
 }
 
 // The mantissa at the part f of an octave.

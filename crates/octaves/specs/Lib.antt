@@ -1,4 +1,3 @@
 -- Words of inner contracts, in `inner`.
 pub mod inner
-pub mod OfClip
 pub mod OfLoading

@@ -14,7 +14,7 @@ const RAISE: u64 = 5000000;
 pub fn is_knee(x: f64) -> bool
     ensures { result ≡ knee_good x }
 {
-    if x <= MOST { -x <= MOST } else { false }
+    x <= MOST && -x <= MOST
 }
 
 // The whole microvolts of x, cut toward zero and raised.

@@ -17,24 +17,13 @@ const MOST: f64 = 50000000.0;
 
 const SECOND_OVER: f64 = 1000000001.0;
 
-// The second octave, or that it is too large.
-#[derive(Clone, Copy)]
-pub enum Octave {
-    Nanovolts(u32),
-    Out,
-}
-
 // Whether x is a whole number from the least to the most.
 pub fn is_octave(x: f64) -> bool
     ensures { result ≡ octave_good x }
 {
-    if x >= LEAST {
-        if x <= MOST {
-            let n = std::num::truncating_f64_to_u64(x);
-            if f64::to_bits(n as f64) == f64::to_bits(x) {
-                return true;
-            }
-        }
+    if x >= LEAST && x <= MOST {
+        let n = std::num::truncating_f64_to_u64(x);
+        return (n as f64).to_bits() == x.to_bits();
     }
     false
 }
@@ -47,14 +36,14 @@ pub fn nanovolts(x: f64) -> u32
     std::num::truncating_f64_to_u64(x) as u32
 }
 
-// The whole part of m_Lf times the octave, where it is not too large.
-pub fn second_of(y: f64) -> Octave
+// The second octave in nanovolts, which is the whole part of m_Lf times the octave, where it is not too large.
+pub fn second_of(y: f64) -> Option<u32>
     requires { T (above y) }
     ensures { result ≡ second_of y }
 {
     if y < SECOND_OVER {
-        Octave::Nanovolts(std::num::truncating_f64_to_u64(y) as u32)
+        Some(std::num::truncating_f64_to_u64(y) as u32)
     } else {
-        Octave::Out
+        None
     }
 }

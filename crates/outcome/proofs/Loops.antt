@@ -5,16 +5,14 @@ use mathlib.Core.List.{List, [], ◌∷◌}
 use mathlib.Core.Logic.{◌⊎◌, inl, inr}
 use Prim.Native.Nat.{ℕ, suc, ◌+◌, ◌-◌, ◌≤◌, ◌<◌}
 use native.Mathlib.Omega.{arith}
-use lib.ListN.{get_or, replicate}
-use lib.IntN.{ℤ, pos}
+use lib.ListN.{get_or}
+use Rattle.std.specs.Prelude.{Some, None}
 use Rattle.whole.specs.laws.Biased.{below_or_not}
-use Rattle.rows.specs.declared.Over.{Over}
-use Rattle.rows.specs.declared.Over.TheVariants.{Within, Ticks, Injection}
-use Rattle.rows.specs.declared.Outcome.{Outcome}
+use Rattle.rows.specs.declared.Over.TheVariants.{Ticks, Injection}
 use Rattle.rows.specs.OfTerms.Terms.{Terms}
 use Rattle.rows.specs.OfTerms.Rows.{branches}
-use Rattle.rows.specs.Outcome.{tick_limit, ratio_limit, some_above, outcome_at}
-use Rattle.rows.specs.inner.FromTerms.{Most, row_over, over_up, list_up, all_ticks, outcome_from}
+use Rattle.rows.specs.Outcome.{tick_limit, ratio_limit, some_above}
+use Rattle.rows.specs.inner.FromTerms.{Most, row_over, over_up}
 
 -- what is so below k, and at k, is so below k + 1
 each_more : (P : ℕ → Type 0) {k : ℕ} → ((i : ℕ) → i < k → P i) → P k → (i : ℕ) → i < k + 1 → P i
@@ -55,7 +53,7 @@ over_row : (x : Terms) (n k : ℕ) → over_up x (suc n) k ≡ row_over x k (ove
 unfolding over_up
 over_row x n k = refl
 
-over_end : (x : Terms) (k : ℕ) → over_up x 0 k ≡ Within
+over_end : (x : Terms) (k : ℕ) → over_up x 0 k ≡ None
 unfolding over_up
 over_end x k = refl
 
@@ -73,40 +71,24 @@ module _ {x : Terms} where
       ∙ ap (λ (n : ℕ). row_over x k (over_up x (branches - (k + 1)) n)) f
 
   pub over_ticks_lem : {k : ℕ} → Looked x k → k < branches →
-      some_above tick_limit (get_or x.plus k 0 ∷ get_or x.minus k 0 ∷ []) ≡ true → Ticks (k + 1) ≡ over_up x branches 0
-  over_ticks_lem {k} s h a = let f : suc k ≡ k + 1 = omega arith in sym (looked_row s h ∙ rw a (ap Ticks f))
+      some_above tick_limit (get_or x.plus k 0 ∷ get_or x.minus k 0 ∷ []) ≡ true →
+      Some (Ticks (k + 1)) ≡ over_up x branches 0
+  over_ticks_lem {k} s h a =
+      let f : suc k ≡ k + 1 = omega arith in sym (looked_row s h ∙ rw a (ap (λ (n : ℕ). Some (Ticks n)) f))
 
   pub over_injection : {k : ℕ} → Looked x k → k < branches →
       some_above tick_limit (get_or x.plus k 0 ∷ get_or x.minus k 0 ∷ []) ≡ false →
       some_above ratio_limit (get_or x.left k 0 ∷ get_or x.right k 0 ∷ []) ≡ true →
-      Injection (k + 1) ≡ over_up x branches 0
+      Some (Injection (k + 1)) ≡ over_up x branches 0
   over_injection {k} s h a b =
-      let f : suc k ≡ k + 1 = omega arith in sym (looked_row s h ∙ rw (a, b) (ap Injection f))
+      let f : suc k ≡ k + 1 = omega arith in sym (looked_row s h ∙ rw (a, b) (ap (λ (n : ℕ). Some (Injection n)) f))
 
   pub looked_more : {k : ℕ} → Looked x k → k < branches →
       some_above tick_limit (get_or x.plus k 0 ∷ get_or x.minus k 0 ∷ []) ≡ false →
       some_above ratio_limit (get_or x.left k 0 ∷ get_or x.right k 0 ∷ []) ≡ false → Looked x (k + 1)
   looked_more {k} s h a b = record { rest = looked_row s h ∙ rw (a, b) refl }
 
-  pub looked_all : {k : ℕ} → branches ≤ k → Looked x k → Within ≡ over_up x branches 0
+  pub looked_all : {k : ℕ} → branches ≤ k → Looked x k → None ≡ over_up x branches 0
   looked_all {k} h s =
       let e : branches - k ≡ 0 = omega arith in
       sym (s.rest ∙ ap (λ (n : ℕ). over_up x n k) e ∙ over_end x k)
-
--- ---- the outcome by the row that overloads first
-
-abbrev nothing : Over → Outcome
-nothing o = record { over = o; ticks = replicate branches (pos 0) }
-
-module _ (x : Terms) where
-  pub outcome_within : {t : List ℤ} → over_up x branches 0 ≡ Within → t ≡ all_ticks x →
-      outcome_at Within t ≡ outcome_from x
-  outcome_within e f = ap (outcome_at Within) f ∙ sym (ap (λ (o : Over). outcome_at o (all_ticks x)) e)
-
-  pub outcome_ticks : {k : ℕ} → over_up x branches 0 ≡ Ticks k → nothing (Ticks k) ≡ outcome_from x
-  unfolding list_up
-  outcome_ticks e = sym (ap (λ (o : Over). outcome_at o (all_ticks x)) e)
-
-  pub outcome_injection : {k : ℕ} → over_up x branches 0 ≡ Injection k → nothing (Injection k) ≡ outcome_from x
-  unfolding list_up
-  outcome_injection e = sym (ap (λ (o : Over). outcome_at o (all_ticks x)) e)

@@ -8,12 +8,12 @@ use mathlib.Core.Logic.{◌⊎◌, inl, inr}
 use native.Mathlib.Omega.{arith}
 use lib.ListN.{get_or, length}
 use lib.IntN.{ℤ, sub_ℕ}
+use Rattle.std.specs.Prelude.{Option, Some, None}
 use Rattle.refusal.specs.Unique.{unique_by_equation}
 use Rattle.whole.specs.laws.Biased.{below_or_not}
 use Rattle.quotients.specs.Quotient.{quotient_of}
 use Rattle.rows.specs.OfCard.WorkedCard.{WorkedCard}
 use Rattle.rows.specs.declared.Over.{Over}
-use Rattle.rows.specs.declared.Over.TheVariants.{Within, Ticks, Injection}
 use Rattle.rows.specs.OfTerms.Terms.{Terms}
 use Rattle.rows.specs.OfTerms.Rows.{Role, Summand, unit, root, Divisor, undivided, sum_of, exps, Row, rows_for, branches}
 use Rattle.rows.specs.OfTerms.Values.{ratio_of}
@@ -83,7 +83,7 @@ module _ (c : WorkedCard) (v : Role → Role → ℤ) where
       divided_of p m l g ≡ row_ticks c v r
   row_is {r} t a b = divided_is r r.divisor t.counted t.left t.right a b
 
-  pub ticks_are : {x : Terms} {k : ℕ} {rows : List Row} → RowsAt c v x k rows → over_up x (length rows) k ≡ Within →
+  pub ticks_are : {x : Terms} {k : ℕ} {rows : List Row} → RowsAt c v x k rows → over_up x (length rows) k ≡ None →
       list_up (ticks_at x) (length rows) k ≡ map (row_ticks c v) rows
   unfolding over_up list_up
   ticks_are none e = refl
@@ -98,11 +98,10 @@ module _ (c : WorkedCard) (v : Role → Role → ℤ) where
   unfolding list_up
   outcome_is {x} t = go (over_up x branches 0) refl (over_is t.rows)
     where
-      go : (o : Over) → over_up x branches 0 ≡ o → over_up x branches 0 ≡ first_over c v 1 (rows_for c.exsub) →
+      go : (o : Option Over) → over_up x branches 0 ≡ o → over_up x branches 0 ≡ first_over c v 1 (rows_for c.exsub) →
           outcome_from x ≡ outcome_at (first_over c v 1 (rows_for c.exsub)) (map (row_ticks c v) (rows_for c.exsub))
-      go Within e f = rw (← f, e, ticks_are t.rows e)
-      go (Ticks k) e f = rw (← f, e)
-      go (Injection k) e f = rw (← f, e)
+      go None e f = rw (← f, e, ticks_are t.rows e)
+      go (Some o) e f = rw (← f, e)
 
   -- whatever terms are permitted, they have one outcome
   pub unique_outcome : {x y : Terms} → TermsOf c v x → TermsOf c v y → outcome_from x ≡ outcome_from y
@@ -111,14 +110,14 @@ module _ (c : WorkedCard) (v : Role → Role → ℤ) where
 -- ---- terms that are within, and rows of which none overloads
 
 module _ (x : Terms) where
-  passes_row : (n k : ℕ) → over_up x (suc n) k ≡ Within →
+  passes_row : (n k : ℕ) → over_up x (suc n) k ≡ None →
       Passes (some_above tick_limit (get_or x.plus k 0 ∷ get_or x.minus k 0 ∷ [])) (some_above ratio_limit
       (get_or x.left k 0 ∷ get_or x.right k 0 ∷ [])) (over_up x n (suc k))
   unfolding over_up
   passes_row n k e = passes (some_above tick_limit (get_or x.plus k 0 ∷ get_or x.minus k 0 ∷ [])) (some_above ratio_limit
       (get_or x.left k 0 ∷ get_or x.right k 0 ∷ [])) (suc k) (over_up x n (suc k)) e
 
-  pub not_over : (n k : ℕ) → over_up x n k ≡ Within → (i : ℕ) → k ≤ i → i < k + n → NotOver x i
+  pub not_over : (n k : ℕ) → over_up x n k ≡ None → (i : ℕ) → k ≤ i → i < k + n → NotOver x i
   not_over zero k e i a b = absurd (omega arith)
   not_over (suc n) k e i a b =
       go (below_or_not k i) (λ h. not_over n (suc k) (passes_row n k e).later i h (omega arith))
@@ -134,7 +133,7 @@ module _ (x : Terms) where
       go (inl h) later = later h
       go (inr h) later = let s : k ≡ i = omega arith in rw s at here
 
-  pub none_over : (n k : ℕ) → ((i : ℕ) → k ≤ i → i < k + n → NotOver x i) → over_up x n k ≡ Within
+  pub none_over : (n k : ℕ) → ((i : ℕ) → k ≤ i → i < k + n → NotOver x i) → over_up x n k ≡ None
   unfolding over_up
   none_over zero k h = refl
   none_over (suc n) k h =
@@ -142,12 +141,12 @@ module _ (x : Terms) where
       rw (none_above _ _ _ w.plus w.minus, none_above _ _ _ w.left w.right)
       (none_over n (suc k) (λ i a b. h i (omega arith) (omega arith)))
 
-  pub fine : over_up x branches 0 ≡ Within → Fine x
+  pub fine : over_up x branches 0 ≡ None → Fine x
   fine e = record { at = λ k h. not_over branches 0 e k (omega arith) (omega arith) }
 
   -- numbers that no T, and none that no floor, is above
   pub low_within : {ticks parts : ℕ} → Most x.plus x.minus ticks → ticks ≤ tick_limit →
-      Most x.left x.right parts → parts ≤ ratio_limit → over_up x branches 0 ≡ Within
+      Most x.left x.right parts → parts ≤ ratio_limit → over_up x branches 0 ≡ None
   low_within t a p b = none_over branches 0 (λ i l q. at i (omega arith))
     where
       at : (i : ℕ) → i < branches → NotOver x i

@@ -11,9 +11,9 @@ ghost use Rattle.rows.specs.inner.FromTerms.{Most, over_up, outcome_from};
 
 use octave::Table;
 pub use rows;
+use rows::Over;
 pub use rows::terms;
 use rows::terms::{BRANCHES, ROLES, Ready, TICKS_MOST, Terms};
-use rows::{Outcome, Over};
 
 // The most that a ratio's floor may be.
 const PARTS_MOST: u64 = 1099511627776;
@@ -31,37 +31,36 @@ fn all_digits(a: &[u64; BRANCHES], b: &[u64; BRANCHES]) -> u64
 {
     let mut all: u64 = 0;
     for k in 0..BRANCHES {
-        let both = digits(a[k], b[k]);
-        all = digits(all, both);
+        all = digits(all, digits(a[k], b[k]));
     }
     all
 }
 
-// The first row that overloads.
-fn first_over(x: Terms) -> Over
+// The first row that overloads, where any does.
+fn first_over(x: Terms) -> Option<Over>
     ensures { result ≡ over_up x branches 0 }
 {
     for k in 0..BRANCHES {
         let number = k as u32 + 1;
         if TICKS_MOST < x.plus[k] {
-            return Over::Ticks(number);
+            return Some(Over::Ticks(number));
         }
         if TICKS_MOST < x.minus[k] {
-            return Over::Ticks(number);
+            return Some(Over::Ticks(number));
         }
         if PARTS_MOST < x.left[k] {
-            return Over::Injection(number);
+            return Some(Over::Injection(number));
         }
         if PARTS_MOST < x.right[k] {
-            return Over::Injection(number);
+            return Some(Over::Injection(number));
         }
     }
-    Over::Within
+    None
 }
 
-// The first row that overloads. Where the digits of all floors and of all T's stay within the limits, none does, and no
-// row is looked at by itself.
-fn judged(x: Terms) -> Over
+// The first row that overloads, where any does. Where the digits of all floors and of all T's stay within the limits,
+// none does, and no row is looked at by itself.
+fn judged(x: Terms) -> Option<Over>
     ensures { result ≡ over_up x branches 0 }
 {
     let left = x.left;
@@ -70,41 +69,26 @@ fn judged(x: Terms) -> Over
         let plus = x.plus;
         let minus = x.minus;
         if all_digits(&plus, &minus) <= TICKS_MOST {
-            return Over::Within;
+            return None;
         }
     }
     first_over(x)
 }
 
-fn outcome(x: Terms) -> Outcome
+fn outcome(x: Terms) -> Result<[i64; BRANCHES], Over>
     ensures { result ≡ outcome_from x }
 {
-    let o = judged(x);
-    match o {
-        Over::Within => {
-            let ticks = rows::all_divided(x);
-            Outcome {
-                over: Over::Within,
-                ticks: ticks,
-            }
-        }
-        Over::Ticks(k) => Outcome {
-            over: Over::Ticks(k),
-            ticks: [0i64; BRANCHES],
-        },
-        Over::Injection(k) => Outcome {
-            over: Over::Injection(k),
-            ticks: [0i64; BRANCHES],
-        },
+    match judged(x) {
+        None => Ok(rows::all_divided(x)),
+        Some(o) => Err(o),
     }
 }
 
 // The outcome of a card made ready at the kept voltages of its roles, as an NPN has it. The table is lent, so that a
 // caller makes it once.
-pub fn work_out(t: &Table, r: Ready, v: &[u32; ROLES]) -> Outcome
+pub fn work_out(t: &Table, r: Ready, v: &[u32; ROLES]) -> Result<[i64; BRANCHES], Over>
     requires { Askable t.now r v.now }
     ensures { result ≡ outcome_across r.card (bias_of (map given_back v.now)) }
 {
-    let x = values::all_terms(t, r, v);
-    outcome(x)
+    outcome(values::all_terms(t, r, v))
 }

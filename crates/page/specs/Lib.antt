@@ -1,4 +1,4 @@
--- A lent buffer that is filled from its start; `laws` has what follows.
+-- A page that is filled from its start; `laws` has what follows.
 pub mod Page
 pub mod Unique
 pub mod laws

@@ -1,23 +1,36 @@
-// Bytes written in a lent buffer after those that are used. What there is no room for is left out.
+// A page: bytes written after those that are used. What there is no room for is left out.
 #![tactic(auto)]
 
+ghost use Rattle.std.specs.Prelude.{◌≡◌, take};
 ghost use Rattle.page.specs.Page.{Writes};
 
 // Room for the bytes that wait to be written.
 pub const ROOM: usize = 65536;
 
-pub fn put(s: &[u8], out: &mut [u8], at: usize) -> usize
-    ensures { Writes s.now out.old at out.new result }
-{
-    let mut used = at;
-    let mut i = 0;
-    while i < s.len() {
-        if out.len() <= used {
-            return used;
+// The first `used` bytes are written.
+#[derive(Drop)]
+pub struct Page<const N: usize> {
+    pub bytes: [u8; N],
+    pub used: usize,
+}
+
+impl<const N: usize> Page<N> {
+    pub fn put(&mut self, s: &[u8])
+        ensures { Writes s.now self.old self.new }
+    {
+        let at = self.used;
+        let bytes = &mut self.bytes[..];
+        if at < N {
+            let kept = s.len().min(N - at);
+            bytes[at..at + kept].copy_from_slice(&s[..kept]);
+            self.used = at + kept;
         }
-        out[used] = s[i];
-        used += 1;
-        i += 1;
     }
-    used
+
+    // The bytes that are written.
+    pub fn written(&self) -> &[u8]
+        ensures { result.now ≡ take self.now.used self.now.bytes }
+    {
+        &self.bytes[..self.used.min(N)]
+    }
 }

@@ -8,8 +8,8 @@ ghost use Rattle.totals.specs.Gives.{nodes_most};
 ghost use Rattle.model.specs.Desk.{moved_to};
 ghost use Rattle.pairs.specs.inner.Pairs.{KeepsPairs, NamesAny};
 
+use refusal::Refusal;
 use totals::NODES;
-use volts::Voltage;
 
 // The most numbers of a list: a node and its voltage for every node.
 const NUMBERS: usize = 2 * NODES;
@@ -27,23 +27,20 @@ pub fn are_pairs(pairs: &[i64]) -> bool
     n % 2 == 0
 }
 
-// Keeps the voltage of each pair at its node, the last one of a node last; or tells that a pair is out of range.
-pub fn keep_pairs(will: &mut [u32; NODES], pairs: &[i64]) -> bool
+// Keeps the voltage of each pair at its node, the last one of a node last: 13 where a pair is out of range.
+pub fn keep_pairs(will: &mut [u32; NODES], pairs: &[i64]) -> Result<(), Refusal>
     ensures { KeepsPairs pairs.now will.old result will.new }
 {
-    let mut i: usize = 0;
-    while i + 1 < pairs.len() {
-        let n = given::node_of(pairs[i]) as usize;
+    let mut rest = pairs;
+    while let [node, microvolts, more @ ..] = rest {
+        let n = given::node_of(*node) as usize;
         if NODES <= n {
-            return false;
+            return Err(Refusal::OutOfRange);
         }
-        let Voltage::Kept(v) = volts::keep(pairs[i + 1]) else {
-            return false;
-        };
-        will[n] = v;
-        i += 2;
+        will[n] = volts::keep(*microvolts).ok_or(Refusal::OutOfRange)?;
+        rest = more;
     }
-    true
+    Ok(())
 }
 
 // Writes the voltage of each pair to a slice of 32, at its node, the last one of a node last.
@@ -52,11 +49,11 @@ pub fn put_pairs(volts: &mut [i64], pairs: &[i64])
     requires pairs_value { some_pair_off pairs.now ≡ false }
     ensures { volts.new ≡ moved_to volts.old (shifts_of pairs.now) }
 {
-    let mut k: usize = 0;
-    while k + 1 < pairs.len() {
-        let at = given::node_of(pairs[k]) as usize;
-        volts[at] = pairs[k + 1];
-        k += 2;
+    let mut rest = pairs;
+    while let [node, v, more @ ..] = rest {
+        let at = given::node_of(*node) as usize;
+        volts[at] = *v;
+        rest = more;
     }
 }
 
@@ -66,11 +63,11 @@ pub fn naming_any(naming: &[u64; NODES], pairs: &[i64]) -> u64
     ensures { NamesAny pairs.now naming.now result }
 {
     let mut set: u64 = 0;
-    let mut k: usize = 0;
-    while k + 1 < pairs.len() {
-        let named = given::node_of(pairs[k]) as usize;
-        set = set | naming[named];
-        k += 2;
+    let mut rest = pairs;
+    while let [node, _, more @ ..] = rest {
+        let named = given::node_of(*node) as usize;
+        set |= naming[named];
+        rest = more;
     }
     set
 }

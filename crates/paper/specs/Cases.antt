@@ -1,5 +1,6 @@
 -- The worked cases that are proved, as one list. Each works a value from the very definitions that the contracts
 -- cite; `paper_agrees` in proofs/ is the theorem.
+use Rattle.std.specs.Prelude.{Option, Some, None}
 use Rattle.std.specs.Prelude.{List, [], ◌∷◌, ◌++◌, ℕ, get_or, take, replicate, ℤ, pos, negsuc, neg_ℤ}
 use Rattle.std.specs.Float.{nan, binary64}
 use Rattle.std.specs.Float.Ieee.{to_bits}
@@ -13,9 +14,9 @@ use Rattle.card.specs.declared.WorkedCard.{WorkedCard}
 use Rattle.clip.specs.Clip.{clip_of, numbers_of, mask_of}
 use Rattle.card.specs.Judge.{judge_of}
 use Rattle.rows.specs.declared.Over.{Over}
-use Rattle.rows.specs.declared.Over.TheVariants.{Within, Ticks, Injection}
+use Rattle.rows.specs.declared.Over.TheVariants.{Ticks, Injection}
 use Rattle.terms.specs.Rows.{roles}
-use Rattle.rows.specs.Outcome.{outcome_across}
+use Rattle.rows.specs.Outcome.{told_over, told_ticks, outcome_across}
 use Rattle.polarity.specs.Polarity.{outcome_of}
 use Rattle.model.specs.declared.Answer.{Answer}
 use Rattle.model.specs.declared.Answer.TheVariants.{Issue, Done, Node, Currents, Listed, Summed, Refused}
@@ -32,7 +33,8 @@ the_card = words_of two_to_minus_40 one 0 one
 -- row k, from 0, of a judged card, with the base at v microvolts and every other role at 0
 abbrev pub ticks_at : Verdict WorkedCard → ℕ → ℤ → List ℤ
 ticks_at (no f) k v = []
-ticks_at (yes c) k v = get_or (outcome_of c (pos 0 ∷ v ∷ v ∷ pos 0 ∷ pos 0 ∷ pos 0 ∷ pos 0 ∷ [])).ticks k (pos 0) ∷ []
+ticks_at (yes c) k v =
+    get_or (told_ticks (outcome_of c (pos 0 ∷ v ∷ v ∷ pos 0 ∷ pos 0 ∷ pos 0 ∷ pos 0 ∷ []))) k (pos 0) ∷ []
 
 -- the ideal value 2^-40 with less-one is row 2 of the paper's card
 unfoldable pub ideal : ℤ → List ℤ
@@ -56,23 +58,24 @@ five v = ticks_at (judge_of (record_of knee)) 4 v
 abbrev pub main_of : Verdict WorkedCard → ℤ → ℤ → List ℤ
 main_of (no f) e c = []
 main_of (yes w) e c =
-    get_or (outcome_of w (neg_ℤ e ∷ pos 0 ∷ pos 0 ∷ pos 0 ∷ neg_ℤ c ∷ pos 0 ∷ pos 0 ∷ [])).ticks 0 (pos 0) ∷ []
+    get_or (told_ticks (outcome_of w (neg_ℤ e ∷ pos 0 ∷ pos 0 ∷ pos 0 ∷ neg_ℤ c ∷ pos 0 ∷ pos 0 ∷ []))) 0 (pos 0) ∷ []
 
 unfoldable pub main_at : ℤ → ℤ → List ℤ
 unfolding record_of judge_of outcome_across outcome_of
 main_at e c = main_of (judge_of (record_of knee)) e c
 
 -- what overloads: nothing, or a row by its T or by its ratio
-abbrev pub over_numbers : Over → List ℤ
-over_numbers Within = []
-over_numbers (Ticks k) = pos 15 ∷ pos k ∷ []
-over_numbers (Injection k) = pos 18 ∷ pos k ∷ []
+abbrev pub over_numbers : Option Over → List ℤ
+over_numbers None = []
+over_numbers (Some (Ticks k)) = pos 15 ∷ pos k ∷ []
+over_numbers (Some (Injection k)) = pos 18 ∷ pos k ∷ []
 
 -- the paper's card with this a * 2^b in place of s_n, at 0 microvolts throughout
 abbrev pub with_sn : Split → Verdict WorkedCard → List ℤ
 with_sn s (no f) = []
 with_sn s (yes c) =
     over_numbers
+    (told_over
     (outcome_of
     (record {
       sn = s;
@@ -99,8 +102,7 @@ with_sn s (yes c) =
       rcblx_zero = c.rcblx_zero;
       wide = c.wide;
     })
-    (replicate roles (pos 0))
-    ).over
+    (replicate roles (pos 0))))
 
 -- the mask of a record's clipping, and the bits of its number i
 abbrev pub clip_shows : ℕ → List ℕ → List ℤ

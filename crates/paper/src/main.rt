@@ -8,49 +8,46 @@ mod records; // records.rt: the cards of the cases, as bytes
 mod shown; // shown.rt: a line of output
 
 use board::{Answer, Answered, Board};
-use branch::{Admission, Reply};
+use branch::BRANCHES;
 use records::RECORD;
+use refusal::Refusal;
 use std::io;
 
-// The refusal's number; 0 where there is none.
-fn told_number(a: Admission) -> i64 {
-    match a {
-        Admission::Given => 0,
-        Admission::Refused(f) => refusal::number(f) as i64,
-    }
-}
-
 // The reply for a record with the base at v microvolts and every other role at 0.
-fn at_base(bytes: [u8; RECORD], v: i64) -> Reply {
+fn at_base(bytes: [u8; RECORD], v: i64) -> Result<[i64; BRANCHES], Refusal> {
     branch::currents(&bytes, &[0, v, v, 0, 0, 0, 0, 0, 0, 0, 0])
 }
 
+// The refusal's number; 0 where there is none.
 fn refusal_at(bytes: [u8; RECORD], v: i64) -> i64 {
-    let r = at_base(bytes, v);
-    let a = r.admission;
-    told_number(a)
+    match at_base(bytes, v) {
+        Ok(_) => 0,
+        Err(f) => refusal::number(f) as i64,
+    }
 }
 
-// Row 5 at v microvolts.
+// Row 5 at v microvolts; 0 where there is a refusal.
 fn fifth(bytes: [u8; RECORD], v: i64) -> i64 {
-    let r = at_base(bytes, v);
-    r.ticks[4]
+    match at_base(bytes, v) {
+        Ok(ticks) => ticks[4],
+        Err(_) => 0,
+    }
 }
 
+// The clip mask; 0 where there is a refusal.
 fn mask_of(bytes: [u8; RECORD]) -> i64 {
-    let c = card::clip(&bytes);
-    c.mask as i64
+    match card::clip(&bytes) {
+        Ok(clipping) => clipping.mask as i64,
+        Err(_) => 0,
+    }
 }
 
 // An answer as a number: what was issued, a node's ticks, how many are listed or summed, or 0.
 fn answer_number(a: Answer) -> i64 {
     match a {
-        Answer::Issue(n) => n as i64,
-        Answer::Done => 0,
+        Answer::Done | Answer::Currents => 0,
         Answer::Node(_, ticks) => ticks,
-        Answer::Currents => 0,
-        Answer::Listed(n) => n as i64,
-        Answer::Summed(n, _, _) => n as i64,
+        Answer::Issue(n) | Answer::Listed(n) | Answer::Summed(n, _, _) => n as i64,
         Answer::Refused(f) => refusal::number(f) as i64,
     }
 }
@@ -59,9 +56,7 @@ fn answer_number(a: Answer) -> i64 {
 fn total(b: Board, volts: &[i64; Board::NODES], totals: &[i64; Board::NODES], n: i64) -> i64
     requires { Reached b }
 {
-    let r = b.read_node(volts, totals, n);
-    let a = r.answer;
-    answer_number(a)
+    answer_number(b.read_node(volts, totals, n).answer)
 }
 
 fn show_totals(
@@ -131,8 +126,7 @@ fn stand_again(
     let gone = lift(b, volts, totals, 2);
     show_totals(rt, gone.board, volts, totals, b"lifted", 0, 0, 0, 0)?;
     let again = stand(gone.board, volts, totals);
-    let anew = again.answer;
-    shown::line(rt, b"place again", b"", answer_number(anew), 3)?;
+    shown::line(rt, b"place again", b"", answer_number(again.answer), 3)?;
     show_totals(
         rt,
         again.board,
@@ -150,11 +144,9 @@ fn run_board(rt: &HostRuntime) -> io::Result<()> {
     let mut volts = [0i64; Board::NODES];
     let mut totals = [0i64; Board::NODES];
     let loaded = begin(&mut volts, &mut totals);
-    let card = loaded.answer;
-    shown::line(rt, b"load", b"", answer_number(card), 1)?;
+    shown::line(rt, b"load", b"", answer_number(loaded.answer), 1)?;
     let first = stand(loaded.board, &volts, &mut totals);
-    let placed = first.answer;
-    shown::line(rt, b"place", b"", answer_number(placed), 2)?;
+    shown::line(rt, b"place", b"", answer_number(first.answer), 2)?;
     let one = move_node(first.board, &mut volts, &mut totals, 1, 16000);
     let two = move_node(one.board, &mut volts, &mut totals, 2, 16000);
     stand_again(rt, two.board, &volts, &mut totals)
@@ -171,8 +163,7 @@ fn stage_on(volts: &mut [i64; Board::NODES], totals: &mut [i64; Board::NODES]) -
     let two = one
         .board
         .place(volts, totals, 1, [1, 2, 2, 3, 3, 3, 0, -1, -1, -1, -1]);
-    let stage = move_node(two.board, volts, totals, 3, 2000000);
-    stage.board
+    move_node(two.board, volts, totals, 3, 2000000).board
 }
 
 // Both bases of the stage lifted together.
@@ -185,8 +176,7 @@ fn lift_both(
     requires { Reached b }
 {
     let both = b.move_all(volts, totals, &[1, 2000000, 2, 2000000]);
-    let together = both.answer;
-    shown::line(rt, b"both lifted", b"", answer_number(together), 0)
+    shown::line(rt, b"both lifted", b"", answer_number(both.answer), 0)
 }
 
 // Two of the paper's transistors, the base of each on the other's emitter: which of its nodes can be lifted by 2 V.
@@ -195,11 +185,9 @@ fn run_stage(rt: &HostRuntime) -> io::Result<()> {
     let mut totals = [0i64; Board::NODES];
     let stage = stage_on(&mut volts, &mut totals);
     let base = move_node(stage, &mut volts, &mut totals, 1, 2000000);
-    let alone = base.answer;
-    shown::line(rt, b"node 1 lifted", b"", answer_number(alone), 15)?;
+    shown::line(rt, b"node 1 lifted", b"", answer_number(base.answer), 15)?;
     let emitter = move_node(base.board, &mut volts, &mut totals, 2, 2000000);
-    let other = emitter.answer;
-    shown::line(rt, b"node 2 lifted", b"", answer_number(other), 15)?;
+    shown::line(rt, b"node 2 lifted", b"", answer_number(emitter.answer), 15)?;
     lift_both(rt, emitter.board, &mut volts, &mut totals)
 }
 
@@ -209,8 +197,7 @@ fn list_into_none(rt: &HostRuntime, b: Board) -> io::Result<()>
 {
     let mut none = [7u32; 0];
     let r = b.list_node(3, &mut none);
-    let answer = r.answer;
-    shown::line(rt, b"list of two into 0", b"", answer_number(answer), 5)
+    shown::line(rt, b"list of two into 0", b"", answer_number(r.answer), 5)
 }
 
 // Into one a number short.
@@ -219,8 +206,7 @@ fn list_into_one(rt: &HostRuntime, b: Board) -> io::Result<()>
 {
     let mut short = [7u32; 1];
     let r = b.list_node(3, &mut short);
-    let answer = r.answer;
-    shown::line(rt, b"list of two into 1", b"", answer_number(answer), 5)?;
+    shown::line(rt, b"list of two into 1", b"", answer_number(r.answer), 5)?;
     shown::line(rt, b"list of two into 1", b" left", wide(short[0]), 7)
 }
 
@@ -230,8 +216,7 @@ fn list_into_two(rt: &HostRuntime, b: Board) -> io::Result<()>
 {
     let mut exact = [7u32; 2];
     let r = b.list_node(3, &mut exact);
-    let answer = r.answer;
-    shown::line(rt, b"list of two into 2", b"", answer_number(answer), 2)?;
+    shown::line(rt, b"list of two into 2", b"", answer_number(r.answer), 2)?;
     shown::line(rt, b"list of two into 2", b" first", wide(exact[0]), 2)?;
     shown::line(rt, b"list of two into 2", b" second", wide(exact[1]), 3)
 }
@@ -242,8 +227,7 @@ fn list_into_three(rt: &HostRuntime, b: Board, node: i64, count: i64, second: i6
 {
     let mut long = [7u32; 3];
     let r = b.list_node(node, &mut long);
-    let answer = r.answer;
-    shown::line(rt, b"list into 3", b"", answer_number(answer), count)?;
+    shown::line(rt, b"list into 3", b"", answer_number(r.answer), count)?;
     shown::line(rt, b"list into 3", b" second", wide(long[1]), second)?;
     shown::line(rt, b"list into 3", b" left", wide(long[2]), 7)
 }

@@ -9,10 +9,8 @@ const ONE: u64 = 0x3ff0000000000000;
 // The words of a record, their lowest bytes first.
 fn bytes(words: [u64; clip::NARROW]) -> [u8; RECORD] {
     let mut b = [0u8; RECORD];
-    for i in 0..RECORD {
-        let w = words[i / 8];
-        let s = 8 * (i % 8) as u64;
-        b[i] = ((w >> s) % 256) as u8;
+    for (part, w) in b.chunks_exact_mut(8).zip(words) {
+        part.copy_from_slice(&w.to_le_bytes());
     }
     b
 }

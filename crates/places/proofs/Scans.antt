@@ -1,26 +1,21 @@
 -- Going through the places of a list one after the other: what is known once i of them are passed. For elements of
 -- any kind.
-use mathlib.Core.Path.{◌≡◌, refl, sym, ◌∙◌}
-use mathlib.Core.Bool.{Bool, true, false, cond, ◌||◌}
+use mathlib.Core.Path.{◌≡◌, refl, sym, ap, ◌∙◌}
+use mathlib.Core.Bool.{Bool, true, false, ◌||◌}
 use mathlib.Core.List.{List, [], ◌∷◌}
-use Prim.Native.Nat.{ℕ, zero, suc, ◌+◌, ◌-◌, ◌≤◌, ◌<◌, zero-le}
+use Prim.Native.Nat.{ℕ, zero, suc, ◌+◌, ◌-◌, ◌≤◌, ◌<◌}
 use native.Mathlib.Nat.{zero-add}
 use native.Mathlib.Numerals.{add-one}
 use native.Mathlib.Omega.{arith}
-use lib.Dec.{ltb}
 use lib.ListN.{length, get_or, drop, drop_of_length-le}
-use lib.Seq.{drop-cons, ext_get_or}
-use borrow.Author.Tests.{ltb-false}
+use lib.Seq.{drop-cons}
+use borrow.Author.Tests.{lt-ltb, le-ltb}
 use Rattle.refusal.specs.Clash.{clash}
-use Rattle.deck.specs.OfRows.laws.Filled.{Filled}
-use Rattle.deck.specs.Stretch.{stretch}
 use Rattle.deck.specs.laws.Ups.{length_up, get_or_up}
-use Rattle.deck.specs.laws.Stretches.{length_stretch, get_or_stretch}
 use Rattle.given.specs.Lists.{any_of, larger, largest}
 use Rattle.given.specs.Arguments.{none, some}
 use Rattle.places.specs.Finding.{first, found_at}
 use Rattle.places.specs.inner.Flat.{below, is_at, first_at}
-use Rattle.places.specs.inner.Parts.{place_or}
 
 -- none of the first i passes the test, so that the first that does is looked for in the rest
 pub record Passed {A : Type 0} (p : A → Bool) (l : List A) (i : ℕ) : Type 0 where
@@ -74,31 +69,31 @@ none_of p (a ∷ rest) d e i h = go (p a) refl e i h (λ k j q. none_of p rest d
     go false q e zero h next = q
     go false q e (suc i) h next = next e i (omega arith)
 
-first_most : {A : Type 0} (p : A → Bool) (l : List A) → first p l ≤ length l
-unfolding first
-first_most p [] = zero-le
-first_most p (a ∷ rest) = go (p a) (first_most p rest)
-  where
-    go : (t : Bool) → first p rest ≤ length rest → cond t 0 (suc (first p rest)) ≤ suc (length rest)
-    go true h = zero-le
-    go false h = omega arith
-
-pub first_place : (most n : ℕ) (numbers : List ℕ) → first_at most n numbers ≤ most
-first_place most n numbers =
-    let m = first_most (is_at n numbers) (below most) in
-    let l = length_up (λ (i : ℕ). i) most 0 in omega arith
-
--- a place found among so many, as a number
-pub place_is : (most i : ℕ) → i ≤ most → i ≡ place_or most (found_at most i)
-place_is most i h = go (ltb i most) refl
-  where
-    go : (t : Bool) → ltb i most ≡ t → i ≡ place_or most (cond t (some i) none)
-    go true e = refl
-    go false e = let k = ltb-false i most e in omega arith
-
 -- the numbers below n, each at its own place
 pub below_at : (n i : ℕ) → i < n → get_or (below n) i 0 ≡ i
 below_at n i h = get_or_up (λ (j : ℕ). j) n 0 i 0 h ∙ zero-add i
+
+-- a place that does not pass
+pub passes_on : (most n : ℕ) (numbers : List ℕ) {i : ℕ} → i < most → is_at n numbers i ≡ false →
+    Passed (is_at n numbers) (below most) i → Passed (is_at n numbers) (below most) (i + 1)
+passes_on most n numbers {i} h e s =
+    let l = length_up (λ (j : ℕ). j) most 0 in
+    goes_on 0 (omega arith) (ap (is_at n numbers) (below_at most i h) ∙ e) s
+
+-- a place that was looked at, and passes, is the first; where none did, none is
+pub found_here : (most n : ℕ) (numbers : List ℕ) {i : ℕ} → i < most → is_at n numbers i ≡ true →
+    Passed (is_at n numbers) (below most) i → some i ≡ found_at most (first_at most n numbers)
+found_here most n numbers {i} h e s =
+    let l = length_up (λ (j : ℕ). j) most 0 in
+    let f = first_here {p = is_at n numbers} {l = below most} 0 (omega arith) (ap (is_at n numbers) (below_at most i h) ∙ e) s in
+    rw (← f, lt-ltb i most h)
+
+pub found_nowhere : (most n : ℕ) (numbers : List ℕ) {i : ℕ} → most ≤ i →
+    Passed (is_at n numbers) (below most) i → none ≡ found_at most (first_at most n numbers)
+found_nowhere most n numbers {i} h s =
+    let l = length_up (λ (j : ℕ). j) most 0 in
+    let f = first_nowhere {p = is_at n numbers} {l = below most} (omega arith) s in
+    rw (← f, le-ltb i most h)
 
 -- the largest from place i - 1 on, by that from i on
 pub largest_more : (l : List ℕ) (i : ℕ) → 0 < i → i ≤ length l →
@@ -110,10 +105,3 @@ largest_more l (suc i) z h = let e : suc i - 1 ≡ i = omega arith in rw (e, dro
 pub largest_none : (l : List ℕ) (i : ℕ) → length l ≤ i → 0 ≡ largest (drop i l)
 unfolding largest
 largest_none l i h = rw (drop_of_length-le l h)
-
--- a list filled from its start with a stretch of another
-pub filled_stretch : {A : Type 0} {d : A} (l : List A) (at : ℕ) {n k : ℕ} {r : List A} → n ≤ k →
-    Filled d n (λ (j : ℕ). get_or l (at + j) d) k r → r ≡ stretch d l at n
-filled_stretch {d = d} l at {n = n} {r = r} h s =
-    ext_get_or d r (stretch d l at n) (s.long ∙ sym (length_stretch d l at n))
-    (λ j q. let m = s.long in s.at j (omega arith) ∙ sym (get_or_stretch d l at n j (omega arith)))

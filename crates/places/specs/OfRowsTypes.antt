@@ -1,3 +1,2 @@
 -- What of `rows` this crate hands on to those that do not list it.
-pub use Rattle.deck.specs.OfRowsTypes.Outcome
 pub use Rattle.deck.specs.OfRowsTypes.Over

@@ -1,61 +1,38 @@
 // Looking through the places of cards and transistors. A place whose issue is 0 is empty.
 ghost use Rattle.std.specs.Prelude.{◌≡◌};
-ghost use Rattle.places.specs.Counts.{cards_most, transistors_most};
-ghost use Rattle.places.specs.Finding.{on_card};
-ghost use Rattle.places.specs.inner.Parts.{place_or};
+ghost use Rattle.places.specs.Finding.{found_at, on_card};
+ghost use Rattle.places.specs.inner.Parts.{found};
 ghost use Rattle.places.specs.inner.Flat.{first_at, number_place, any_on};
 
-use crate::{CARDS, TRANSISTORS};
+use crate::TRANSISTORS;
 
-pub fn find_card(held: &[u32; CARDS], n: u32) -> usize
-    ensures { result ≡ first_at cards_most n held.now }
+// The first place that holds the number.
+pub fn find<const N: usize>(numbers: &[u32; N], n: u32) -> Option<usize>
+    ensures { found result ≡ found_at N (first_at N n numbers.now) }
 {
-    for i in 0..CARDS {
-        if held[i] == n {
-            return i;
+    for (i, x) in numbers.iter().enumerate() {
+        if *x == n {
+            return Some(i);
         }
     }
-    CARDS
+    None
 }
 
-pub fn find_transistor(issues: &[u32; TRANSISTORS], n: u32) -> usize
-    ensures { result ≡ first_at transistors_most n issues.now }
-{
-    for i in 0..TRANSISTORS {
-        if issues[i] == n {
-            return i;
-        }
-    }
-    TRANSISTORS
-}
-
-// The place of an issue number, or the number of places.
-pub fn card_at(held: &[u32; CARDS], n: u32) -> usize
-    ensures { result ≡ place_or cards_most (number_place cards_most n held.now) }
+// The place of an issue number; 0 has none.
+pub fn place_of<const N: usize>(numbers: &[u32; N], n: u32) -> Option<usize>
+    ensures { found result ≡ number_place N n numbers.now }
 {
     if n == 0 {
-        return CARDS;
+        return None;
     }
-    find_card(held, n)
-}
-
-pub fn transistor_at(issues: &[u32; TRANSISTORS], n: u32) -> usize
-    ensures { result ≡ place_or transistors_most (number_place transistors_most n issues.now) }
-{
-    if n == 0 {
-        return TRANSISTORS;
-    }
-    find_transistor(issues, n)
+    find(numbers, n)
 }
 
 // Whether a transistor stands on the card.
 fn is_on(issue: u32, card: u32, n: u32) -> bool
     ensures { result ≡ on_card n issue card }
 {
-    if issue == 0 {
-        return false;
-    }
-    card == n
+    issue != 0 && card == n
 }
 
 pub fn any_on(issues: &[u32; TRANSISTORS], cards: &[u32; TRANSISTORS], n: u32) -> bool

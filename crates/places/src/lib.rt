@@ -4,7 +4,7 @@
 mod finds; // finds.rt: looking through the places
 
 use deck::terms::{BRANCHES, ROLES};
-pub use finds::{any_on, card_at, find_card, find_transistor, transistor_at};
+pub use finds::{any_on, find, place_of};
 pub use given::totals;
 
 pub const CARDS: usize = deck::CARDS;

@@ -16,20 +16,19 @@ use refusal::Refusal;
 use terms::{C1, C3, C4, ROLES};
 use totals::NODES;
 
-// The places of the card and of the transistor to be, or the refusal.
+// Where a transistor is to stand: the place of its card, and a free one for itself.
 #[derive(Clone, Copy)]
-pub enum Way {
-    Go(usize, usize),
-    Stop(Refusal),
+pub struct Spot {
+    pub card: usize,
+    pub free: usize,
 }
 
 // Whether a node is none of the board's.
-fn any_off(on: [u8; ROLES]) -> bool
-    ensures { result ≡ any_of (leb nodes_most) on }
+fn any_off(on: &[u8; ROLES]) -> bool
+    ensures { result ≡ any_of (leb nodes_most) on.now }
 {
-    for k in 0..ROLES {
-        let n = on[k] as usize;
-        if NODES <= n {
+    for &n in on {
+        if NODES <= n as usize {
             return true;
         }
     }
@@ -40,7 +39,7 @@ fn any_off(on: [u8; ROLES]) -> bool
 fn parts(held: bool, a: u8, b: u8) -> bool
     ensures { result ≡ (held && not (eqb a b)) }
 {
-    if held { a != b } else { false }
+    held && a != b
 }
 
 // Whether the card at a place holds two roles together that stand apart: C4 and C1, or C3 and C4.
@@ -50,17 +49,16 @@ fn is_split(switches: &[bool; ALL_SWITCHES], i: usize, on: &[u8; ROLES]) -> bool
 {
     let inner = parts(switches[SWITCHES * i + RCBLI_ZERO], on[C4], on[C1]);
     let outer = parts(switches[SWITCHES * i + RCBLX_ZERO], on[C3], on[C4]);
-    if inner { true } else { outer }
+    inner || outer
 }
 
 // Whether the card of a number has all eleven roles; where there is no such card, no node is looked at.
 pub fn is_wide(held: &[u32; CARDS], switches: &[bool; ALL_SWITCHES], n: u32) -> bool
     ensures { result ≡ wide_by (wide_at switches.now) (number_place cards_most n held.now) }
 {
-    let i = places::card_at(held, n);
-    if CARDS <= i {
+    let Some(i) = places::place_of(held, n) else {
         return true;
-    }
+    };
     switches[SWITCHES * i + WIDE]
 }
 
@@ -71,28 +69,25 @@ pub fn may_place(
     next: u32,
     n: u32,
     on: &[u8; ROLES],
-) -> Way
+) -> Result<Spot, Refusal>
     ensures { result ≡ way_of (free_place issues.now)
         (placing (number_place cards_most n held.now) (ties_at switches.now) on.now
         (leb transistors_most (free_place issues.now)) (used_up next)) }
 {
-    let i = places::card_at(held, n);
-    if CARDS <= i {
-        return Way::Stop(Refusal::Unknown);
-    }
-    let own = *on;
-    if any_off(own) {
-        return Way::Stop(Refusal::OutOfRange);
+    let Some(i) = places::place_of(held, n) else {
+        return Err(Refusal::Unknown);
+    };
+    if any_off(on) {
+        return Err(Refusal::OutOfRange);
     }
     if is_split(switches, i, on) {
-        return Way::Stop(Refusal::SplitCollector);
+        return Err(Refusal::SplitCollector);
     }
-    let free = places::find_transistor(issues, 0);
-    if TRANSISTORS <= free {
-        return Way::Stop(Refusal::NoRoom);
-    }
+    let Some(free) = places::find(issues, 0) else {
+        return Err(Refusal::NoRoom);
+    };
     if ISSUES < next {
-        return Way::Stop(Refusal::NumbersUsedUp);
+        return Err(Refusal::NumbersUsedUp);
     }
-    Way::Go(i, free)
+    Ok(Spot { card: i, free })
 }

@@ -7,7 +7,7 @@ ghost use Rattle.page.specs.Page.{Writes};
 ghost use Rattle.poking.specs.Poked.{fit_both, may_poke, pokes, poked_volts, poked_totals, poke_said};
 
 use answers::Answer;
-use page::ROOM;
+use page::{Page, ROOM};
 use script::Command;
 use words::Words;
 
@@ -18,23 +18,14 @@ const NODES: usize = 32;
 fn both_fit(line: &[u8], words: Words) -> bool
     ensures { result ≡ fit_both line.now words }
 {
-    if spelling::fits(words::word(line, words, 2)) {
-        return spelling::fits(words::word(line, words, 3));
-    }
-    false
+    spelling::fits(words::word(line, words, 2)) && spelling::fits(words::word(line, words, 3))
 }
 
 // Whether a line may poke at this node: where that is allowed, the node is one of the board's and both numbers fit.
 fn may_poke(allowed: bool, node: u32, line: &[u8], words: Words) -> bool
     ensures { result ≡ may_poke allowed node line.now words }
 {
-    if allowed {
-        if node < NODES as u32 {
-            return both_fit(line, words);
-        }
-        return false;
-    }
-    false
+    allowed && node < NODES as u32 && both_fit(line, words)
 }
 
 // Where it may not, the line is no command.
@@ -44,23 +35,18 @@ pub fn poke(
     line: &[u8],
     volts: &mut [i64; NODES],
     totals: &mut [i64; NODES],
-    out: &mut [u8; ROOM],
-    at: &mut usize,
+    page: &mut Page<ROOM>,
 )
     ensures volts_after { volts.new ≡ poked_volts (pokes allowed c line.now) c volts.old }
     ensures totals_after { totals.new ≡ poked_totals (pokes allowed c line.now) c totals.old }
-    ensures writes { Writes (poke_said (pokes allowed c line.now) c line.now) out.old
-        at.old out.new at.new }
+    ensures writes { Writes (poke_said (pokes allowed c line.now) c line.now) page.old page.new }
 {
-    let words = c.words;
-    let v = c.numbers;
-    let node = telling::node_number(v[0]);
-    if may_poke(allowed, node, line, words) {
-        let n = node as usize;
-        volts[n] = v[1];
-        totals[n] = v[2];
-        saying::put_answer(Answer::Poked, out, at);
+    let node = telling::node_number(c.numbers[0]);
+    if may_poke(allowed, node, line, c.words) {
+        volts[node as usize] = c.numbers[1];
+        totals[node as usize] = c.numbers[2];
+        answers::answer_line(Answer::Poked, page);
     } else {
-        saying::put_error(words::word(line, words, 0), out, at);
+        quoting::error_line(words::word(line, c.words, 0), page);
     }
 }

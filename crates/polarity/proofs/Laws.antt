@@ -1,5 +1,5 @@
 -- What callers may count on, of either polarity: as many ticks as branches, and none above the limit in size.
-use mathlib.Core.Path.{◌≡◌, refl, ◌∙◌}
+use mathlib.Core.Path.{◌≡◌, refl, sym, ap, subst, ◌∙◌}
 use mathlib.Core.Bool.{Bool, true, false}
 use mathlib.Core.List.{List, [], ◌∷◌, map}
 use Prim.Native.Nat.{ℕ, zero, suc, ◌≤◌, zero-le}
@@ -9,13 +9,22 @@ use Rattle.whole.specs.laws.Machine.{abs_neg}
 use Rattle.outcome.specs.OfCard.WorkedCard.{WorkedCard}
 use Rattle.outcome.specs.OfScaling.Scaled.{tick_limit}
 use Rattle.outcome.specs.OfTerms.Rows.{branches}
-use Rattle.outcome.specs.OfRows.Outcome.{outcome_across}
+use Rattle.outcome.specs.OfRows.Outcome.{Outcome, told_ticks, outcome_across}
 use Rattle.outcome.proofs.OfRows.Laws as rows
-use Rattle.polarity.specs.Polarity.{turned, seen_by, outcome_of}
+use Rattle.std.specs.Prelude.{Ok, Err}
+use Rattle.polarity.specs.Polarity.{turned, seen_by, turned_outcome, outcome_of}
 
-pub ticks_long : (c : WorkedCard) (v : List ℤ) → length (outcome_of c v).ticks ≡ branches
+-- what counts of an outcome turned over, where a row overloads too: zeros are turned over to zeros
+pub told_turned : (pnp : Bool) (o : Outcome) → told_ticks (turned_outcome pnp o) ≡ map (turned pnp) (told_ticks o)
+told_turned pnp (Ok ticks) = refl
+told_turned false (Err o) = refl
+told_turned true (Err o) = refl
+
+pub ticks_long : (c : WorkedCard) (v : List ℤ) → length (told_ticks (outcome_of c v)) ≡ branches
 unfolding outcome_of
-ticks_long c v = length-map (outcome_across c (seen_by c v)).ticks (turned c.pnp) ∙ rows.ticks_long c (seen_by c v)
+ticks_long c v =
+    let o = outcome_across c (seen_by c v) in
+    ap length (told_turned c.pnp o) ∙ length-map (told_ticks o) (turned c.pnp) ∙ rows.ticks_long c (seen_by c v)
 
 turned_size : (pnp : Bool) (x : ℤ) → nat_abs (turned pnp x) ≡ nat_abs x
 turned_size false x = refl
@@ -35,7 +44,9 @@ negated_at (x ∷ l) (suc k) = negated_at l k
 
 -- no current is above the limit in size, whatever the card and the voltages
 pub ticks_small : (c : WorkedCard) (v : List ℤ) (k : ℕ) →
-    nat_abs (get_or (outcome_of c v).ticks k (pos 0)) ≤ tick_limit
+    nat_abs (get_or (told_ticks (outcome_of c v)) k (pos 0)) ≤ tick_limit
 unfolding outcome_of
 ticks_small c v =
-    turned_small tick_limit c.pnp (outcome_across c (seen_by c v)).ticks (rows.ticks_small c (seen_by c v))
+    let o = outcome_across c (seen_by c v) in
+    subst (λ (l : List ℤ). (k : ℕ) → nat_abs (get_or l k (pos 0)) ≤ tick_limit) (sym (told_turned c.pnp o))
+    (turned_small tick_limit c.pnp (told_ticks o) (rows.ticks_small c (seen_by c v)))

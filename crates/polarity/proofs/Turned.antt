@@ -1,11 +1,11 @@
 -- Turning over, from what the code does to the definitions: kept voltages as the junctions' own, and ticks one by one.
-use mathlib.Core.Path.{◌≡◌, refl, sym, ap, ap₂, ◌∙◌}
+use mathlib.Core.Path.{◌≡◌, refl, sym, ap, ap₂, subst, ◌∙◌}
 use mathlib.Core.Bool.{Bool, true, false}
 use mathlib.Core.List.{List, [], ◌∷◌, map}
 use Prim.Native.Nat.{ℕ, zero, suc, ◌-◌, ◌≤◌, zero-le}
 use native.Mathlib.Omega.{arith}
 use lib.ListN.{get_or, length-map}
-use lib.IntN.{ℤ, pos, neg_ℤ, ◌-ℤ◌, neg_ℤ-+ℤ, +ℤ_idl}
+use lib.IntN.{ℤ, pos, nat_abs, neg_ℤ, ◌-ℤ◌, neg_ℤ-+ℤ, +ℤ_idl}
 use mir.Syntax.{w64}
 use mir.Val.{SFits}
 use Rattle.volts.specs.Volts.{volts_most, span, given_back, AllNear}
@@ -13,12 +13,13 @@ use Rattle.volts.specs.laws.Across.{neg_sub}
 use Rattle.whole.specs.laws.Biased.{sub_eq}
 use Rattle.whole.specs.laws.Machine.{abs_neg, held, fits, held_is}
 use Rattle.outcome.specs.OfCard.WorkedCard.{WorkedCard}
+use Rattle.outcome.specs.OfScaling.Scaled.{tick_limit}
 use Rattle.outcome.specs.OfTerms.Rows.{Role, role_index}
 use Rattle.outcome.specs.OfTerms.Values.{bias_of}
 use Rattle.outcome.specs.OfTerms.Ready.{Ready}
 use Rattle.outcome.specs.OfTerms.inner.Ready.{Askable}
-use Rattle.outcome.specs.OfRowsTypes.Outcome.{Outcome}
-use Rattle.outcome.specs.OfRows.Outcome.{outcome_across}
+use Rattle.std.specs.Prelude.{Ok}
+use Rattle.outcome.specs.OfRows.Outcome.{Outcome, told_ticks, outcome_across}
 use Rattle.outcome.proofs.OfRows.Laws.{ticks_small}
 use Rattle.polarity.specs.Polarity.{turned, seen_by, turned_outcome, outcome_of}
 use Rattle.polarity.specs.inner.Turning.{kept_turned, Turnable}
@@ -101,16 +102,17 @@ turned_is {l} t k =
 
 -- ---- the outcome
 
-pub turnable : (c : WorkedCard) (v : Role → Role → ℤ) {o : Outcome} → o ≡ outcome_across c v → Turnable o.ticks
-turnable c v e = rw e (record { small = ticks_small c v })
+pub turnable : (c : WorkedCard) (v : Role → Role → ℤ) {ticks : List ℤ} → outcome_across c v ≡ Ok ticks → Turnable ticks
+turnable c v e =
+    record {
+      small =
+          subst (λ (o : Outcome). (k : ℕ) → nat_abs (get_or (told_ticks o) k (pos 0)) ≤ tick_limit) e (ticks_small c v);
+    }
 
-pub outcome_turned : (c : WorkedCard) {v s : List ℕ} {o : Outcome} {ticks : List ℤ} → AllNear v →
-    s ≡ map (kept_turned c.pnp) v → o ≡ outcome_across c (bias_of (map given_back s)) →
-    ticks ≡ map (turned c.pnp) o.ticks →
-    ◌≡◌ {A = Outcome} (record { over = o.over; ticks = ticks }) (outcome_of c (map given_back v))
+-- what the rows give at the voltages turned over, turned over
+pub outcome_turned : (c : WorkedCard) {v s : List ℕ} {o : Outcome} → AllNear v → s ≡ map (kept_turned c.pnp) v →
+    o ≡ outcome_across c (bias_of (map given_back s)) → turned_outcome c.pnp o ≡ outcome_of c (map given_back v)
 unfolding outcome_of
-outcome_turned c {v = v} {o = o} near e f g =
-    let seen : o ≡ outcome_across c (seen_by c (map given_back v)) =
-    f ∙ ap (λ (l : List ℕ). outcome_across c (bias_of (map given_back l))) e ∙ ap (outcome_across c) (seen_is c near)
-    in
-    (λ i. record { over = o.over; ticks = g i }) ∙ ap (turned_outcome c.pnp) seen
+outcome_turned c near e f =
+    ap (turned_outcome c.pnp)
+    (f ∙ ap (λ (l : List ℕ). outcome_across c (bias_of (map given_back l))) e ∙ ap (outcome_across c) (seen_is c near))

@@ -8,7 +8,7 @@ ghost use Rattle.polarity.specs.Polarity.{turned, outcome_of};
 ghost use Rattle.polarity.specs.inner.Turning.{kept_turned, Turnable};
 
 use octave::Table;
-pub use outcome::rows::{Outcome, Over};
+pub use outcome::rows::Over;
 use outcome::terms::{BRANCHES, ROLES, Ready};
 
 // The largest kept voltage: what is kept of a voltage and of its opposite add up to it.
@@ -23,8 +23,8 @@ fn turn_volts(pnp: bool, v: [u32; ROLES]) -> [u32; ROLES]
         return v;
     }
     let mut over = v;
-    for k in 0..ROLES {
-        over[k] = SPAN - v[k];
+    for (k, x) in v.iter().enumerate() {
+        over[k] = SPAN - *x;
     }
     over
 }
@@ -38,24 +38,19 @@ fn turn_ticks(pnp: bool, ticks: [i64; BRANCHES]) -> [i64; BRANCHES]
         return ticks;
     }
     let mut over = ticks;
-    for k in 0..BRANCHES {
-        let t = 0 - ticks[k];
-        over[k] = t;
+    for (k, t) in ticks.iter().enumerate() {
+        over[k] = 0 - *t;
     }
     over
 }
 
 // The outcome of a card made ready at the kept voltages of its roles.
-pub fn work_out(t: &Table, r: Ready, v: &[u32; ROLES]) -> Outcome
+pub fn work_out(t: &Table, r: Ready, v: &[u32; ROLES]) -> Result<[i64; BRANCHES], Over>
     requires { Askable t.now r v.now }
     ensures { result ≡ outcome_of r.card (map given_back v.now) }
 {
     let c = r.card;
-    let own = *v;
-    let seen = turn_volts(c.pnp, own);
-    let o = outcome::work_out(t, r, &seen);
-    let over = o.over;
-    let given = o.ticks;
-    let ticks = turn_ticks(c.pnp, given);
-    Outcome { over, ticks }
+    let seen = turn_volts(c.pnp, *v);
+    let ticks = outcome::work_out(t, r, &seen)?;
+    Ok(turn_ticks(c.pnp, ticks))
 }

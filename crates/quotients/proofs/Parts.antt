@@ -4,9 +4,10 @@ use Prim.Native.Nat.{ℕ, ◌+◌, ◌*◌, ◌-◌, ◌/◌, ◌%◌, ◌^◌, 
 use native.Mathlib.Nat.{mul-le-mul, mul-le-mul_right, mul-add-div_right, div-add-mod', div-mul-le_self, mod-lt}
 use native.Mathlib.Omega.{arith}
 use lib.Pow.{pow_pos, pow_mono}
-use Rattle.whole.specs.Scale.{held_at, reaches, stays_below}
+use Rattle.std.specs.Prelude.{min}
+use Rattle.whole.specs.Scale.{held_at, reaches}
 use Rattle.quotients.specs.Quotient.{shifted_quotient, divisor_most, shift_most, Dividing}
-use Rattle.quotients.proofs.Shifts.{uncut}
+use Rattle.quotients.proofs.Shifts.{uncut, min_held}
 
 -- a number below the largest divisor keeps within 64 bits
 short : (n s : ℕ) → s ≤ shift_most → n < divisor_most → (n * 2 ^ s) % 2 ^ 64 ≡ n * 2 ^ s
@@ -47,10 +48,7 @@ module _ (n s d over : ℕ) (k : Dividing s d) where
     whole_is : (n / d * 2 ^ s) % 2 ^ 64 + (n % d * 2 ^ s) % 2 ^ 64 / d ≡ shifted_quotient n s d
     whole_is = rw (base_is, rest_is) by_parts
 
-    pub at_limit : over - (n / d * 2 ^ s) % 2 ^ 64 ≤ (n % d * 2 ^ s) % 2 ^ 64 / d →
-        over ≡ held_at over (shifted_quotient n s d)
-    at_limit g = sym (reaches over (shifted_quotient n s d) (omega (arith, whole_is, base_within)))
-
-    pub in_limit : (n % d * 2 ^ s) % 2 ^ 64 / d < over - (n / d * 2 ^ s) % 2 ^ 64 →
-        (n / d * 2 ^ s) % 2 ^ 64 + (n % d * 2 ^ s) % 2 ^ 64 / d ≡ held_at over (shifted_quotient n s d)
-    in_limit g = whole_is ∙ sym (stays_below over (shifted_quotient n s d) (omega (arith, whole_is, base_within)))
+    -- both parts, the second held at what the first leaves of the limit
+    pub held_parts : {r : ℕ} → r ≡ min ((n % d * 2 ^ s) % 2 ^ 64 / d) (over - (n / d * 2 ^ s) % 2 ^ 64) →
+        (n / d * 2 ^ s) % 2 ^ 64 + r ≡ held_at over (shifted_quotient n s d)
+    held_parts e = omega (arith, e, whole_is, base_within) ∙ min_held over (shifted_quotient n s d)

@@ -6,7 +6,18 @@ use native.Mathlib.Nat.{mod-eq_of_lt, div-add-mod', mod-lt, div-mul-le_self, div
 use native.Mathlib.Omega.{arith}
 use lib.IntN.{sub_ℕ}
 use lib.Pow.{pow_pos, pow_mono}
-use Rattle.whole.specs.Scale.{floor_scale, held_at, reaches, held_none, scale_up, scale_down}
+use Rattle.whole.specs.Scale.{floor_scale, held_at, reaches, stays_below, held_none, scale_up, scale_down}
+use Rattle.whole.specs.laws.Biased.{below_or_not}
+use mathlib.Core.Logic.{◌⊎◌, inl, inr}
+use Rattle.std.specs.Prelude.{min}
+
+-- the smaller of a number and its limit
+pub min_held : (over t : ℕ) → min t over ≡ held_at over t
+min_held over t = split (below_or_not t over)
+  where
+    split : (t < over) ⊎ (over ≤ t) → min t over ≡ held_at over t
+    split (inl h) = let e : min t over ≡ t = omega arith in e ∙ sym (stays_below over t h)
+    split (inr h) = let e : min t over ≡ over = omega arith in e ∙ sym (reaches over t h)
 
 -- a product below 2^64 is not cut
 pub uncut : (x s : ℕ) → x * 2 ^ s < 2 ^ 64 → (x * 2 ^ s) % 2 ^ 64 ≡ x * 2 ^ s

@@ -8,7 +8,6 @@ ghost use Rattle.whole.specs.Scale.{floor_scale, held_at};
 ghost use Rattle.quotients.specs.Quotient.{shifted_quotient, quotient_of, held_size, Dividing, Divisible};
 
 pub use whole;
-use whole::Int;
 
 // Binary places of a word.
 const PLACES: u64 = 64;
@@ -16,23 +15,11 @@ const PLACES: u64 = 64;
 // A number below DIVISOR_MOST = 2^43 has room for the largest shift, 21, within 64 bits.
 const DIVISOR_MOST: u64 = 8796093022208;
 
-// -n.
-fn minus(n: u64) -> i64
-    requires { n ≤ signed_span }
-    ensures { result ≡ sub_ℕ 0 n }
-{
-    if n == 0 {
-        0
-    } else {
-        whole::close(Int::NegSuc(n - 1))
-    }
-}
-
 // t, held at `over`.
 fn hold(over: u64, t: u64) -> u64
     ensures { result ≡ held_at over t }
 {
-    if over <= t { over } else { t }
+    t.min(over)
 }
 
 // x * 2^s, held at `over`.
@@ -42,10 +29,8 @@ fn scale_up(x: u64, s: u64, over: u64) -> u64
     if x == 0 {
         return 0;
     }
-    if s < PLACES {
-        if x <= u64::MAX >> s {
-            return hold(over, x << s);
-        }
+    if s < PLACES && x <= u64::MAX >> s {
+        return hold(over, x << s);
     }
     over
 }
@@ -58,10 +43,7 @@ pub fn floor_scale(x: u64, up: u64, down: u64, over: u64) -> u64
         return scale_up(x, up - down, over);
     }
     let s = down - up;
-    if s < PLACES {
-        return hold(over, x >> s);
-    }
-    0
+    if s < PLACES { hold(over, x >> s) } else { 0 }
 }
 
 // n * 2^s / d, rounded downward and held at `over`.
@@ -78,11 +60,7 @@ pub fn shifted_quotient(n: u64, s: u64, d: u64, over: u64) -> u64
     }
     let base = whole << s;
     let rest = (n % d << s) / d;
-    if over - base <= rest {
-        over
-    } else {
-        base + rest
-    }
+    base + rest.min(over - base)
 }
 
 // (a - b) * 2^s / d, rounded toward zero, its size held at `over`.
@@ -91,8 +69,8 @@ pub fn quotient(a: u64, b: u64, s: u64, d: u64, over: u64) -> i64
     ensures { result ≡ held_size over (quotient_of (sub_ℕ a b) s d) }
 {
     if a < b {
-        minus(shifted_quotient(b - a, s, d, over))
+        -(shifted_quotient(b - a, s, d, over) as i64)
     } else {
-        whole::close(Int::Pos(shifted_quotient(a - b, s, d, over)))
+        shifted_quotient(a - b, s, d, over) as i64
     }
 }

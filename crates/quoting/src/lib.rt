@@ -1,47 +1,36 @@
 // The lines that quote what they were given: a line that is no command, a file that cannot be read, a model line.
 #![tactic(auto)]
 
-ghost use Rattle.std.specs.Prelude.{◌≡◌, take};
 ghost use Rattle.page.specs.Page.{Writes};
-ghost use Rattle.quoting.specs.Quotes.{shown_bytes, error_line, unreadable_line, model_line};
+ghost use Rattle.quoting.specs.Quotes.{error_line, unreadable_line, model_line};
 
-use page::ROOM;
+use page::Page;
 
 // How many bytes of the first word an error shows.
 const SHOWN_BYTES: usize = 32;
 
-// The bytes of a first word that an error shows.
-fn shown(first: &[u8]) -> &[u8]
-    ensures { result.now ≡ take shown_bytes first.now }
-{
-    if first.len() < SHOWN_BYTES {
-        return first;
-    }
-    &first[0..SHOWN_BYTES]
-}
-
 // A line that is no command, by its first word.
-pub fn error_line(first: &[u8], out: &mut [u8; ROOM], at: usize) -> usize
-    ensures { Writes (error_line first.now) out.old at out.new result }
+pub fn error_line<const N: usize>(first: &[u8], page: &mut Page<N>)
+    ensures { Writes (error_line first.now) page.old page.new }
 {
-    let start = page::put(b"error ", out, at);
-    let shown = page::put(shown(first), out, start);
-    page::put(b"\n", out, shown)
+    page.put(b"error ");
+    page.put(&first[..SHOWN_BYTES.min(first.len())]);
+    page.put(b"\n");
 }
 
-// A file that cannot be read; what the buffer has no room for is left out.
-pub fn unreadable_line(path: &[u8], out: &mut [u8], at: usize) -> usize
-    ensures { Writes (unreadable_line path.now) out.old at out.new result }
+// A file that cannot be read; what the page has no room for is left out.
+pub fn unreadable_line<const N: usize>(path: &[u8], page: &mut Page<N>)
+    ensures { Writes (unreadable_line path.now) page.old page.new }
 {
-    let start = page::put(b"error cannot read ", out, at);
-    let named = page::put(path, out, start);
-    page::put(b"\n", out, named)
+    page.put(b"error cannot read ");
+    page.put(path);
+    page.put(b"\n");
 }
 
-// The model line of a card; what the buffer has no room for is left out.
-pub fn model_line(line: &[u8], out: &mut [u8], at: usize) -> usize
-    ensures { Writes (model_line line.now) out.old at out.new result }
+// The model line of a card; what the page has no room for is left out.
+pub fn model_line<const N: usize>(line: &[u8], page: &mut Page<N>)
+    ensures { Writes (model_line line.now) page.old page.new }
 {
-    let ended = page::put(line, out, at);
-    page::put(b"\n", out, ended)
+    page.put(line);
+    page.put(b"\n");
 }

@@ -1,2 +1,3 @@
--- What is handed on.
+-- What is read of a transistor, and what is handed on.
+pub mod Reading
 pub mod OfLending

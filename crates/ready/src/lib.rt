@@ -38,20 +38,5 @@ pub fn prepare(c: WorkedCard) -> Ready
 pub fn no_ready() -> Ready
     ensures { result ≡ no_ready }
 {
-    let card = card::no_card();
-    let none = octave::no_reciprocal();
-    Ready {
-        card,
-        plain: none,
-        second: none,
-        doubled: none,
-        knee: octave::Exponential { m: 0, n: 0 },
-        bulk: 0,
-        side: 0,
-        nonideal: 0,
-        ex: 0,
-        sub: 0,
-        sf: 0,
-        reverse: 0,
-    }
+    Ready::default()
 }

@@ -1,5 +1,5 @@
 -- The order of a call's refusals: test after test, each with the refusal that it draws; and what is told of it.
-use Rattle.std.specs.Prelude.{◌≡◌, refl, Bool, true, false, List, ℕ}
+use Rattle.std.specs.Prelude.{◌≡◌, refl, Bool, true, false, List, ℕ, Result, Ok, Err}
 use Rattle.std.proofs.Common.{ap}
 use Rattle.refusal.specs.declared.Refusal.{Refusal}
 use Rattle.refusal.specs.Told.{number_of, told, told_injective}
@@ -19,6 +19,11 @@ refuse_if false f next = next
 abbrev pub and_then : {A B : Type 0} → Verdict A → (A → Verdict B) → Verdict B
 and_then (no f) next = no f
 and_then (yes a) next = next a
+
+-- the verdict that a result of the code is
+abbrev pub verdict : {A : Type 0} → Result A Refusal → Verdict A
+verdict (Ok a) = yes a
+verdict (Err f) = no f
 
 -- ---- what is told
 

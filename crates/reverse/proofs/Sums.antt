@@ -3,7 +3,7 @@
 use mathlib.Core.Path.{◌≡◌, sym, ap, ap₂, subst, ◌∙◌}
 use Prim.Native.Nat.{ℕ, ◌+◌, ◌-◌, ◌*◌, ◌/◌, ◌^◌, ◌≤◌, ◌<◌}
 use native.Mathlib.Nat.{mul_comm, add-mul, mul_assoc, mul_right_comm, mul-div_cancel}
-use native.Mathlib.Nat.{mul-add-div, div-div-eq-div-mul, mul-div-mul_right, mul-le-mul, pow-le-pow_right, add_comm}
+use native.Mathlib.Nat.{mul-add-div, div-div-eq-div-mul, mul-div-mul_right, mul-le-mul, pow-le-pow_right}
 use native.Mathlib.Nat.{le-div_iff_mul-le, div-lt_iff_lt-mul, div-le_self, le_trans, le_of_eq, le-add_right}
 use native.Mathlib.Nat.{mul-le-mul_left}
 use native.Mathlib.Omega.{arith}
@@ -116,7 +116,3 @@ module _ {g h : Exponential} (high : Sized g) (low : Sized h) (order : h.n ≤ g
           subst (λ (y : ℕ). sum_limit < y) (sym parts_are)
           (le_trans (lit< tt)
           ((le-div_iff_mul-le {x = 2 ^ 44} {y = g.m * 2 ^ g.n + h.m * 2 ^ h.n} (pow_pos 8202)).1 reach))
-
--- in either order
-pub sum_turned : (g h : Exponential) → sum_parts (exp_at g) (exp_at h) ≡ sum_parts (exp_at h) (exp_at g)
-sum_turned g h = ap (λ (x : ℕ). x / 2 ^ 8202) (add_comm (in_lowest (exp_at g)) (in_lowest (exp_at h)))

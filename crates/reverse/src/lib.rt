@@ -62,30 +62,20 @@ pub fn sum_of(g: Exponential, h: Exponential) -> u64
 
 // A difference of T's times 2^20 over the sum, toward zero: 15 for a T, for a sum of 0 or above its limit, and for a
 // result above a T's limit.
+#[tactic(auto, unfolding(crate::specs::inner::Pairs::pair_of))]
 pub fn over_sum(plus: u64, minus: u64, sum: u64) -> Pair
     ensures { result ≡ pair_of plus minus sum }
 {
-    let over = Pair {
-        plus: TICKS_OVER,
-        minus: 0,
-    };
-    if TICKS_MOST < plus {
-        return over;
+    if TICKS_MOST < plus || TICKS_MOST < minus || sum == 0 || SUM_MOST < sum {
+        return Pair {
+            plus: TICKS_OVER,
+            minus: 0,
+        };
     }
-    if TICKS_MOST < minus {
-        return over;
-    }
-    if sum == 0 {
-        return over;
-    }
-    if SUM_MOST < sum {
-        return over;
-    }
+    let q = quotients::shifted_quotient(plus.abs_diff(minus), PART_PLACES, sum, TICKS_OVER);
     if plus < minus {
-        let q = quotients::shifted_quotient(minus - plus, PART_PLACES, sum, TICKS_OVER);
         Pair { plus: 0, minus: q }
     } else {
-        let q = quotients::shifted_quotient(plus - minus, PART_PLACES, sum, TICKS_OVER);
         Pair { plus: q, minus: 0 }
     }
 }

@@ -1,12 +1,12 @@
 -- The search for a name that stands twice: from the last name on, with a mark made for every name passed.
-use Rattle.std.proofs.Common.{◌≡◌, ℕ, zero, suc, ◌+◌, ◌-◌, ◌*◌, ◌/◌, ◌<◌, ◌≤◌, Bool, true, false, ◌&&◌, ◌||◌, List, [], ◌∷◌, ◌++◌, length, take, drop, replicate, sym, refl, ap, ◌∙◌, ap₂, arith, lit<, length-drop, length-set, length-take-le, drop-drop}
+use Rattle.std.proofs.Common.{◌≡◌, ℕ, zero, suc, ◌+◌, ◌-◌, ◌*◌, ◌/◌, ◌<◌, ◌≤◌, Bool, true, false, ◌&&◌, ◌||◌, List, ◌∷◌, ◌++◌, length, take, drop, sym, refl, ap, ◌∙◌, ap₂, arith, lit<, length-drop, length-set, length-take-le, drop-drop}
 use mathlib.Core.Bool.{and-false}
 use Rattle.bytes_le.specs.Le.{le, bytes_of, Word, word_bytes}
 use Rattle.bytes_le.proofs.Laws.{rest}
 use Rattle.name.specs.Name.{same, same_equal}
 use Rattle.name.proofs.Laws.{Words, words_in}
-use Rattle.roll.specs.Directory.{among, twice, name_bytes, names_held, names_in}
-use Rattle.roll.proofs.Names.{never, or_true, or_false, cut_none, cut_more}
+use Rattle.roll.specs.Directory.{among, twice, name_bytes, names_in}
+use Rattle.roll.proofs.Names.{never, or_true, or_false, cut_more}
 use Rattle.roll.specs.inner.Marks.{slot_of, slots, digits, mark_words, made, with_mark}
 use Rattle.roll.proofs.Marks.{is_set, stays}
 
@@ -30,18 +30,6 @@ pub record Marked (d marks : List ℕ) (i : ℕ) : Type 0 where
   pub kept : length marks ≡ mark_words
   pub single : twice (names_in (drop (name_bytes * i) d)) ≡ false
   pub marked : (x : List ℕ) → among x (names_in (drop (name_bytes * i) d)) ≡ true → made marks (mark_of x) ≡ true
-
-pub marks_none : (d : List ℕ) → Marked d (replicate mark_words 0) (names_held d)
-marks_none d =
-    let n : ℕ = names_held d in
-    let short : length (drop (name_bytes * n) d) < name_bytes = rw length-drop (omega arith) in
-    let none : names_in (drop (name_bytes * n) d) ≡ [] = cut_none name_bytes (drop (name_bytes * n) d) short in
-    record {
-      within = omega arith;
-      kept = refl;
-      single = ap twice none;
-      marked = λ x e. true_false (sym e ∙ ap (among x) none);
-    }
 
 -- one that stands twice further on stands twice
 later : (d : List ℕ) (i : ℕ) → name_bytes * i ≤ length d → twice (names_in (drop (name_bytes * i) d)) ≡ true
@@ -76,10 +64,6 @@ among_cons : {P : Type 0} (x y : List ℕ) (l : List (List ℕ)) (t : Bool) → 
     → (x ≡ y → P) → (among x l ≡ true → P) → P
 among_cons x y l true e h here there = here (same_equal x y e)
 among_cons x y l false e h here there = there h
-
--- all names passed
-pub marks_all : {d marks : List ℕ} {i : ℕ} → Marked d marks i → i ≤ 0 → false ≡ twice (names_in d)
-marks_all {d} {marks} {i} v h = let e : i ≡ 0 = omega arith in sym (rw e at v.single)
 
 -- one turn: the name before place i has the words low and high and its mark the number k; found is what looking it
 -- up gave

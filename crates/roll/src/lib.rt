@@ -23,14 +23,8 @@ const MARK_WORDS: usize = 64;
 pub fn holds(d: &[u8], low: u64, high: u64) -> bool
     ensures { result ≡ among (bytes_of word_bytes low ++ bytes_of word_bytes high) (names_in d.now) }
 {
-    let mut t = d;
-    while NAME_BYTES <= t.len() {
-        if name::stands_at(t, 0, low, high) {
-            return true;
-        }
-        t = &t[NAME_BYTES..];
-    }
-    false
+    d.chunks_exact(NAME_BYTES)
+        .any(|x| name::stands_at(x, 0, low, high))
 }
 
 // The number of a mark, from a name's two words, so that one name always has the same.
@@ -55,7 +49,7 @@ fn make(marks: &mut [u64; MARK_WORDS], k: usize)
     ensures { marks.new ≡ with_mark marks.old k }
 {
     let at = k / DIGITS;
-    marks[at] = marks[at] | (1u64 << ((k % DIGITS) as u64));
+    marks[at] |= 1u64 << ((k % DIGITS) as u64);
 }
 
 // Whether a name stands in the directory, which is looked through only where its mark has been made.
@@ -63,10 +57,7 @@ fn again(marked: bool, d: &[u8], low: u64, high: u64) -> bool
     ensures { result ≡ (marked && among (bytes_of word_bytes low ++ bytes_of word_bytes high)
         (names_in d.now)) }
 {
-    if marked {
-        return holds(d, low, high);
-    }
-    false
+    marked && holds(d, low, high)
 }
 
 // Whether some name of a directory stands twice: from the last name on, each makes its mark, and is compared with those
@@ -74,10 +65,8 @@ fn again(marked: bool, d: &[u8], low: u64, high: u64) -> bool
 pub fn doubled(d: &[u8]) -> bool
     ensures { result ≡ twice (names_in d.now) }
 {
-    let mut marks = [0u64; MARK_WORDS];
-    let mut i = d.len() / NAME_BYTES;
-    while 0 < i {
-        i -= 1;
+    let mut marks = [0; MARK_WORDS];
+    for i in (0..d.len() / NAME_BYTES).rev() {
         let at = NAME_BYTES * i;
         let own = &d[at..at + NAME_BYTES];
         let low = bytes_le::u64_at(own, 0);

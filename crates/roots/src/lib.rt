@@ -12,9 +12,7 @@ fn bitwise(x: u64) -> u64
     ensures { result ≡ root_of x }
 {
     let mut t: u64 = 0;
-    let mut k: u64 = 32;
-    while 0 < k {
-        k -= 1;
+    for k in (0u32..32).rev() {
         let u = t + (1u64 << k);
         if u * u <= x {
             t = u;
@@ -38,13 +36,13 @@ fn curve(t: u64) -> u64
 
 // The mean of g + 1 and x / (g + 1): Newton's next number after g + 1.
 fn nearer(x: u64, g: u32) -> u32 {
-    let d = g as u64 + 1;
+    let d = u64::from(g) + 1;
     ((d + x / d % HALF_SPAN) / 2) as u32
 }
 
 // A number near the root of x, most often the root, else one more. Nothing is promised of it: `root_near` judges it.
 fn guess(x: u64) -> u32 {
-    let h = (u64::leading_zeros(x) as u64) / 2 % 32;
+    let h = u64::from(x.leading_zeros()) / 2 % 32;
     let t = (x << 2 * h) >> 46;
     let g = ((curve(t) << 15) >> h) % HALF_SPAN;
     nearer(x, nearer(x, g as u32))
@@ -54,16 +52,13 @@ fn guess(x: u64) -> u32 {
 pub fn root_near(x: u64, near: u32) -> u64
     ensures { result ≡ root_of x }
 {
-    let r = near as u64;
+    let r = u64::from(near);
     let q = r * r;
-    if q <= x {
-        if x - q <= 2 * r {
-            return r;
-        }
-    } else {
-        if q - x < 2 * r {
-            return r - 1;
-        }
+    if q <= x && x - q <= 2 * r {
+        return r;
+    }
+    if x < q && q - x < 2 * r {
+        return r - 1;
     }
     bitwise(x)
 }

@@ -2,6 +2,7 @@
 use mathlib.Core.Path.{◌≡◌, refl}
 use mathlib.Core.Bool.{Bool, true, false, cond, ◌&&◌}
 use mathlib.Core.List.{List, [], ◌∷◌, map}
+use Rattle.std.specs.Prelude.{Option, Some, None}
 use Prim.Native.Nat.{ℕ, zero, suc, ◌+◌, ◌^◌, ◌≤◌, zero-le}
 use native.Mathlib.Nat.{le_trans, le_refl}
 use native.Mathlib.Omega.{arith}
@@ -17,23 +18,21 @@ use Rattle.terms.specs.Rows.{Role, Summand, unit, root, Divisor, undivided, sum_
 use Rattle.terms.specs.Rows.{branches}
 use Rattle.terms.specs.Values.{value_of, tick_of, ratio_of, sum_at}
 use Rattle.rows.specs.declared.Over.{Over}
-use Rattle.rows.specs.declared.Over.TheVariants.{Within, Ticks, Injection}
 use Rattle.rows.specs.Ticks.{summand_of, divided_by, row_ticks}
 use Rattle.rows.specs.Outcome.{tick_limit, ratio_limit, some_above, ticks_in, ratios_in, over_ticks, first_over}
-use Rattle.rows.specs.Outcome.{outcome_at, outcome_across}
+use Rattle.rows.specs.Outcome.{told_ticks, outcome_at, outcome_across}
 use Rattle.rows.proofs.Tests.{neither, passes, both_within}
 use Rattle.rows.proofs.Roots.{root_sized, difference_small}
 
 -- ---- as many ticks as branches
 
-many : (o : Over) (l : List ℤ) → length (outcome_at o l).ticks ≡ length l
-many Within l = refl
-many (Ticks k) l = length-replicate (length l) (pos 0)
-many (Injection k) l = length-replicate (length l) (pos 0)
+many : (o : Option Over) (l : List ℤ) → length l ≡ branches → length (told_ticks (outcome_at o l)) ≡ branches
+many None l e = e
+many (Some o) l e = length-replicate branches (pos 0)
 
-pub ticks_long : (c : WorkedCard) (v : Role → Role → ℤ) → length (outcome_across c v).ticks ≡ branches
+pub ticks_long : (c : WorkedCard) (v : Role → Role → ℤ) → length (told_ticks (outcome_across c v)) ≡ branches
 unfolding outcome_across
-ticks_long c v = many (first_over c v 1 (rows_for c.exsub)) _
+ticks_long c v = many (first_over c v 1 (rows_for c.exsub)) (map (row_ticks c v) (rows_for c.exsub)) refl
 
 -- ---- sizes
 
@@ -86,7 +85,7 @@ module _ (c : WorkedCard) (v : Role → Role → ℤ) where
       (neither (some_above tick_limit (ticks_in c v r)) _ e).1
 
   -- rows of any kind
-  rows_small : (rows : List Row) (k : ℕ) → first_over c v k rows ≡ Within →
+  rows_small : (rows : List Row) (k : ℕ) → first_over c v k rows ≡ None →
       Each (Sizes tick_limit) (map (row_ticks c v) rows)
   rows_small [] k e = tt
   rows_small (r ∷ rs) k e =
@@ -95,16 +94,15 @@ module _ (c : WorkedCard) (v : Role → Role → ℤ) where
       let f = passes t d k (first_over c v (suc k) rs) e in
       (row_small r r.divisor f.ticks f.ratio, rows_small rs (suc k) f.later)
 
-  outcome_small : (rows : List Row) (o : Over) → first_over c v 1 rows ≡ o →
-      Each (Sizes tick_limit) (outcome_at o (map (row_ticks c v) rows)).ticks
-  outcome_small rows Within e = rows_small rows 1 e
-  outcome_small rows (Ticks k) e = zeros tick_limit (length (map (row_ticks c v) rows))
-  outcome_small rows (Injection k) e = zeros tick_limit (length (map (row_ticks c v) rows))
+  outcome_small : (rows : List Row) (o : Option Over) → first_over c v 1 rows ≡ o →
+      Each (Sizes tick_limit) (told_ticks (outcome_at o (map (row_ticks c v) rows)))
+  outcome_small rows None e = rows_small rows 1 e
+  outcome_small rows (Some o) e = zeros tick_limit branches
 
 -- no current is above the limit in size, whatever the card and the voltages
 pub ticks_small : (c : WorkedCard) (v : Role → Role → ℤ) (k : ℕ) →
-    nat_abs (get_or (outcome_across c v).ticks k (pos 0)) ≤ tick_limit
+    nat_abs (get_or (told_ticks (outcome_across c v)) k (pos 0)) ≤ tick_limit
 unfolding outcome_across
 ticks_small c v k =
     let rows = rows_for c.exsub in
-    each_at tick_limit (outcome_across c v).ticks (outcome_small c v rows (first_over c v 1 rows) refl) k
+    each_at tick_limit (told_ticks (outcome_across c v)) (outcome_small c v rows (first_over c v 1 rows) refl) k

@@ -6,8 +6,8 @@ use Prim.Native.Nat.{ℕ, ◌≤◌, ◌<◌}
 use native.Mathlib.Omega.{arith}
 use lib.Dec.{ltb}
 use borrow.Author.Tests.{ltb-false, le-ltb, lt-ltb}
+use Rattle.std.specs.Prelude.{Option, None}
 use Rattle.rows.specs.declared.Over.{Over}
-use Rattle.rows.specs.declared.Over.TheVariants.{Within}
 use Rattle.rows.specs.Outcome.{some_above, over_at}
 
 -- what two different truths prove
@@ -15,12 +15,12 @@ pub never : {X : Type 0} → true ≡ false → X
 never e = let z : ◌≡◌ {A = ℕ} 0 1 = cc in absurd (omega arith)
 
 -- nothing that overloads is within
-pub record Passes (a b : Bool) (n : Over) : Type 0 where
+pub record Passes (a b : Bool) (n : Option Over) : Type 0 where
   pub ticks : a ≡ false
   pub ratio : b ≡ false
-  pub later : n ≡ Within
+  pub later : n ≡ None
 
-pub passes : (a b : Bool) (k : ℕ) (n : Over) → over_at a b k n ≡ Within → Passes a b n
+pub passes : (a b : Bool) (k : ℕ) (n : Option Over) → over_at a b k n ≡ None → Passes a b n
 passes true b k n e = let z : ◌≡◌ {A = ℕ} 0 1 = cc in absurd (omega arith)
 passes false true k n e = let z : ◌≡◌ {A = ℕ} 0 1 = cc in absurd (omega arith)
 passes false false k n e = record { ticks = refl; ratio = refl; later = e }

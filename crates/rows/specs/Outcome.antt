@@ -1,13 +1,13 @@
 -- The currents of an NPN transistor, row by row, or the first row that overloads.
-use Rattle.std.specs.Prelude.{Bool, true, false, ◌||◌, List, [], ◌∷◌, map, ℕ, suc, ltb, replicate, length, ℤ, pos}
+use Rattle.std.specs.Prelude.{Bool, true, false, ◌||◌, Option, Some, None, Result, Ok, Err}
+use Rattle.std.specs.Prelude.{List, [], ◌∷◌, map, ℕ, suc, ltb, replicate, ℤ, pos}
 use Rattle.std.proofs.Math.IntN.{sub_ℕ}
 use Rattle.refusal.specs.declared.Refusal.{Refusal}
 use Rattle.refusal.specs.declared.Refusal.TheVariants as refusal
 use Rattle.terms.specs.OfCard.WorkedCard.{WorkedCard}
 use Rattle.rows.specs.declared.Over.{Over}
-use Rattle.rows.specs.declared.Over.TheVariants.{Within, Ticks, Injection}
-use Rattle.rows.specs.declared.Outcome.{Outcome}
-use Rattle.terms.specs.Rows.{Role, Divisor, undivided, sum_of, exps, Row, rows_for}
+use Rattle.rows.specs.declared.Over.TheVariants.{Ticks, Injection}
+use Rattle.terms.specs.Rows.{Role, Divisor, undivided, sum_of, exps, Row, rows_for, branches}
 use Rattle.terms.specs.Values.{tick_of, ratio_of, exps_over}
 pub use Rattle.terms.specs.OfScaling.Scaled.{tick_limit, ratio_limit}
 use Rattle.rows.specs.Ticks.{row_ticks}
@@ -35,39 +35,51 @@ over_ticks c v r (exps x p q) =
     || exps_over c v x p q (sub_ℕ (tick_of c v r.plus) (tick_of c v r.minus))
 
 -- whether row k overloads: a T goes before a ratio; and if neither, what comes after it
-abbrev pub injection_at : Bool → ℕ → Over → Over
-injection_at true k next = Injection k
+abbrev pub injection_at : Bool → ℕ → Option Over → Option Over
+injection_at true k next = Some (Injection k)
 injection_at false k next = next
 
-abbrev pub over_at : Bool → Bool → ℕ → Over → Over
-over_at true j k next = Ticks k
+abbrev pub over_at : Bool → Bool → ℕ → Option Over → Option Over
+over_at true j k next = Some (Ticks k)
 over_at false j k next = injection_at j k next
 
 -- the first of the rows, numbered from k, that overloads
-abbrev pub first_over : WorkedCard → (Role → Role → ℤ) → ℕ → List Row → Over
-first_over c v k [] = Within
+abbrev pub first_over : WorkedCard → (Role → Role → ℤ) → ℕ → List Row → Option Over
+first_over c v k [] = None
 first_over c v k (r ∷ rs) =
     over_at (over_ticks c v r r.divisor) (some_above ratio_limit (ratios_in c v r.divisor)) k
     (first_over c v (suc k) rs)
 
 -- whether a row overloads, whichever and however
-abbrev pub is_over : Over → Bool
-is_over Within = false
-is_over (Ticks k) = true
-is_over (Injection k) = true
+abbrev pub is_over : Option Over → Bool
+is_over None = false
+is_over (Some o) = true
 
 -- the refusal that it draws for the transistor of a number: 15 for a T, 18 for a ratio, with the row's branch; nothing
 -- asks for that of a transistor within its limits, which has no such branch
-abbrev pub drawn_by : ℕ → Over → Refusal
-drawn_by issue Within = refusal.Overload issue 0
-drawn_by issue (Ticks k) = refusal.Overload issue k
-drawn_by issue (Injection k) = refusal.Injection issue k
+abbrev pub drawn_by : ℕ → Option Over → Refusal
+drawn_by issue None = refusal.Overload issue 0
+drawn_by issue (Some (Ticks k)) = refusal.Overload issue k
+drawn_by issue (Some (Injection k)) = refusal.Injection issue k
+
+-- the ticks of each row, or the first row that overloads
+abbrev pub Outcome : Type 0
+Outcome = Result (List ℤ) Over
+
+-- which row of an outcome overloads, if any does
+abbrev pub told_over : Outcome → Option Over
+told_over (Ok ticks) = None
+told_over (Err o) = Some o
+
+-- what an outcome lets each branch count for: zeros where a row overloads
+abbrev pub told_ticks : Outcome → List ℤ
+told_ticks (Ok ticks) = ticks
+told_ticks (Err o) = replicate branches (pos 0)
 
 -- nothing counts where a row overloads
-abbrev pub outcome_at : Over → List ℤ → Outcome
-outcome_at Within ticks = record { over = Within; ticks = ticks }
-outcome_at (Ticks k) ticks = record { over = Ticks k; ticks = replicate (length ticks) (pos 0) }
-outcome_at (Injection k) ticks = record { over = Injection k; ticks = replicate (length ticks) (pos 0) }
+abbrev pub outcome_at : Option Over → List ℤ → Outcome
+outcome_at None ticks = Ok ticks
+outcome_at (Some o) ticks = Err o
 
 -- the outcome for a worked card at the voltages of its junctions
 unfoldable pub outcome_across : WorkedCard → (Role → Role → ℤ) → Outcome

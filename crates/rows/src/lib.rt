@@ -25,16 +25,8 @@ const NEAR: u64 = UNIT / 64;
 // Which row overloads first, by its number from 1, and whether by a T or by a ratio.
 #[derive(Clone, Copy)]
 pub enum Over {
-    Within,
     Ticks(u32),
     Injection(u32),
-}
-
-// The ticks of each row; all zero where one overloads.
-#[derive(Clone, Copy)]
-pub struct Outcome {
-    pub over: Over,
-    pub ticks: [i64; BRANCHES],
 }
 
 // One more than 2^20 + n/2 - n^2/2^23 for a small floor n: most often one above its root, else the root, and never

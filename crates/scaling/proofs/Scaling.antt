@@ -132,18 +132,6 @@ module _ {s : Split} {g : Exponential} (i : IsSplit s) (z : Sized g) where
 pub alone_is : (x : Split) → held_at (suc tick_limit) (floor_scale x.a (sub_ℕ (split_bias + 50) x.down)) ≡ alone_of x
 alone_is x = ap (λ (z : ℤ). held_at (suc tick_limit) (floor_scale x.a z)) (sym (alone_power x.down))
 
--- and of a conductance times microvolts
-pub through_is : (x : Split) (d : ℕ)
-    → held_at (suc tick_limit) (floor_scale (x.a * d) (sub_ℕ (split_bias + 50) x.down)) ≡ through_of x d
-through_is x d =
-    ap (λ (z : ℤ). held_at (suc tick_limit) (floor_scale (x.a * d) z))
-    (sym (alone_power x.down) ∙ ap (λ (z : ℤ). z +ℤ pos 50) (sym (plus_none x.down)))
-  where
-    plus_none : (down : ℕ) → sub_ℕ split_bias down +ℤ pos 0 ≡ sub_ℕ split_bias down
-    plus_none down =
-        ap (λ (z : ℤ). sub_ℕ split_bias down +ℤ z) (as_sub 0) ∙ sub_add split_bias down 0 0
-        ∙ sub_eq (split_bias + 0) (down + 0) split_bias down (omega arith)
-
 pub through_upto : (x : Split) (d : ℕ) → UpTo tick_limit (through_of x d) (whole_ticks (times (value_at x) (whole_number d)))
 through_upto x d = upto_held tick_limit (whole_ticks (times (value_at x) (whole_number d))) (lit< tt)
 

@@ -6,8 +6,7 @@ use Prim.Native.Nat.{ℕ, ◌<◌, ◌≤◌}
 use borrow.Author.Tests.{eq-eqb, ne_eqb, lt-ltb, le-ltb}
 use lib.Dec.{eqb}
 use lib.ListN.{length}
-use Rattle.hex_bytes.specs.declared.Hex.{Hex}
-use Rattle.hex_bytes.specs.declared.Hex.TheVariants.{Bytes, Bad}
+use Rattle.std.specs.Prelude.{Option, Some, None}
 use Rattle.hex_bytes.specs.Hex.{ReadsHex}
 use Rattle.words.specs.declared.Words.{Words}
 use Rattle.script.specs.declared.Command.{Command}
@@ -53,7 +52,7 @@ module _ (line : List ℕ) (w : Words) {old : List ℕ} {v : Verb} {r : Command}
   unfolding said_to spelled_to
   said_other n e = record { command = rw (ne_eqb w.count 3 n) e; buffer = rw (ne_eqb w.count 3 n) }
 
-module _ (line : List ℕ) (w : Words) {x old new : List ℕ} {h : Hex} (c : w.count ≡ 3) (e : x ≡ word_at line w 2)
+module _ (line : List ℕ) (w : Words) {x old new : List ℕ} {h : Option ℕ} (c : w.count ≡ 3) (e : x ≡ word_at line w 2)
     (g : length old ≡ most_bytes) (q : ReadsHex x old h new) where
   is_hex_lem : h ≡ hex_of line w
   unfolding hex_of
@@ -63,12 +62,12 @@ module _ (line : List ℕ) (w : Words) {x old new : List ℕ} {h : Hex} (c : w.c
   unfolding spelled_to
   spelled = q.bytes ∙ rw (g, e, eq-eqb w.count 3 c)
 
-  pub said_bytes : {v : Verb} {r : Command} {n : ℕ} → h ≡ Bytes n → r ≡ said line w v n
+  pub said_bytes : {v : Verb} {r : Command} {n : ℕ} → h ≡ Some n → r ≡ said line w v n
       → SaysTo line w v NameAndHex old r new
   unfolding said_to
   said_bytes f p = record { command = rw (eq-eqb w.count 3 c, ← is_hex_lem, f) p; buffer = spelled }
 
-  pub said_bad : {v : Verb} {r : Command} → h ≡ Bad → r ≡ said line w Error 0 → SaysTo line w v NameAndHex old r new
+  pub said_bad : {v : Verb} {r : Command} → h ≡ None → r ≡ said line w Error 0 → SaysTo line w v NameAndHex old r new
   unfolding said_to
   said_bad f p = record { command = rw (eq-eqb w.count 3 c, ← is_hex_lem, f) p; buffer = spelled }
 

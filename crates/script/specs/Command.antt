@@ -1,7 +1,6 @@
 -- What a line says: one of the commands, nothing, or an error.
-use Rattle.std.specs.Prelude.{◌≡◌, Bool, true, false, ◌&&◌, ◌||◌, List, ℕ, ◌-◌, ◌%◌, eqb, ltb, length, get_or}
-use Rattle.hex_bytes.specs.declared.Hex.{Hex}
-use Rattle.hex_bytes.specs.declared.Hex.TheVariants.{Bytes, Bad}
+use Rattle.std.specs.Prelude.{◌≡◌, Bool, true, false, ◌&&◌, ◌||◌, List, Option, Some, None, ℕ, ◌-◌, ◌%◌, eqb, ltb, length}
+use Rattle.std.specs.Prelude.{get_or}
 use Rattle.hex_bytes.specs.Hex.{spells, pairs_of, hex_if, over_if}
 use Rattle.words.specs.declared.Words.{Words}
 use Rattle.script.specs.declared.Command.{Command}
@@ -13,7 +12,7 @@ use Rattle.verbs.specs.declared.Wants.TheVariants.{Texts, Numbers, Either, Pairs
 use Rattle.words.specs.Words.{no_words, words_of, word_at}
 use Rattle.numbered.specs.Numbers.{most_numbers, are_numbers, numbers_to}
 use Rattle.series.specs.declared.Series.{Series}
-use Rattle.series.specs.Series.{no_series, series_of}
+use Rattle.series.specs.Series.{series_of}
 use Rattle.verbs.specs.Table.{row_named}
 
 -- the most bytes of a line, without the newline that ends it
@@ -37,15 +36,16 @@ passed_over first = eqb (length first) 0 || eqb (get_or first 0 0) hash
 -- a line with these words says the verb; its last word spells so many bytes
 unfoldable pub said : List ℕ → Words → Verb → ℕ → Command
 said line w v n =
-    record { verb = v; words = w; numbers = numbers_to line w most_numbers; bytes = n; list = no_series }
+    record { verb = v; words = w; numbers = numbers_to line w most_numbers; bytes = n; list = None }
 
 abbrev pub verb_if : Bool → Verb → Verb
 verb_if true v = v
 verb_if false v = Error
 
 -- the numbers of the line are pairs, however many
-abbrev pub are_pairs : Series → Bool
-are_pairs l = l.good && eqb (l.count % 2) 0
+abbrev pub are_pairs : Option Series → Bool
+are_pairs (Some l) = eqb (l.count % 2) 0
+are_pairs None = false
 
 -- a line of a list: the whole series of its numbers is kept
 unfoldable pub said_pairs : List ℕ → Words → Verb → Command
@@ -59,12 +59,12 @@ said_pairs line w v =
     }
 
 -- the bytes in hex digits that word 2 spells
-unfoldable pub hex_of : List ℕ → Words → Hex
+unfoldable pub hex_of : List ℕ → Words → Option ℕ
 hex_of line w = hex_if (spells (word_at line w 2) most_bytes) (length (pairs_of (word_at line w 2)))
 
-abbrev pub said_hex : List ℕ → Words → Verb → Hex → Command
-said_hex line w v (Bytes n) = said line w v n
-said_hex line w v Bad = said line w Error 0
+abbrev pub said_hex : List ℕ → Words → Verb → Option ℕ → Command
+said_hex line w v (Some n) = said line w v n
+said_hex line w v None = said line w Error 0
 
 abbrev pub said_if : Bool → List ℕ → Words → Verb → Command
 said_if true line w v = said_hex line w v (hex_of line w)

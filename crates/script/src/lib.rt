@@ -25,7 +25,7 @@ pub struct Command {
     pub words: Words,
     pub numbers: [i64; MOST_NUMBERS],
     pub bytes: usize,
-    pub list: Series,
+    pub list: Option<Series>,
 }
 
 // What a line says. The bytes that its hex digits spell are put at the start of `bytes`.

@@ -1,10 +1,9 @@
 // What a line says, its words parted.
-ghost use Rattle.std.specs.Prelude.{◌≡◌, ◌||◌, length};
+ghost use Rattle.std.specs.Prelude.{◌≡◌, length};
 ghost use Rattle.script.specs.Command.{most_bytes, passed_over, said, has_numbers, are_pairs, said_pairs, SaysTo};
 ghost use Rattle.script.specs.Command.{verb_if};
 
 use crate::{Command, Verb};
-use hex_bytes::Hex;
 use numbered::{are_numbers, numbers_of};
 use series::Series;
 use verbs::Wants;
@@ -14,24 +13,22 @@ use words::{Words, word};
 pub(crate) fn is_passed_over(first: &[u8]) -> bool
     ensures { result ≡ passed_over first.now }
 {
-    if first.len() == 0 {
-        return true;
+    match first {
+        [] => true,
+        [b, ..] => *b == b'#',
     }
-    first[0] == b'#'
 }
 
 // The line says the verb; its hex digits spell so many bytes.
 pub(crate) fn said(line: &[u8], words: Words, verb: Verb, bytes: usize) -> Command
     ensures { result ≡ said line.now words verb bytes }
 {
-    let numbers = numbers_of(line, words);
-    let list = series::no_series();
     Command {
         verb,
         words,
-        numbers,
+        numbers: numbers_of(line, words),
         bytes,
-        list,
+        list: None,
     }
 }
 
@@ -46,32 +43,16 @@ fn verb_if(good: bool, verb: Verb) -> Verb
 fn has_numbers(line: &[u8], words: Words, n: usize) -> bool
     ensures { result ≡ has_numbers line.now words n }
 {
-    if words.count == n {
-        are_numbers(line, words, n)
-    } else {
-        false
-    }
-}
-
-// Whether it has m words so, or n.
-fn has_either(line: &[u8], words: Words, m: usize, n: usize) -> bool
-    ensures { result ≡ (has_numbers line.now words m || has_numbers line.now words n) }
-{
-    if has_numbers(line, words, m) {
-        true
-    } else {
-        has_numbers(line, words, n)
-    }
+    words.count == n && are_numbers(line, words, n)
 }
 
 // Whether a series is one of pairs.
-fn are_pairs(list: Series) -> bool
+fn are_pairs(list: Option<Series>) -> bool
     ensures { result ≡ are_pairs list }
 {
-    if list.good {
-        list.count % 2 == 0
-    } else {
-        false
+    match list {
+        Some(l) => l.count % 2 == 0,
+        None => false,
     }
 }
 
@@ -80,14 +61,9 @@ fn said_pairs(line: &[u8], words: Words, verb: Verb) -> Command
     ensures { result ≡ said_pairs line.now words verb }
 {
     let list = series::series_of(line);
-    let said = verb_if(are_pairs(list), verb);
-    let numbers = numbers_of(line, words);
     Command {
-        verb: said,
-        words,
-        numbers,
-        bytes: 0,
         list,
+        ..said(line, words, verb_if(are_pairs(list), verb), 0)
     }
 }
 
@@ -101,8 +77,8 @@ fn said_hex(line: &[u8], words: Words, verb: Verb, bytes: &mut [u8]) -> Command
         return said(line, words, Verb::Error, 0);
     }
     match hex_bytes::hex_bytes(word(line, words, 2), bytes) {
-        Hex::Bytes(n) => said(line, words, verb, n),
-        Hex::Bad => said(line, words, Verb::Error, 0),
+        Some(n) => said(line, words, verb, n),
+        None => said(line, words, Verb::Error, 0),
     }
 }
 
@@ -120,7 +96,10 @@ pub(crate) fn said_to(
     match wants {
         Wants::Texts(n) => said(line, words, verb_if(words.count == n, verb), 0),
         Wants::Numbers(n) => said(line, words, verb_if(has_numbers(line, words, n), verb), 0),
-        Wants::Either(m, n) => said(line, words, verb_if(has_either(line, words, m, n), verb), 0),
+        Wants::Either(m, n) => {
+            let good = has_numbers(line, words, m) || has_numbers(line, words, n);
+            said(line, words, verb_if(good, verb), 0)
+        }
         Wants::Pairs => said_pairs(line, words, verb),
         Wants::NameAndHex => said_hex(line, words, verb, bytes),
         Wants::Anything => said(line, words, verb, 0),

@@ -6,12 +6,12 @@ use Prim.Native.Nat.{ℕ, ◌+◌, ◌*◌, ◌≤◌, ◌<◌}
 use lib.Dec.{leb}
 use lib.ListN.{length, get_or, set}
 use lib.IntN.{ℤ, pos}
+use Rattle.std.specs.Prelude.{Result, Ok, Err}
 use Rattle.refusal.specs.declared.Refusal.{Refusal}
-use Rattle.refusal.specs.declared.Refusal.TheVariants.{OutOfReach, OutOfRange}
+use Rattle.refusal.specs.declared.Refusal.TheVariants.{OutOfRange}
 use Rattle.volts.specs.Volts.{given_back, kept_as}
 use Rattle.octave.specs.Table.{entries}
-use Rattle.rows.specs.declared.Outcome.{Outcome}
-use Rattle.rows.specs.Outcome.{is_over, drawn_by}
+use Rattle.rows.specs.Outcome.{Outcome, told_over, told_ticks, is_over, drawn_by}
 use Rattle.terms.specs.Rows.{roles, branches}
 use Rattle.terms.specs.Looked.{looked_at}
 use Rattle.totals.specs.Flow.{ticks_give}
@@ -21,8 +21,9 @@ use Rattle.given.specs.inner.Nodes.{node_of}
 use Rattle.deck.specs.Stretch.{written}
 use Rattle.slices.specs.Slices.{off_slices, changed, StandsIn}
 use Rattle.small.specs.inner.Small.{Near}
-use Rattle.placing.specs.declared.Way.{Way}
-use Rattle.placing.specs.declared.Way.TheVariants.{Go, Stop}
+use Rattle.placing.specs.declared.Spot.{Spot}
+use Rattle.placing.specs.inner.Placing.{spot}
+use Rattle.std.specs.Prelude.{Result, Ok, Err}
 use Rattle.placing.specs.inner.Placing.{placing, way_of}
 use Rattle.places.specs.Naming.{joined}
 use Rattle.places.specs.inner.Flat.{free_place, number_place, ties_at, wide_at}
@@ -107,14 +108,14 @@ module _ {r : Rest} {numbers powers ticks : List ℕ} {switches : List Bool}
 
   module _ (good : off_slices volts totals ≡ false) {seen : List ℤ}
       (seen_is : seen ≡ looked_at (wide_by (wide_at switches) (number_place cards_most (issue_of card) held)) given)
-      (long : length seen ≡ roles) {on : List ℕ} (on-are : on ≡ map node_of seen) {w : Way}
+      (long : length seen ≡ roles) {on : List ℕ} (on-are : on ≡ map node_of seen) {w : Result Spot Refusal}
       (way-is : w ≡ way_of (free_place issues)
       (placing (number_place cards_most (issue_of card) held) (ties_at switches) on (leb transistors_most (free_place issues))
       (used_up next))) where
     g : Ground (board_in found)
     g = ground_in found (subst Reached (sym own_is) k) good
 
-    pub lent_stops : (f : Refusal) → w ≡ Stop f →
+    pub lent_stops : (f : Refusal) → w ≡ Err f →
         Leaves r (Refused f) issues cards seats nodes naming totals currents next
     unfolding placed_lent
     lent_stops f e =
@@ -122,7 +123,7 @@ module _ {r : Rest} {numbers powers ticks : List ℕ} {switches : List Bool}
         (refused_by (λ (b : Board). placed_of b card given) found good
         (place_stops (board_in found) g card given seen_is long on-are way-is f e))
 
-    module _ {i free : ℕ} (e : w ≡ Go i free) where
+    module _ {i free : ℕ} (e : w ≡ Ok (spot i free)) where
       pub lent_free : free < transistors_most
       lent_free = free_there (board_in found) g card given seen_is long on-are way-is e
 
@@ -146,19 +147,19 @@ module _ {r : Rest} {numbers powers ticks : List ℕ} {switches : List Bool}
           own_works : Works (card_of (deck_of numbers powers ticks switches) i) on (map given_back (map kept_as volts)) o
           own_works = rw (← kept-are) works
 
-          pub lent_gives : Givable none on o.ticks × (length o.ticks ≡ branches)
+          pub lent_gives : Givable none on (told_ticks o) × (length (told_ticks o) ≡ branches)
           lent_gives = place_gives_lem (board_in found) g card given seen_is long on-are way-is e own_works
 
-          pub lent_over : is_over o.over ≡ true →
-              Leaves r (Refused (drawn_by next o.over)) issues cards seats nodes naming totals currents next
+          pub lent_over : is_over (told_over o) ≡ true →
+              Leaves r (Refused (drawn_by next (told_over o))) issues cards seats nodes naming totals currents next
           unfolding placed_lent
           lent_over h =
               refused
               (refused_by (λ (b : Board). placed_of b card given) found good
               (place_over (board_in found) g card given seen_is long on-are way-is e own_works h))
 
-          module _ (h : is_over o.over ≡ false) {coming : List ℤ}
-              (more : More nodes_most none coming (ticks_give on o.ticks)) where
+          module _ (h : is_over (told_over o) ≡ false) {coming : List ℤ}
+              (more : More nodes_most none coming (ticks_give on (told_ticks o))) where
             pub lent_near : Near coming none
             lent_near = record { coming_small = one_small on more lent_gives.0.within; going_small = none_small }
 
@@ -168,20 +169,20 @@ module _ {r : Rest} {numbers powers ticks : List ℕ} {switches : List Bool}
             taken : Taken (placed_of (board_in found) card given).answer
             taken = rw (place_goes (board_in found) g card given seen_is long on-are way-is e own_works h)
 
-            module _ {fits : Bool} {after : List ℤ} (judged : StandsIn totals coming none fits after) where
-              pub lent_leaves_64 : fits ≡ false →
-                  Leaves r (Refused OutOfReach) issues cards seats nodes naming after currents next
+            module _ {told : Result (Unit {0}) Refusal} {after : List ℤ} (judged : StandsIn totals coming none told after) where
+              pub lent_leaves_64 : {f : Refusal} → told ≡ Err f →
+                  Leaves r (Refused f) issues cards seats nodes naming after currents next
               unfolding placed_lent
               lent_leaves_64 bad =
                   let y = stood_bad judged bad in
-                  rw y.1
+                  rw (y.0, y.1.1)
                   (refused
-                  (leaves_64 (λ (b : Board). placed_of b card given) found good taken (rw (← stands) y.0)))
+                  (leaves_64 (λ (b : Board). placed_of b card given) found good taken (rw (← stands) y.1.0)))
 
               -- whatever was left in the arrays that others write
-              pub lent_places : fits ≡ true → {n s : List ℕ} {c : List ℤ} →
+              pub lent_places : {u : Unit {0}} → told ≡ Ok u → {n s : List ℕ} {c : List ℤ} →
                   n ≡ written 0 nodes (roles * free) on roles → s ≡ joined naming free on →
-                  c ≡ written (pos 0) currents (branches * free) o.ticks branches →
+                  c ≡ written (pos 0) currents (branches * free) (told_ticks o) branches →
                   Leaves r (Issue next) (set issues free next) (set cards free (get_or held i 0)) (set seats free i) n s
                   after c (next + 1)
               unfolding placed_lent

@@ -10,10 +10,9 @@ use borrow.Author.Tests.{leb-false, ltb-false}
 use Rattle.refusal.specs.declared.Refusal.{Refusal}
 use Rattle.refusal.specs.Order.{Verdict, no, yes}
 use Rattle.octave.specs.Table.{entries}
-use Rattle.rows.specs.declared.Outcome.{Outcome}
-use Rattle.rows.specs.declared.Over.TheVariants.{Within}
+use Rattle.std.specs.Prelude.{None}
 use Rattle.terms.specs.declared.Ready.{Ready}
-use Rattle.rows.specs.Outcome.{is_over, drawn_by}
+use Rattle.rows.specs.Outcome.{Outcome, told_over, told_ticks, is_over, drawn_by}
 use Rattle.terms.specs.Rows.{roles, branches}
 use Rattle.terms.specs.Looked.{looked_at}
 use Rattle.totals.specs.Flow.{over_at, ticks_at, ticks_give, flow}
@@ -22,14 +21,14 @@ use Rattle.given.specs.Arguments.{Found, issue_of, issues_most, used_up, Ties, t
 use Rattle.given.specs.inner.Nodes.{node_of}
 use Rattle.deck.specs.Stretch.{written}
 use Rattle.slices.specs.Slices.{changed}
-use Rattle.placing.specs.declared.Way.{Way}
-use Rattle.placing.specs.declared.Way.TheVariants.{Go, Stop}
+use Rattle.placing.specs.declared.Spot.{Spot}
+use Rattle.std.specs.Prelude.{Result, Ok, Err}
 use Rattle.places.specs.Gathered.{worked_at}
 use Rattle.places.specs.Finding.{card_place, free_transistor}
 use Rattle.places.specs.Naming.{joined}
 use Rattle.places.specs.inner.Flat.{free_place, number_place, ties_at, wide_at}
 use Rattle.places.specs.inner.Parts.{Entering}
-use Rattle.placing.specs.inner.Placing.{placing, way_of}
+use Rattle.placing.specs.inner.Placing.{placing, spot, way_of}
 use Rattle.places.specs.laws.Gather.{card_place_lem, ties_flat, wide_flat, first_transistor}
 use Rattle.placing.specs.laws.Ways.{stopped, went}
 use Rattle.flows.specs.inner.Workable.{Workable, Works, card_of}
@@ -51,14 +50,14 @@ use Rattle.lending.proofs.Sums.{none, none_room, only_comes}
 abbrev pub seen_by : Board → ℤ → List ℤ → List ℤ
 seen_by b card given = looked_at (wide_by (wide_at b.switches) (number_place cards_most (issue_of card) b.held)) given
 
-abbrev pub way_on : Board → ℤ → List ℕ → Way
+abbrev pub way_on : Board → ℤ → List ℕ → Result Spot Refusal
 way_on b card on =
     way_of (free_place b.issues)
     (placing (number_place cards_most (issue_of card) b.held) (ties_at b.switches) on
     (leb transistors_most (free_place b.issues)) (used_up b.next))
 
 module _ (b : Board) (g : Ground b) (card : ℤ) (given : List ℤ) {nodes : List ℤ} (seen_is : nodes ≡ seen_by b card given)
-    (long : length nodes ≡ roles) {on : List ℕ} (on-are : on ≡ map node_of nodes) {w : Way}
+    (long : length nodes ≡ roles) {on : List ℕ} (on-are : on ≡ map node_of nodes) {w : Result Spot Refusal}
     (way-is : w ≡ way_on b card on) where
   abbrev place : Found ℕ
   place = card_place (issue_of card) (cards_of b)
@@ -107,19 +106,19 @@ module _ (b : Board) (g : Ground b) (card : ℤ) (given : List ℤ) {nodes : Lis
   unfolding placed_of
   placed_by v e = rw (same_seen, e)
 
-  pub place_stops : (f : Refusal) → w ≡ Stop f → placed_of b card given ≡ refuse b f
+  pub place_stops : (f : Refusal) → w ≡ Err f → placed_of b card given ≡ refuse b f
   place_stops f e =
       placed_by (no f) (rw (may_is, stopped (free_transistor (transistors_of b)) verdict (sym verdict_is ∙ e)))
 
-  module _ {i free : ℕ} (e : w ≡ Go i free) where
+  module _ {i free : ℕ} (e : w ≡ Ok (spot i free)) where
     found : (verdict ≡ yes i) × (free ≡ free_transistor (transistors_of b))
     found = went (free_transistor (transistors_of b)) verdict (sym verdict_is ∙ e)
 
-    passed : Places place joins (λ (j : ℕ). Within) nodes no_room (used_up b.next) i
+    passed : Places place joins (λ (j : ℕ). None) nodes no_room (used_up b.next) i
     passed =
         places place b.next
-        (then_lastly place joins (λ (j : ℕ). Within) b.next nodes _ _
-        ∙ ap (λ (v : Verdict ℕ). lastly v (λ (j : ℕ). Within) b.next) found.0)
+        (then_lastly place joins (λ (j : ℕ). None) b.next nodes _ _
+        ∙ ap (λ (v : Verdict ℕ). lastly v (λ (j : ℕ). None) b.next) found.0)
 
     pub free_there : free < transistors_most
     free_there = rw found.1 (leb-false transistors_most (free_transistor (transistors_of b)) passed.room)
@@ -165,13 +164,13 @@ module _ (b : Board) (g : Ground b) (card : ℤ) (given : List ℤ) {nodes : Lis
     same_card = sym (ap (λ (r : Ready). r.card) (ready_there b i place_there))
 
     module _ {o : Outcome} (works : Works (card_of (deck_in b) i) on (volts_of b) o) where
-      over_is : o.over ≡ over_at (worked_at (cards_of b) i) (map nat_abs nodes) (volts_of b)
+      over_is : told_over o ≡ over_at (worked_at (cards_of b) i) (map nat_abs nodes) (volts_of b)
       over_is = works.over ∙ rw (same_card, on_is)
 
-      ticks_are : o.ticks ≡ ticks_at (worked_at (cards_of b) i) (map nat_abs nodes) (volts_of b)
+      ticks_are : told_ticks o ≡ ticks_at (worked_at (cards_of b) i) (map nat_abs nodes) (volts_of b)
       ticks_are = works.ticks ∙ rw (same_card, on_is)
 
-      pub place_gives_lem : Givable none on o.ticks × (length o.ticks ≡ branches)
+      pub place_gives_lem : Givable none on (told_ticks o) × (length (told_ticks o) ≡ branches)
       place_gives_lem = (
         record {
           wired = record { wired = on_wired };
@@ -181,19 +180,19 @@ module _ (b : Board) (g : Ground b) (card : ℤ) (given : List ℤ) {nodes : Lis
         rw ticks_are (ticks_count _ _ _),
       )
 
-      pub place_over : is_over o.over ≡ true → placed_of b card given ≡ refuse b (drawn_by b.next o.over)
-      place_over h = placed_by (no (drawn_by b.next o.over)) (rw (may_is, found.0, ← over_is, h))
+      pub place_over : is_over (told_over o) ≡ true → placed_of b card given ≡ refuse b (drawn_by b.next (told_over o))
+      place_over h = placed_by (no (drawn_by b.next (told_over o))) (rw (may_is, found.0, ← over_is, h))
 
-      module _ (h : is_over o.over ≡ false) where
+      module _ (h : is_over (told_over o) ≡ false) where
         pub place_goes : placed_of b card given ≡ placed b nodes (yes i)
         place_goes = placed_by (yes i) (rw (may_is, found.0, ← over_is, h))
 
         -- the totals as they would stand
-        pub place_stands : {coming : List ℤ} → More nodes_most none coming (ticks_give on o.ticks) →
+        pub place_stands : {coming : List ℤ} → More nodes_most none coming (ticks_give on (told_ticks o)) →
             changed b.totals coming none ≡ (placed_of b card given).board.totals
         unfolding flow
         place_stands more =
-            only_comes b.totals (ticks_give on o.ticks)
+            only_comes b.totals (ticks_give on (told_ticks o))
             (flow (worked_at (cards_of b) i) (map nat_abs nodes) (volts_of b)) more
             (λ n q.
             ap (λ (ticks : List ℤ). ticks_give on ticks n) ticks_are
@@ -207,7 +206,7 @@ module _ (b : Board) (g : Ground b) (card : ℤ) (given : List ℤ) {nodes : Lis
             (set b.cards free (get_or b.held i 0)) (set b.seats free i)
             (written 0 b.nodes (roles * free) on roles) (joined b.naming free on)
             (placed_of b card given).board.totals
-            (written (pos 0) b.currents (branches * free) o.ticks branches) (b.next + 1)
+            (written (pos 0) b.currents (branches * free) (told_ticks o) branches) (b.next + 1)
         places_it =
             rw place_goes
             (record {
@@ -226,7 +225,7 @@ module _ (b : Board) (g : Ground b) (card : ℤ) (given : List ℤ) {nodes : Lis
                   ∙ ap (joined b.naming (free_transistor (transistors_of b))) on_is;
               totals_are = refl;
               currents_are =
-                  ap (λ (j : ℕ). written (pos 0) b.currents (branches * j) o.ticks branches) found.1
+                  ap (λ (j : ℕ). written (pos 0) b.currents (branches * j) (told_ticks o) branches) found.1
                   ∙ ap
                   (λ (x : List ℤ). written (pos 0) b.currents (branches * free_transistor (transistors_of b)) x
                   branches)

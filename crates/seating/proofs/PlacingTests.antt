@@ -14,6 +14,7 @@ use Rattle.refusal.specs.Clash.{clash}
 use Rattle.terms.specs.Rows.{C1, C3, C4, role_index}
 use Rattle.lending.specs.OfModel.Counts.{nodes_most}
 use Rattle.given.specs.Arguments.{Found, none, some, off_node, some_node_off, Ties, torn}
+use Rattle.std.specs.Prelude.{Option}
 use Rattle.rows.specs.declared.Over.{Over}
 use Rattle.lending.specs.OfModel.Verdict.{place_verdict, refuse_over}
 use Rattle.given.specs.Lists.{any_of}
@@ -21,7 +22,7 @@ use Rattle.given.specs.inner.Nodes.{node_of}
 use Rattle.placing.specs.inner.Placing.{torn_on, placing}
 use Rattle.lending.proofs.OfModel.Verdicts.{on_node_lem}
 
-abbrev pub lastly : {A : Type 0} → Verdict A → (A → Over) → ℕ → Verdict A
+abbrev pub lastly : {A : Type 0} → Verdict A → (A → Option Over) → ℕ → Verdict A
 lastly (no f) over next = no f
 lastly (yes a) over next = refuse_over next (over a) (yes a)
 
@@ -52,7 +53,7 @@ size_at (z ∷ nodes) zero = refl
 size_at (z ∷ nodes) (suc k) = size_at nodes k
 
 pub then_lastly :
-    {A : Type 0} (found : Found A) (joins : A → Ties) (over : A → Over) (next : ℕ) (nodes : List ℤ)
+    {A : Type 0} (found : Found A) (joins : A → Ties) (over : A → Option Over) (next : ℕ) (nodes : List ℤ)
     (no_room used : Bool) →
     place_verdict found joins over next nodes no_room used
     ≡ lastly (placing found joins (map node_of nodes) no_room used) over next

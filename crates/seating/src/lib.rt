@@ -2,13 +2,13 @@
 // as they would stand, and writes last, so that a refusal leaves all as it was.
 #![tactic(auto)]
 
+ghost use Rattle.lending.specs.OfModel.Answering.{answer_of};
 ghost use Rattle.lending.specs.Rest.{Rest};
 ghost use Rattle.lending.specs.Lending.{placed_lent};
 ghost use Rattle.lending.specs.Reached.{Reached};
 ghost use Rattle.lending.specs.inner.Lent.{state_with, LendsPlaces, LeavesPlaces};
 
 use lending::model::Answer;
-use placing::Way;
 use refusal::Refusal;
 use terms::ROLES;
 use totals::NODES;
@@ -32,50 +32,42 @@ pub fn place(
     totals: &mut [i64],
     card: i64,
     roles: [i64; ROLES],
-) -> Answer
+) -> Result<Answer, Refusal>
     requires { (r : Rest) × Reached r × LendsPlaces r numbers.now powers.now ticks.now switches.now
         held.now issues.old cards.old seats.old nodes.old naming.old currents.old next.old }
     ensures { (r : Rest) → Reached r → LendsPlaces r numbers.now powers.now
         ticks.now switches.now held.now issues.old cards.old
         seats.old nodes.old naming.old currents.old next.old →
         LeavesPlaces (placed_lent (state_with r volts.now totals.old) card roles)
-        result issues.new cards.new seats.new nodes.new naming.new
+        (answer_of result) issues.new cards.new seats.new nodes.new naming.new
         totals.new currents.new next.new }
 {
-    let mut kept = [volts::ZERO; NODES];
-    if !keeping::keep_slices(&mut kept, volts, totals) {
-        return Answer::Refused(Refusal::OutOfRange);
-    }
+    let Some(kept) = keeping::keep_slices(volts, totals) else {
+        return Err(Refusal::OutOfRange);
+    };
     let n = given::issue_of(card);
     let wide = placing::is_wide(held, switches, n);
     let seen = ends::looked_at(wide, roles);
     let on = given::nodes_of(seen);
     let issue = *next;
-    let way = placing::may_place(held, switches, issues, issue, n, &on);
-    match way {
-        Way::Stop(f) => Answer::Refused(f),
-        Way::Go(at, free) => {
-            let table = octave::table();
-            let o = settle::work(&table, numbers, powers, ticks, switches, at, &on, &kept);
-            let own = o.ticks;
-            let over = o.over;
-            if settle::is_over(over) {
-                return Answer::Refused(settle::refusal_of(issue, over));
-            }
-            let mut coming = [0i64; NODES];
-            settle::put_in(&mut coming, &on, &own);
-            let going = [0i64; NODES];
-            if !standing::stand_in(totals, &coming, &going, true) {
-                return Answer::Refused(Refusal::OutOfReach);
-            }
-            issues[free] = issue;
-            cards[free] = held[at];
-            seats[free] = at as u8;
-            sets::put_nodes(nodes, free, &on);
-            sets::join(naming, free, &on);
-            sets::put_currents(currents, free, &own);
-            *next = issue + 1;
-            Answer::Issue(issue)
-        }
-    }
+    let spot = placing::may_place(held, switches, issues, issue, n, &on)?;
+    let (at, free) = (spot.card, spot.free);
+    let table = octave::table();
+    let own = match settle::work(&table, numbers, powers, ticks, switches, at, &on, &kept) {
+        Ok(own) => own,
+        Err(over) => return Err(settle::refusal_of(issue, over)),
+    };
+    let mut coming = [0i64; NODES];
+    settle::put_in(&mut coming, &on, &own);
+    let going = [0i64; NODES];
+    let stood = standing::stand_in(totals, &coming, &going, true);
+    stood?;
+    issues[free] = issue;
+    cards[free] = held[at];
+    seats[free] = at as u8;
+    sets::put_nodes(nodes, free, &on);
+    sets::join(naming, free, &on);
+    sets::put_currents(currents, free, &own);
+    *next = issue + 1;
+    Ok(Answer::Issue(issue))
 }

@@ -1,8 +1,8 @@
 -- The words of a line after its first, as numbers: whether all are, how many they are, and the first of them.
-use Rattle.std.specs.Prelude.{Bool, true, false, ◌&&◌, List, [], ◌∷◌, ℕ, suc, ℤ, pos, length, set, replicate}
-use Rattle.spelling.specs.declared.Parsed.{Parsed}
+use Rattle.std.specs.Prelude.{Bool, true, false, ◌&&◌, List, [], ◌∷◌, Option, Some, None, ℕ, suc, ℤ, pos, length, set, replicate}
 use Rattle.spelling.specs.Number.{parsed_of}
-use Rattle.words.specs.Words.{Span, spans_of, part_of}
+use Rattle.words.specs.declared.Span.{Span}
+use Rattle.words.specs.Words.{spans_of, part_of}
 use Rattle.numbered.specs.Numbers.{is_number, value_of}
 use Rattle.series.specs.declared.Series.{Series}
 
@@ -18,7 +18,7 @@ abbrev pub after_first : List Span → List Span
 after_first [] = []
 after_first (s ∷ l) = l
 
-abbrev pub parsed_in : List ℕ → Span → Parsed
+abbrev pub parsed_in : List ℕ → Span → Option ℤ
 parsed_in line s = parsed_of (part_of line s.start s.end)
 
 -- every one of the words is a number
@@ -31,15 +31,12 @@ unfoldable pub written_from : List ℕ → List Span → ℕ → List ℤ → Li
 written_from line [] n list = list
 written_from line (s ∷ l) n list = written_from line l (suc n) (set list n (value_of (parsed_in line s)))
 
-abbrev pub no_series : Series
-no_series = record { good = false; count = 0; numbers = no_numbers }
+abbrev pub series_if : Bool → List ℕ → List Span → Option Series
+series_if true line l = Some (record { count = length l; numbers = written_from line l 0 no_numbers })
+series_if false line l = None
 
-abbrev pub series_if : Bool → List ℕ → List Span → Series
-series_if true line l = record { good = true; count = length l; numbers = written_from line l 0 no_numbers }
-series_if false line l = no_series
-
-abbrev pub series_words : List ℕ → List Span → Series
+abbrev pub series_words : List ℕ → List Span → Option Series
 series_words line l = series_if (all_numbers line l) line l
 
-unfoldable pub series_of : List ℕ → Series
+unfoldable pub series_of : List ℕ → Option Series
 series_of line = series_words line (after_first (spans_of line))

@@ -37,8 +37,7 @@ pub fn join(naming: &mut [u64; NODES], i: usize, on: &[u8; ROLES])
 {
     for k in 0..ROLES {
         let n = on[k] as usize;
-        let more = with(naming[n], i);
-        naming[n] = more;
+        naming[n] = with(naming[n], i);
     }
 }
 
@@ -49,8 +48,7 @@ pub fn leave(naming: &mut [u64; NODES], i: usize, on: &[u8; ROLES])
 {
     for k in 0..ROLES {
         let m = on[k] as usize;
-        let less = without(naming[m], i);
-        naming[m] = less;
+        naming[m] = without(naming[m], i);
     }
 }
 

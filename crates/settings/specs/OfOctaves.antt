@@ -1,3 +1,2 @@
 -- What of `octaves` this crate hands on to those that do not list it.
 pub use Rattle.octaves.specs.inner
-pub use Rattle.octaves.specs.declared.Octave

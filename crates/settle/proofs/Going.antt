@@ -13,13 +13,15 @@ use lib.Dec.{eqb}
 use lib.ListN.{length, get_or, replicate, length-replicate, get_or-eq_default}
 use lib.IntN.{ℤ, pos, nat_abs, neg_ℤ, ◌+ℤ◌, ◌-ℤ◌, +ℤ_idr, +ℤ_comm, neg_ℤ-+ℤ}
 use Rattle.whole.specs.laws.Biased.{below_or_not}
-use Rattle.refusal.specs.Clash.{clash}
+use Rattle.refusal.specs.declared.Refusal.{Refusal}
+use Rattle.refusal.specs.declared.Refusal.TheVariants.{OutOfReach}
 use Rattle.volts.specs.Volts.{given_back}
 use Rattle.octave.specs.Table.{entries}
 use Rattle.scaling.specs.Scaled.{tick_limit}
+use Rattle.std.specs.Prelude.{Option, Some, None, Result, Ok, Err, is_ok}
+use Rattle.std.specs.Result.{result_err}
 use Rattle.places.specs.OfRowsTypes.Over.{Over}
-use Rattle.places.specs.OfRowsTypes.Outcome.{Outcome}
-use Rattle.places.specs.OfRows.Outcome.{is_over}
+use Rattle.places.specs.OfRows.Outcome.{Outcome, told_over, told_ticks, drawn_by}
 use Rattle.flows.specs.OfTerms.Rows.{branches}
 use Rattle.places.specs.OfTotals.Gives.{nodes_most}
 use Rattle.places.specs.OfTotals.Flow.{flow, ticks_give, sum_below, with_more}
@@ -39,14 +41,19 @@ use Rattle.places.specs.Counts.{transistors_most}
 use Rattle.places.specs.Sets.{member}
 use Rattle.places.specs.inner.Parts.{NextIn}
 use Rattle.settle.specs.declared.First.{First}
-use Rattle.settle.specs.declared.Judgement.{Judgement}
 use Rattle.settle.specs.Change.{change_by, changes}
-use Rattle.settle.specs.First.{earlier, first_below, nobody}
+use Rattle.settle.specs.First.{earlier, first_below, judged}
 use Rattle.settle.specs.Renewed.{renewed}
 use Rattle.settle.specs.inner.Working.{card_at, nodes_at, held_at, Round, gained, new_at, first_so, held_from}
-use Rattle.settle.specs.inner.Working.{given, Sums, few_places, standing, is_taken, Settling, Gone}
+use Rattle.settle.specs.inner.Working.{given, Sums, few_places, standing, Settling, Gone}
 use Rattle.settle.specs.inner.Working.{Going, Settled}
 use Rattle.settle.specs.laws.Renewals.{renewed_past}
+
+-- ---- what counts of an outcome, and by what it overloads, by the library's words
+
+pub own_over : (w : Outcome) → result_err w ≡ told_over w
+own_over (Ok ticks) = refl
+own_over (Err over) = refl
 
 -- ---- sums and firsts over places that are passed over
 
@@ -59,7 +66,7 @@ sum_past f from (suc k) h =
     rw (e, h (from + k) (omega arith) (omega arith))
     (+ℤ_idr _ ∙ sum_past f from k (λ j p q. h j p (omega arith)))
 
-first_past : (worked : ℕ → Bool) (issue : ℕ → ℕ) (over : ℕ → Over) (from k : ℕ) →
+first_past : (worked : ℕ → Bool) (issue : ℕ → ℕ) (over : ℕ → Option Over) (from k : ℕ) →
     ((j : ℕ) → from ≤ j → j < from + k → worked j ≡ false) →
     first_below worked issue over (from + k) ≡ first_below worked issue over from
 unfolding first_below
@@ -189,7 +196,8 @@ module _ (r : Round) (currents : List ℤ) where
       ((λ j. c.at i h j -ℤ g.at i h j) ∙ difference transistors_most i)))
 
   -- from a place before on to the next of the set
-  on_to : (from i : ℕ) → from ≤ transistors_most → NextIn r.marked from i → {coming going : List ℤ} {first : First} →
+  on_to : (from i : ℕ) → from ≤ transistors_most → NextIn r.marked from i →
+      {coming going : List ℤ} {first : Option First} →
       Sums r (new_at r) from coming → Sums r (held_at currents) from going → first ≡ first_so r from →
       Gone r currents i coming going first
   on_to from i h next comes goes told =
@@ -222,28 +230,27 @@ module _ (r : Round) (currents : List ℤ) where
   -- ---- the first place
 
   gone_none : (i : ℕ) → NextIn r.marked 0 i →
-      Gone r currents i (replicate nodes_most (pos 0)) (replicate nodes_most (pos 0)) nobody
+      Gone r currents i (replicate nodes_most (pos 0)) (replicate nodes_most (pos 0)) None
   unfolding first_below
   gone_none i next = on_to 0 i zero-le next (sums_none r (new_at r)) (sums_none r (held_at currents)) refl
 
   pub begins : {table : List ℕ} {totals : List ℤ} → table ≡ entries → Settling r currents totals → (i : ℕ) →
       NextIn r.marked 0 i →
-      Going r table currents totals i (replicate nodes_most (pos 0)) (replicate nodes_most (pos 0)) nobody
+      Going r table currents totals i (replicate nodes_most (pos 0)) (replicate nodes_most (pos 0)) None
   begins t s i next = record { table_is = t; settling = s; gone = gone_none i next }
 
-  pub held_start : (i : ℕ) → NextIn r.marked 0 i → {totals : List ℤ} {told : Judgement} {after held : List ℤ} →
+  pub held_start : (i : ℕ) → NextIn r.marked 0 i → {totals : List ℤ} {told : Result (Unit {0}) Refusal} {after held : List ℤ} →
       Settled r currents totals i told after held → Settled r currents totals 0 told after held
   held_start i next {told = told} s =
       record {
-        first_is = s.first_is;
-        fits_is = s.fits_is;
+        told_is = s.told_is;
         totals_are = s.totals_are;
-        held = s.held ∙ ap (λ (l : List ℤ). cond (is_taken told) l currents) (sym (held_past 0 i zero-le next));
+        held = s.held ∙ ap (λ (l : List ℤ). cond (is_ok told) l currents) (sym (held_past 0 i zero-le next));
       }
 
   -- ---- a place worked
 
-  module _ {totals : List ℤ} (s : Settling r currents totals) {i : ℕ} {coming going : List ℤ} {first : First}
+  module _ {totals : List ℤ} (s : Settling r currents totals) {i : ℕ} {coming going : List ℤ} {first : Option First}
       (g : Gone r currents i coming going first) (h : i < transistors_most) {on : List ℕ}
       (o : on ≡ nodes_at r.nodes i) where
     -- what the place i asks of working it
@@ -267,7 +274,7 @@ module _ (r : Round) (currents : List ℤ) where
 
     -- and of letting its new currents come
     pub gone_comes : {w : Outcome} → Works (card_of r.deck (get_or r.seats i 0)) on (map given_back r.will) w →
-        Givable coming on w.ticks × (length w.ticks ≡ branches)
+        Givable coming on (told_ticks w) × (length (told_ticks w) ≡ branches)
     gone_comes works = (
       record {
         wired = wired;
@@ -278,13 +285,13 @@ module _ (r : Round) (currents : List ℤ) where
     )
 
   -- going on from there is going on from the next place
-  pub goes_on : {table : List ℕ} {totals : List ℤ} {i : ℕ} {coming going : List ℤ} {first : First} →
+  pub goes_on : {table : List ℕ} {totals : List ℤ} {i : ℕ} {coming going : List ℤ} {first : Option First} →
       Going r table currents totals i coming going first → i < transistors_most → {on : List ℕ} →
       on ≡ nodes_at r.nodes i → {old : List ℤ} → old ≡ held_at currents i → {going' : List ℤ} →
       More nodes_most going going' (ticks_give on old) → {w : Outcome} →
       Works (card_of r.deck (get_or r.seats i 0)) on (map given_back r.will) w → {coming' : List ℤ} →
-      More nodes_most coming coming' (ticks_give on w.ticks) → {found : First} →
-      found ≡ earlier first (get_or r.issues i 0) w.over → (next : ℕ) → NextIn r.marked (i + 1) next →
+      More nodes_most coming coming' (ticks_give on (told_ticks w)) → {found : Option First} →
+      found ≡ earlier first (get_or r.issues i 0) (told_over w) → (next : ℕ) → NextIn r.marked (i + 1) next →
       Going r table currents totals next coming' going' found
   unfolding first_below
   goes_on {i = i} {coming = coming} {going = going} {first = first} q h o e out {w} works into f next n =
@@ -301,12 +308,12 @@ module _ (r : Round) (currents : List ℤ) where
       g : Gone r currents i coming going first
       g = q.gone
 
-      new : w.ticks ≡ new_at r i
+      new : told_ticks w ≡ new_at r i
       new = works.ticks ∙ rw o
 
   -- ---- none is left, and on the way back
 
-  module _ {i : ℕ} {coming going : List ℤ} {first : First} (g : Gone r currents i coming going first)
+  module _ {i : ℕ} {coming going : List ℤ} {first : Option First} (g : Gone r currents i coming going first)
       (h : transistors_most ≤ i) where
     last : i ≡ transistors_most
     last = let m = g.most in omega arith
@@ -320,37 +327,56 @@ module _ (r : Round) (currents : List ℤ) where
         }
 
     -- somebody overloads: nothing more is judged
-    pub gone_over : is_over first.over ≡ true → {totals : List ℤ} →
-        Settled r currents totals i (record { first = first; fits = false }) totals currents
-    gone_over o =
+    pub gone_over : {f : First} → first ≡ Some f → {totals : List ℤ} →
+        Settled r currents totals i (Err (drawn_by f.issue (Some f.over))) totals currents
+    gone_over e {totals} =
         record {
-          first_is = rw last at g.first_is;
-          fits_is = λ n. clash cc;
-          totals_are = rw o;
-          held = rw o;
+          told_is =
+              ap (λ (x : Option First). judged x (not (some_outside (standing r currents totals))))
+              (sym e ∙ (rw last at g.first_is));
+          totals_are = refl;
+          held = refl;
         }
 
-    pub gone_all : is_over first.over ≡ false → {totals : List ℤ} {fits : Bool} {totals' : List ℤ} →
-        StandsIn totals coming going fits totals' →
-        Settled r currents totals i (record { first = first; fits = fits }) totals' currents
+    -- nobody does: the totals are judged
+    pub gone_all : first ≡ None → {totals : List ℤ} {told : Result (Unit {0}) Refusal} {totals' : List ℤ} →
+        StandsIn totals coming going told totals' → Settled r currents totals i told totals' currents
     unfolding renewed
-    gone_all o {totals} {fits} stands =
+    gone_all e {totals} {told} {totals'} stands =
         let same = changed_is totals (rw last at g.comes) (rw last at g.goes) in
         record {
-          first_is = rw last at g.first_is;
-          fits_is = λ n. stands.told ∙ ap (λ (l : List ℤ). not (some_outside l)) same;
-          totals_are = rw o (stands.totals_are ∙ ap (λ (l : List ℤ). cond fits l totals) same);
-          held = rw last (sym (either (is_taken (record { first = first; fits = fits }))));
+          told_is =
+              stands.told ∙ ap (λ (l : List ℤ). told_by (some_outside l)) same
+              ∙ judged_none (some_outside (standing r currents totals))
+              ∙ ap (λ (x : Option First). judged x (not (some_outside (standing r currents totals))))
+              (sym e ∙ (rw last at g.first_is));
+          totals_are =
+              stands.totals_are ∙ taken (some_outside (changed totals coming going)) totals (changed totals coming going)
+              ∙ ap (λ (t : Result (Unit {0}) Refusal). cond (is_ok t) (changed totals coming going) totals)
+              (sym stands.told)
+              ∙ ap (λ (l : List ℤ). cond (is_ok told) l totals) same;
+          held = rw last (sym (either (is_ok told)));
         }
       where
+        told_by : Bool → Result (Unit {0}) Refusal
+        told_by out = cond out (Err OutOfReach) (Ok tt)
+
+        judged_none : (out : Bool) → told_by out ≡ judged None (not out)
+        judged_none true = refl
+        judged_none false = refl
+
+        taken : (out : Bool) (l then : List ℤ) → cond out l then ≡ cond (is_ok (told_by out)) then l
+        taken true l then = refl
+        taken false l then = refl
+
         either : (t : Bool) → cond t currents currents ≡ currents
         either true = refl
         either false = refl
 
   -- a set without places: nobody overloads, nothing comes and nothing goes, and what is held is held on
-  pub settled_none : r.marked ≡ 0 → {totals : List ℤ} {fits : Bool} →
-      StandsIn totals (replicate nodes_most (pos 0)) (replicate nodes_most (pos 0)) fits totals →
-      Settled r currents totals 0 (record { first = nobody; fits = fits }) totals currents
+  pub settled_none : r.marked ≡ 0 → {totals : List ℤ} {told : Result (Unit {0}) Refusal} →
+      StandsIn totals (replicate nodes_most (pos 0)) (replicate nodes_most (pos 0)) told totals →
+      Settled r currents totals 0 told totals currents
   settled_none e stands =
       held_start transistors_most end (gone_all (gone_none transistors_most end) (omega arith) refl stands)
     where
@@ -365,35 +391,34 @@ module _ (r : Round) (currents : List ℤ) where
 
   -- as many totals as before
   pub settled_long : {totals : List ℤ} → length totals ≡ nodes_most →
-      {i : ℕ} {told : Judgement} {totals' held : List ℤ} →
+      {i : ℕ} {told : Result (Unit {0}) Refusal} {totals' held : List ℤ} →
       Settled r currents totals i told totals' held → length totals' ≡ length totals
-  settled_long {totals} long {told = told} s = ap length s.totals_are ∙ go (is_taken told)
+  settled_long {totals} long {told = told} s = ap length s.totals_are ∙ go (is_ok told)
     where
       go : (t : Bool) → length (cond t (standing r currents totals) totals) ≡ length totals
       go true = more_long totals _ ∙ sym long
       go false = refl
 
   module _ {i next : ℕ} (h : i < transistors_most) (n : NextIn r.marked (i + 1) next) {totals : List ℤ}
-      {told : Judgement} {after held : List ℤ} (s : Settled r currents totals next told after held) where
+      {told : Result (Unit {0}) Refusal} {after held : List ℤ} (s : Settled r currents totals next told after held) where
     -- it is refused: what was held is held on
-    pub back_left : is_taken told ≡ false → Settled r currents totals i told after held
+    pub back_left : is_ok told ≡ false → Settled r currents totals i told after held
     back_left e =
-        record { first_is = s.first_is; fits_is = s.fits_is; totals_are = s.totals_are; held = s.held ∙ rw e }
+        record { told_is = s.told_is; totals_are = s.totals_are; held = s.held ∙ rw e }
 
-    pub back_held : is_taken told ≡ true → member r.marked i ≡ true → {on : List ℕ} →
+    pub back_held : is_ok told ≡ true → member r.marked i ≡ true → {on : List ℕ} →
         on ≡ nodes_at r.nodes i → {w : Outcome} →
         Works (card_of r.deck (get_or r.seats i 0)) on (map given_back r.will) w →
-        Settled r currents totals i told after (written (pos 0) held (branches * i) w.ticks branches)
+        Settled r currents totals i told after (written (pos 0) held (branches * i) (told_ticks w) branches)
     unfolding renewed
     back_held e m o {w} works =
         record {
-          first_is = s.first_is;
-          fits_is = s.fits_is;
+          told_is = s.told_is;
           totals_are = s.totals_are;
           held = rw (e, one, m, new, rest);
         }
       where
-        new : w.ticks ≡ new_at r i
+        new : told_ticks w ≡ new_at r i
         new = works.ticks ∙ rw o
 
         one : transistors_most - i ≡ suc (transistors_most - suc i)

@@ -15,9 +15,9 @@ ghost use Rattle.settle.specs.inner.Working.{round_of, Settling, Going, Settled}
 use flows::{put_in, work};
 use octave::Table;
 use places::{ALL_CURRENTS, ALL_NODES, TRANSISTORS};
-use polarity::Over;
-use settle::{First, Judgement};
-use terms::ROLES;
+use refusal::Refusal;
+use settle::First;
+use terms::{BRANCHES, ROLES};
 use totals::NODES;
 
 // A set below this one has none but the first sixteen places, which give so little that all of it is small.
@@ -34,6 +34,9 @@ fn put_out(going: &mut [i64; NODES], on: &[u8; ROLES], currents: &[i64; ALL_CURR
     let old = sets::currents_at(currents, i);
     put_in(going, on, &old);
 }
+
+// What one that overloads is reckoned with.
+const NONE: [i64; BRANCHES] = [0; BRANCHES];
 
 // Works the place i of the set and then those after it; after the last, unless one overloads, the totals are judged as
 // they would stand, and are written. A place's new currents are held on the way back, when nothing has turned out to be
@@ -54,8 +57,8 @@ fn settle_from(
     will: &[u32; NODES],
     set: u64,
     i: usize,
-    first: First,
-) -> Judgement
+    first: Option<First>,
+) -> Result<(), Refusal>
     requires { Going
         (round_of (deck_of numbers.now powers.now ticks.now switches.now) issues.now seats.now nodes.now set
         will.now) table.now currents.old totals.old i coming.old going.old first }
@@ -65,36 +68,37 @@ fn settle_from(
         currents.old totals.old i result totals.new currents.new }
 {
     if TRANSISTORS <= i {
-        let over = first.over;
-        if settle::is_over(over) {
-            return Judgement { first, fits: false };
-        }
-        let fits = standing::stand_in(totals, coming, going, set < FEW);
-        return Judgement { first, fits };
+        let Some(first) = first else {
+            return standing::stand_in(totals, coming, going, set < FEW);
+        };
+        return Err(settle::refusal_of(first.issue, first.over));
     }
     let s = seats[i] as usize;
     let on = sets::nodes_at(nodes, i);
     let o = work(table, numbers, powers, ticks, switches, s, &on, will);
+    let own = match &o {
+        Ok(ticks) => ticks,
+        Err(_) => &NONE,
+    };
     put_out(going, &on, currents, i);
-    put_in(coming, &on, &o.ticks);
-    let over = o.over;
-    let issue = issues[i];
-    let found = settle::earlier_of(first, issue, over);
+    put_in(coming, &on, own);
+    let over = o.err();
+    let found = settle::earlier_of(first, issues[i], over);
     let after = sets::next_in(set, i + 1);
     let last = settle_from(
         currents, coming, going, totals, table, numbers, powers, ticks, switches, issues, seats,
         nodes, will, set, after, found,
     );
-    if settle::is_taken(last) {
-        sets::put_currents(currents, i, &o.ticks);
+    if last.is_ok() {
+        sets::put_currents(currents, i, own);
     }
     last
 }
 
 // Brings the places of the set to the new voltages: at their nodes what they hold goes out of the totals and what they
-// will have comes in, and that is held then. Tells the first of them that overloads then, and where none does whether
-// every total as it would stand is in range; where one overloads or a total is not, the totals stay and what was held
-// is held on. Where the set has no places, nothing is worked.
+// will have comes in, and that is held then. 15 or 18 for the first of them that overloads then, and 10 where none does
+// and a total would leave the 64-bit range; a refusal leaves the totals and what is held as they were. Where the set
+// has no places, nothing is worked.
 pub fn settle(
     currents: &mut [i64; ALL_CURRENTS],
     totals: &mut [i64],
@@ -107,7 +111,7 @@ pub fn settle(
     nodes: &[u8; ALL_NODES],
     will: &[u32; NODES],
     set: u64,
-) -> Judgement
+) -> Result<(), Refusal>
     requires { Settling
         (round_of (deck_of numbers.now powers.now ticks.now switches.now) issues.now seats.now nodes.now set
         will.now) currents.old totals.old }
@@ -116,13 +120,8 @@ pub fn settle(
         issues.now seats.now nodes.now set will.now)
         currents.old totals.old 0 result totals.new currents.new }
 {
-    let first = First {
-        issue: 0,
-        over: Over::Within,
-    };
     if set == 0 {
-        let stay = standing::stand_still(totals);
-        return Judgement { first, fits: stay };
+        return standing::stand_still(totals);
     }
     let table = octave::table();
     let mut coming = [0i64; NODES];
@@ -144,6 +143,6 @@ pub fn settle(
         will,
         set,
         i,
-        first,
+        None,
     )
 }

@@ -1,5 +1,5 @@
 -- Digits added to a text, and signed numbers taken apart.
-use mathlib.Core.Path.{◌≡◌, ap, subst}
+use mathlib.Core.Path.{◌≡◌, refl, ap, subst}
 use mathlib.Core.List.{List, [], ◌∷◌, ◌++◌}
 use mathlib.Core.Bool.{Bool, ◌&&◌}
 use Prim.Native.Nat.{ℕ, zero, suc, ◌-◌, ◌/◌, ◌%◌, ◌^◌, ◌<◌, ◌≤◌}
@@ -13,7 +13,8 @@ use lib.Dec.{ltb}
 use mir.Syntax.{w64}
 use mir.Val.{SFits, to_z, of_z}
 use Rattle.whole.proofs.Halves.{back}
-use lib.IntN.{ℤ, nat_abs}
+use lib.IntN.{ℤ, pos, negsuc, nat_abs}
+use lib.Signed.{lt_z}
 use Rattle.current.specs.Current.{decimals, below_zero, opened_of, pico_of}
 use Rattle.sheet.specs.Digits.{glyph_of, digits_of, plain_digits, decimal_of, sign_of, signed_digits, ampere_digits}
 use Rattle.sheet.specs.Lines.{reading_of}
@@ -64,10 +65,15 @@ module _ {t r : Text} (v : ℤ) (h : SFits w64 v) where
       → Adds t (reading_of n v w) r
   as_read n w k a = rw (back v h, back w k) at a
 
-module _ {t r s : Text} {o : Opened} (z : ℤ) (e : o ≡ opened_of z) where
-  pub signed_done : Adds t (sign_of o.below) r → Adds r (decimal_of o.size) s → Adds t (signed_digits z) s
-  signed_done p q = then (rw (ap (λ (u : Opened). u.below) e) at p) (rw (ap (λ (u : Opened). u.size) e) at q)
+pub below_is : (z : ℤ) → lt_z z (pos 0) ≡ below_zero z
+below_is (pos n) = le-ltb n 0 (omega arith)
+below_is (negsuc n) = refl
 
+pub signed_done : {t r s : Text} {below : Bool} {size : ℕ} (z : ℤ) → below ≡ below_zero z → size ≡ nat_abs z
+    → Adds t (sign_of below) r → Adds r (decimal_of size) s → Adds t (signed_digits z) s
+signed_done z e f p q = then (rw e at p) (rw f at q)
+
+module _ {t r s : Text} {o : Opened} (z : ℤ) (e : o ≡ opened_of z) where
   -- the steps of a current: its picoamperes, whether a sign is shown, the sign, then the rest
   pub amperes_done : {n : ℕ} {m : Bool} → n ≡ pico_of o.size → m ≡ (o.below && ltb 0 n) → Adds t (sign_of m) r
       → Adds r (decimal_of (n / 10 ^ decimals) ++ 46 ∷ digits_of 10 decimals n) s → Adds t (ampere_digits z) s

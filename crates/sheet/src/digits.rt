@@ -1,10 +1,11 @@
 // Numbers in digits, added to a text.
-ghost use Rattle.std.specs.Prelude.{◌≡◌, ◌<◌, ◌≤◌};
+ghost use Rattle.std.specs.Prelude.{◌≡◌, ◌<◌, ◌≤◌, ◌∷◌};
+ghost use Rattle.spelling.specs.Bytes.{space};
 ghost use Rattle.sheet.specs.Text.{Adds};
 ghost use Rattle.sheet.specs.Digits.{glyph_of, digits_of, hex_digits, plain_digits, decimal_of, sign_of, signed_digits};
 ghost use Rattle.sheet.specs.Digits.{ampere_digits};
 
-use crate::{Text, gather};
+use crate::Text;
 
 // How many decimal digits a number of 64 bits has at most.
 const MOST_DIGITS: usize = 20;
@@ -19,67 +20,84 @@ fn glyph(d: u64) -> u8
     requires { d < 16 }
     ensures { result ≡ glyph_of d }
 {
-    if d < 10 { 48 + d as u8 } else { 87 + d as u8 }
-}
-
-// The k lowest digits of x, zeros in front too.
-fn spell(t: Text, x: u64, base: u64, k: usize) -> Text
-    requires { (0 < base) × (base ≤ 16) }
-    ensures { Adds t (digits_of base k x) result }
-{
-    if k == 0 {
-        return t;
+    if d < 10 {
+        b'0' + d as u8
+    } else {
+        b'a' - 10 + d as u8
     }
-    let high = spell(t, x / base, base, k - 1);
-    gather::push(high, glyph(x % base))
 }
 
-pub(crate) fn hex(t: Text, x: u64, k: usize) -> Text
-    ensures { Adds t (hex_digits k x) result }
-{
-    spell(t, x, 16, k)
-}
-
-// The decimal digits of x, which has at most k of them.
-fn plain(t: Text, x: u64, k: usize) -> Text
-    ensures { Adds t (plain_digits k x) result }
-{
-    if k == 0 {
-        return t;
+impl Text {
+    // The k lowest digits of x, zeros in front too.
+    fn spell(&mut self, x: u64, base: u64, k: usize)
+        requires { (0 < base) × (base ≤ 16) }
+        ensures { Adds self.old (digits_of base k x) self.new }
+    {
+        if k == 0 {
+            return;
+        }
+        self.spell(x / base, base, k - 1);
+        self.push(glyph(x % base));
     }
-    if x < 10 {
-        return gather::push(t, glyph(x));
+
+    pub(crate) fn hex(&mut self, x: u64, k: usize)
+        ensures { Adds self.old (hex_digits k x) self.new }
+    {
+        self.spell(x, 16, k);
     }
-    let high = plain(t, x / 10, k - 1);
-    gather::push(high, glyph(x % 10))
-}
 
-pub(crate) fn decimal(t: Text, x: u64) -> Text
-    ensures { Adds t (decimal_of x) result }
-{
-    plain(t, x, MOST_DIGITS)
-}
+    // The decimal digits of x, which has at most k of them.
+    fn plain(&mut self, x: u64, k: usize)
+        ensures { Adds self.old (plain_digits k x) self.new }
+    {
+        if k == 0 {
+            return;
+        }
+        if x < 10 {
+            self.push(glyph(x));
+            return;
+        }
+        self.plain(x / 10, k - 1);
+        self.push(glyph(x % 10));
+    }
 
-fn sign(t: Text, below: bool) -> Text
-    ensures { Adds t (sign_of below) result }
-{
-    if below { gather::push(t, b'-') } else { t }
-}
+    pub(crate) fn decimal(&mut self, x: u64)
+        ensures { Adds self.old (decimal_of x) self.new }
+    {
+        self.plain(x, MOST_DIGITS);
+    }
 
-pub(crate) fn signed(t: Text, v: i64) -> Text
-    ensures { Adds t (signed_digits v) result }
-{
-    let s = current::open(v);
-    decimal(sign(t, s.below), s.size)
-}
+    // A number, with a space before it.
+    pub(crate) fn spaced(&mut self, n: u64)
+        ensures { Adds self.old (space ∷ decimal_of n) self.new }
+    {
+        self.push(b' ');
+        self.decimal(n);
+    }
 
-pub(crate) fn amperes(t: Text, ticks: i64) -> Text
-    ensures { Adds t (ampere_digits ticks) result }
-{
-    let s = current::open(ticks);
-    let p = current::picoamperes(s);
-    let signed = sign(t, current::shows_minus(s.below, p));
-    let above = decimal(signed, p / AMPERE_PICOS);
-    let point = gather::push(above, b'.');
-    spell(point, p, 10, DECIMALS)
+    fn sign(&mut self, below: bool)
+        ensures { Adds self.old (sign_of below) self.new }
+    {
+        if below {
+            self.push(b'-');
+        }
+    }
+
+    pub(crate) fn signed(&mut self, v: i64)
+        ensures { Adds self.old (signed_digits v) self.new }
+    {
+        self.sign(v < 0);
+        self.decimal(v.unsigned_abs());
+    }
+
+    pub(crate) fn amperes(&mut self, ticks: i64)
+        ensures { Adds self.old (ampere_digits ticks) self.new }
+    {
+        let s = current::open(ticks);
+        let p = current::picoamperes(s);
+        self.sign(current::shows_minus(s.below, p));
+        self.decimal(p / AMPERE_PICOS);
+        self.push(b'.');
+        self.spell(p, 10, DECIMALS);
+    }
 }

@@ -4,36 +4,30 @@ ghost use Rattle.sheet.specs.Text.{empty_text, Adds};
 
 use crate::{ROOM, Text};
 
-pub(crate) fn empty() -> Text
-    ensures { result ≡ empty_text }
-{
-    Text {
-        bytes: [0; ROOM],
-        len: 0,
+impl Text {
+    pub(crate) fn empty() -> Text
+        ensures { result ≡ empty_text }
+    {
+        Text {
+            bytes: [0; ROOM],
+            len: 0,
+        }
     }
-}
 
-pub(crate) fn push(t: Text, b: u8) -> Text
-    ensures { Adds t (b ∷ []) result }
-{
-    let n = t.len;
-    if n < ROOM {
-        let mut bytes = t.bytes;
-        bytes[n] = b;
-        return Text { bytes, len: n + 1 };
+    pub(crate) fn push(&mut self, b: u8)
+        ensures { Adds self.old (b ∷ []) self.new }
+    {
+        if self.len < ROOM {
+            self.bytes[self.len] = b;
+            self.len += 1;
+        }
     }
-    t
-}
 
-pub(crate) fn append(t: Text, s: &[u8]) -> Text
-    ensures { Adds t s.now result }
-{
-    let mut gathered = t;
-    let mut i = 0;
-    while i < s.len() {
-        let more = push(gathered, s[i]);
-        gathered = more;
-        i += 1;
+    pub(crate) fn append(&mut self, s: &[u8])
+        ensures { Adds self.old s.now self.new }
+    {
+        for b in s {
+            self.push(*b);
+        }
     }
-    gathered
 }

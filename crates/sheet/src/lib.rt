@@ -2,7 +2,7 @@
 #![tactic(auto)]
 
 ghost use Rattle.std.specs.Prelude.{◌≡◌, [], ◌∷◌};
-ghost use Rattle.sheet.specs.Text.{text_of};
+ghost use Rattle.sheet.specs.Text.{shown, text_of};
 ghost use Rattle.sheet.specs.Digits.{decimal_of, mask_digits, word_digits, hex_digits, signed_digits};
 ghost use Rattle.sheet.specs.Lines.{label_line, told_line, listing_line, node_line, sheet_line};
 
@@ -29,24 +29,37 @@ pub struct Text {
     pub len: usize,
 }
 
+impl Text {
+    // The bytes of the text.
+    pub fn shown(&self) -> &[u8]
+        ensures { result.now ≡ shown self.now }
+    {
+        &self.bytes[..self.len.min(ROOM)]
+    }
+}
+
 // A word and a number, as in `cards 3`.
 pub fn label_line(label: &[u8], n: u64) -> Text
     ensures { result ≡ text_of (label_line label.now n) }
 {
-    let start = gather::append(gather::empty(), label);
-    let numbered = lines::spaced(start, n);
-    gather::push(numbered, b'\n')
+    let mut t = Text::empty();
+    t.append(label);
+    t.spaced(n);
+    t.push(b'\n');
+    t
 }
 
 // A refusal's number, and the transistor and the branch that it tells, as in `refused 15 3 6`.
 pub fn told_line(number: u32, issue: u32, branch: u32) -> Text
     ensures { result ≡ text_of (told_line (number ∷ issue ∷ branch ∷ [])) }
 {
-    let start = gather::append(gather::empty(), b"refused");
-    let numbered = lines::spaced(start, number as u64);
-    let issued = lines::spaced(numbered, issue as u64);
-    let placed = lines::spaced(issued, branch as u64);
-    gather::push(placed, b'\n')
+    let mut t = Text::empty();
+    t.append(b"refused");
+    t.spaced(number as u64);
+    t.spaced(issue as u64);
+    t.spaced(branch as u64);
+    t.push(b'\n');
+    t
 }
 
 fn mask_width(wide: bool) -> usize
@@ -59,28 +72,36 @@ fn mask_width(wide: bool) -> usize
 pub fn mask_digits(mask: u32, wide: bool) -> Text
     ensures { result ≡ text_of (hex_digits (mask_digits wide) mask) }
 {
-    digits::hex(gather::empty(), mask as u64, mask_width(wide))
+    let mut t = Text::empty();
+    t.hex(mask as u64, mask_width(wide));
+    t
 }
 
 // A word of 64 bits in hex digits.
 pub fn word_digits(word: u64) -> Text
     ensures { result ≡ text_of (hex_digits word_digits word) }
 {
-    digits::hex(gather::empty(), word, WORD_DIGITS)
+    let mut t = Text::empty();
+    t.hex(word, WORD_DIGITS);
+    t
 }
 
 // A number in decimal digits, with a minus sign where it is below zero.
 pub fn signed_digits(v: i64) -> Text
     ensures { result ≡ text_of (signed_digits v) }
 {
-    digits::signed(gather::empty(), v)
+    let mut t = Text::empty();
+    t.signed(v);
+    t
 }
 
 // A number without a sign.
 pub fn decimal_digits(n: u64) -> Text
     ensures { result ≡ text_of (decimal_of n) }
 {
-    digits::decimal(gather::empty(), n)
+    let mut t = Text::empty();
+    t.decimal(n);
+    t
 }
 
 // A card's line in the listing, from its name without padding and its record.
@@ -88,31 +109,35 @@ pub fn listing_line(name: &[u8], bytes: &[u8]) -> Text
     ensures { result ≡ text_of (listing_line name.now bytes.now) }
 {
     let number = lines::judged(bytes);
-    let mask = listed::listed_mask(number, card::clip(bytes).mask);
-    let width = mask_width(clip::is_wide(bytes));
-    let named = gather::append(gather::empty(), name);
-    let spaced = gather::push(named, b' ');
-    let masked = digits::hex(spaced, mask as u64, width);
-    let parted = gather::push(masked, b' ');
-    let numbered = digits::decimal(parted, number as u64);
-    gather::push(numbered, b'\n')
+    let mask = listed::listed_mask(number, lines::mask(bytes));
+    let mut t = Text::empty();
+    t.append(name);
+    t.push(b' ');
+    t.hex(mask as u64, mask_width(clip::is_wide(bytes)));
+    t.spaced(number as u64);
+    t.push(b'\n');
+    t
 }
 
 // The answer to a node that is read.
 pub fn node_line(node: u32, microvolts: i64, ticks: i64) -> Text
     ensures { result ≡ text_of (node_line node microvolts ticks) }
 {
-    let start = gather::append(gather::empty(), b"node ");
-    let read = lines::reading(start, node, microvolts, ticks);
-    gather::push(read, b'\n')
+    let mut t = Text::empty();
+    t.append(b"node ");
+    t.reading(node, microvolts, ticks);
+    t.push(b'\n');
+    t
 }
 
 // A node's line in the bias sheet.
 pub fn sheet_line(node: u32, microvolts: i64, ticks: i64) -> Text
     ensures { result ≡ text_of (sheet_line node microvolts ticks) }
 {
-    let read = lines::reading(gather::empty(), node, microvolts, ticks);
-    let spaced = gather::push(read, b' ');
-    let current = digits::amperes(spaced, ticks);
-    gather::push(current, b'\n')
+    let mut t = Text::empty();
+    t.reading(node, microvolts, ticks);
+    t.push(b' ');
+    t.amperes(ticks);
+    t.push(b'\n');
+    t
 }

@@ -9,13 +9,13 @@ use lib.Seq.{take_all}
 use Rattle.refusal.specs.declared.Refusal.{Refusal}
 use Rattle.refusal.specs.Order.{tells_one}
 use Rattle.bytes_le.specs.Le.{le}
+use Rattle.page.specs.declared.Page.{Page}
 use Rattle.page.specs.Page.{Writes}
 use Rattle.directory.specs.Format.{version, count, directory_offset, records_offset, whole_length}
 use Rattle.directory.specs.Judged.{Sound}
 use Rattle.directory.proofs.Headers.{Agreed, agreed}
 use Rattle.directory.proofs.Verdicts.{library_yes}
-use Rattle.mending.specs.declared.Mending.{Mending}
-use Rattle.mending.specs.declared.Mending.TheVariants.{Set, Refused}
+use Rattle.std.proofs.Common.{Result, Ok, Err}
 use Rattle.mending.specs.Mended.{mended_of}
 use Rattle.mending.specs.Answers.{verdict_mended, mending, Mends}
 use Rattle.mending_laws.proofs.OneRecord.{same_part}
@@ -44,29 +44,29 @@ module _ (s : List ℕ) (g : Sound s) where
       (sym (take-append-drop (length s) o) ∙ ap (λ (x : List ℕ). x ++ drop (length s) o) e) same
 
 -- what is held where a library was mended to
-mended_held : {s o : List ℕ} {n : ℕ} {o' : List ℕ} → Mends s o (Set n) o' → held_of o' ≡ mended_of s
+mended_held : {s o : List ℕ} {n : ℕ} {o' : List ℕ} → Mends s o (Ok n) o' → held_of o' ≡ mended_of s
 mended_held {s} {o' = o'} m =
     let v = leaves m in
     sound_held (mended_of s) (mended_sound s v.sound) o'
     (ap (λ (k : ℕ). take k o') (length_stays s v.sound) ∙ v.start)
 
 -- the library held on the shelf `old` is mended into o, which has room for any
-module _ (old : List ℕ) {s o o' : List ℕ} {r : Mending} (e : s ≡ held_of old) (k : length o ≡ shelf_bytes)
+module _ (old : List ℕ) {s o o' : List ℕ} {r : Result ℕ Refusal} (e : s ≡ held_of old) (k : length o ≡ shelf_bytes)
     (m : Mends s o r o') where
-  verdict_is : {q : Mending} → r ≡ q → mending_held old ≡ verdict_mended q
+  verdict_is : {q : Result ℕ Refusal} → r ≡ q → mending_held old ≡ verdict_mended q
   verdict_is g =
       ap₂ mending (sym e) (sym k) ∙ sym (tells_one (verdict_mended r) (mending s (length o)) m.answer)
       ∙ ap verdict_mended g
 
-  module _ {out new : List ℕ} {at end : ℕ} where
-    pub mend_taken : {n : ℕ} → r ≡ Set n → {t shelf : List ℕ} → t ≡ held_of o' → shelf ≡ kept_over t old
-        → Writes (answer_line (said.Mended n)) out at new end
-        → Writes (mended_line (mending_held old)) out at new end × (shelf ≡ mended_shelf old)
+  module _ {N : ℕ} {out new : Page N} where
+    pub mend_taken : {n : ℕ} → r ≡ Ok n → {t shelf : List ℕ} → t ≡ held_of o' → shelf ≡ kept_over t old
+        → Writes (answer_line (said.Mended n)) out new
+        → Writes (mended_line (mending_held old)) out new × (shelf ≡ mended_shelf old)
     mend_taken {n} g et ek w =
         let same : held_of o' ≡ mended_of s = mended_held (rw g at m) in
         rw (verdict_is g)
         (w, ek ∙ ap (λ (l : List ℕ). kept_over l old) (et ∙ same ∙ ap mended_of e))
 
-    pub mend_refused : {f : Refusal} → r ≡ Refused f → Writes (answer_line (said.Refused f)) out at new end
-        → Writes (mended_line (mending_held old)) out at new end × (old ≡ mended_shelf old)
+    pub mend_refused : {f : Refusal} → r ≡ Err f → Writes (answer_line (said.Refused f)) out new
+        → Writes (mended_line (mending_held old)) out new × (old ≡ mended_shelf old)
     mend_refused g w = rw (verdict_is g) (w, refl)

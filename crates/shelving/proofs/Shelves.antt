@@ -11,10 +11,11 @@ use Rattle.refusal.specs.Order.{Verdict, no, yes, tells}
 use Rattle.bytes_le.specs.Buffer.{over}
 use Rattle.words.specs.Words.{part_of}
 use Rattle.words.proofs.Parts.{part_there}
+use Rattle.page.specs.declared.Page.{Page}
 use Rattle.page.specs.Page.{Writes}
 use Rattle.directory.specs.Format.{whole_length}
-use Rattle.library.specs.declared.Reading.{Reading}
-use Rattle.library.specs.declared.Reading.TheVariants.{Cards, Refused}
+use Rattle.std.proofs.Common.{Result, Ok, Err}
+use Rattle.library.specs.declared.Contents.{Contents}
 use Rattle.library.specs.Answers.{verdict_read, read, Reads}
 use Rattle.library.specs.Unique.{as_reading, reading_told}
 use Rattle.answers.specs.declared.Answer.TheVariants as said
@@ -48,7 +49,7 @@ kept_whole bytes shelf h = ap (λ (l : List ℕ). over l shelf) (sym (take_all s
 
 -- ---- a library that is brought
 
-pub judged_told : {s ns ws ns' ws' : List ℕ} {r : Reading} → length ns ≡ names_room → length ws ≡ words_room
+pub judged_told : {s ns ws ns' ws' : List ℕ} {r : Result Contents Refusal} → length ns ≡ names_room → length ws ≡ words_room
     → Reads s ns ws r ns' ws' → r ≡ as_reading (judged s)
 judged_told {s} {r = r} e f a =
     reading_told r (judged s) (a.answer ∙ ap₂ (λ (x y : ℕ). tells (read s x y)) e f)
@@ -58,18 +59,18 @@ verdict_read_lem (no f) = refl
 verdict_read_lem (yes p) = refl
 
 -- s is what was brought, as the code has it, and r what judging it gave
-module _ {s b : List ℕ} (p : s ≡ b) {r : Reading} (e : r ≡ as_reading (judged s)) where
-  verdict_is : {q : Reading} → r ≡ q → judged b ≡ verdict_read q
+module _ {s b : List ℕ} (p : s ≡ b) {r : Result Contents Refusal} (e : r ≡ as_reading (judged s)) where
+  verdict_is : {q : Result Contents Refusal} → r ≡ q → judged b ≡ verdict_read q
   verdict_is g = ap judged (sym p) ∙ sym (verdict_read_lem (judged s)) ∙ ap verdict_read (sym e ∙ g)
 
-  module _ {out new : List ℕ} {at end : ℕ} where
-    pub library_taken : {n v : ℕ} → r ≡ Cards n v → (old : List ℕ) {shelf : List ℕ} → shelf ≡ kept_over s old
-        → Writes (answer_line (said.Library n)) out at new end
-        → Writes (library_line (judged b)) out at new end × (shelf ≡ shelf_with b old)
+  module _ {N : ℕ} {out new : Page N} where
+    pub library_taken : {c : Contents} → r ≡ Ok c → (old : List ℕ) {shelf : List ℕ} → shelf ≡ kept_over s old
+        → Writes (answer_line (said.Library c.cards)) out new
+        → Writes (library_line (judged b)) out new × (shelf ≡ shelf_with b old)
     library_taken g old k w =
         rw (verdict_is g) (w, k ∙ ap (λ (l : List ℕ). kept_over l old) p)
 
-    pub library_refused : {f : Refusal} → r ≡ Refused f → {shelf : List ℕ}
-        → Writes (answer_line (said.Refused f)) out at new end
-        → Writes (library_line (judged b)) out at new end × (shelf ≡ shelf_with b shelf)
+    pub library_refused : {f : Refusal} → r ≡ Err f → {shelf : List ℕ}
+        → Writes (answer_line (said.Refused f)) out new
+        → Writes (library_line (judged b)) out new × (shelf ≡ shelf_with b shelf)
     library_refused g w = rw (verdict_is g) (w, refl)

@@ -8,9 +8,9 @@ use native.Mathlib.Nat.{lt_of_le_of_lt}
 use native.Mathlib.Omega.{arith}
 use lib.Dec.{ltb, eqb}
 use borrow.Author.Tests.{lt-ltb, le-leb, lt-leb, ltb-true, ltb-false, eqb-true, eqb-false, eq-eqb}
-use Rattle.decimal.specs.declared.Form.{Form}
-use Rattle.decimal.specs.declared.Form.TheVariants.{Number, Nothing}
-use Rattle.decimal.specs.Decimal.{digits_end, powers_end, sign_weight, size_bits, word_of}
+use Rattle.std.specs.Prelude.{Option, Some, None}
+use Rattle.decimal.specs.declared.Decimal.{Decimal}
+use Rattle.decimal.specs.Decimal.{decimal, digits_end, powers_end, sign_weight, size_bits, word_of}
 use Rattle.decimal.proofs.Order.{size_zero, size_under}
 use Rattle.shortest.specs.Form.{minus_of, power_for, digits_for, found_if, form_if, form_of}
 use Rattle.shortest.specs.laws.Firsts.{first_passes, first_before}
@@ -98,19 +98,20 @@ formed w = by (eqb w 0) refl
     by false e = found w (eqb-false w 0 e) (ltb (digits_for w) digits_end) refl
 
 -- so that it is what any search finds that finds the shortest
-pub formed_is : (w : ℕ) (r : Form) → Formed w r → r ≡ form_of w
+pub formed_is : (w : ℕ) (r : Option Decimal) → Formed w r → r ≡ form_of w
 formed_is w r f = same r (form_of w) f (formed w)
   where
-    same : (r s : Form) → Formed w r → Formed w s → r ≡ s
-    same (Number m d q) (Number n e p) f g =
-        let o = only_one w m n d e q p f g in
-        ap (λ (b : Bool). Number b d q) o.0 ∙ ap (λ (x : ℕ). Number n x q) o.1
-        ∙ ap (λ (x : ℕ). Number n e x) o.2
-    same (Number m d q) Nothing f g = absurd (g m d q f.form)
-    same Nothing (Number n e p) f g = absurd (f n e p g.form)
-    same Nothing Nothing f g = refl
+    same : (r s : Option Decimal) → Formed w r → Formed w s → r ≡ s
+    same (Some x) (Some y) f g =
+        let o = only_one w x.minus y.minus x.digits y.digits x.power y.power f g in
+        ap (λ (b : Bool). Some (decimal b x.digits x.power)) o.0
+        ∙ ap (λ (d : ℕ). Some (decimal y.minus d x.power)) o.1
+        ∙ ap (λ (q : ℕ). Some (decimal y.minus y.digits q)) o.2
+    same (Some x) None f g = absurd (g x.minus x.digits x.power f.form)
+    same None (Some y) f g = absurd (f y.minus y.digits y.power g.form)
+    same None None f g = refl
 
 -- no number that reads back to a word has fewer digits than the form that is given for it
-pub fewest : (w : ℕ) (m : Bool) (d q : ℕ) → form_of w ≡ Number m d q → (n : Bool) (e p k : ℕ) → ReadsBack w n e p
+pub fewest : (w : ℕ) (m : Bool) (d q : ℕ) → form_of w ≡ Some (decimal m d q) → (n : Bool) (e p k : ℕ) → ReadsBack w n e p
     → e < 10 ^ k → d < 10 ^ k
 fewest w m d q h = (subst (Formed w) h (formed w)).fewest

@@ -1,14 +1,16 @@
 -- A word is its sign and its size: a form of the word is one of the size, and the other way round.
-use mathlib.Core.Path.{◌≡◌, refl, sym, ap, ◌∙◌}
+use mathlib.Core.Path.{◌≡◌, refl, sym, ap, subst, ◌∙◌}
+use Rattle.std.specs.Prelude.{Option, Some, None}
 use mathlib.Core.Bool.{Bool, true, false, cond, ◌&&◌}
 use Prim.Native.Nat.{ℕ, zero, suc, ◌+◌, ◌%◌, ◌^◌, ◌<◌, zero-le}
 use native.Mathlib.Nat.{lt_of_le_of_lt}
 use native.Mathlib.Omega.{arith}
 use lib.Dec.{ltb, leb, lit<}
 use borrow.Author.Tests.{lt-ltb, leb-true, leb-false}
+use Rattle.decimal.specs.declared.Decimal.{Decimal}
 use Rattle.decimal.specs.Decimal.{sign_weight, size_bits}
-use Rattle.shortest.specs.inner.Search.{Reads, Smallest, NoneAbove}
-use Rattle.shortest.specs.laws.Least.{ReadsBack, Shortest}
+use Rattle.shortest.specs.inner.Search.{Reads, Smallest, NoneAbove, Searched}
+use Rattle.shortest.specs.laws.Least.{ReadsBack, Shortest, Formed}
 use Rattle.decimal.proofs.Exact.{ten_pos}
 use Rattle.decimal.proofs.Order.{size_zero, size_pos, size_under, word_is}
 use Rattle.shortest.proofs.Powers.{some}
@@ -78,3 +80,10 @@ found_form {w} {d} {q} W z s = record {
 
 pub no_form : {w : ℕ} → NoneAbove (w % sign_weight) 0 → (m : Bool) (e p : ℕ) → ReadsBack w m e p → ⊥
 no_form n m e p f = n.none e p zero-le (form_reads f)
+
+-- what the search gives is the word's form, where it is given the word's sign and size
+pub searched_form : {w : ℕ} (x : Option Decimal) → w < 18446744073709551616 → 0 < w % sign_weight
+    → Searched (leb sign_weight w) (w % sign_weight) x → Formed w x
+searched_form {w} (Some x) l z s =
+    subst (λ (b : Bool). Shortest w b x.digits x.power) (sym s.0) (found_form l z s.1)
+searched_form None l z s = no_form s

@@ -19,10 +19,6 @@ less_or_not a b = go (ltb a b) (ltb→lt a b) (nltb→le a b)
     go true f g = inl (f tt)
     go false f g = inr (g tt)
 
--- past the end there is no power
-pub none_yet : (w : ℕ) → NoneAbove w powers_end
-none_yet w = record { none = λ (e p : ℕ) (l : powers_end ≤ p) (r : Reads w e p). let h = r.power in omega arith }
-
 -- digits before the first that come to w stay under it
 
 below : {w q r : ℕ} (e : ℕ) → 0 < w → q < powers_end → FirstTo w q r → e < r → size_bits e q < w

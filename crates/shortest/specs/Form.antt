@@ -1,9 +1,8 @@
 -- The shortest form of a word: of all digits that read back to it, with whatever power, the smallest. Fewer digits make
 -- a smaller number, so that these are the fewest too (`Shortest` in laws/Least).
-use Rattle.std.specs.Prelude.{Bool, true, false, ℕ, eqb, leb, ltb}
-use Rattle.decimal.specs.declared.Form.{Form}
-use Rattle.decimal.specs.declared.Form.TheVariants.{Number, Nothing}
-use Rattle.decimal.specs.Decimal.{digits_end, no_power, powers_end, sign_weight, word_of}
+use Rattle.std.specs.Prelude.{Bool, true, false, Option, Some, None, ℕ, eqb, leb, ltb}
+use Rattle.decimal.specs.declared.Decimal.{Decimal}
+use Rattle.decimal.specs.Decimal.{decimal, digits_end, no_power, powers_end, sign_weight, word_of}
 use Rattle.shortest.specs.First.{first_below}
 
 -- a word's sign
@@ -18,14 +17,14 @@ power_for w d = first_below (λ (q : ℕ). eqb (word_of (minus_of w) d q) w) pow
 unfoldable pub digits_for : ℕ → ℕ
 digits_for w = first_below (λ (d : ℕ). ltb (power_for w d) powers_end) digits_end
 
-abbrev pub found_if : Bool → ℕ → Form
-found_if true w = Number (minus_of w) (digits_for w) (power_for w (digits_for w))
-found_if false w = Nothing
+abbrev pub found_if : Bool → ℕ → Option Decimal
+found_if true w = Some (decimal (minus_of w) (digits_for w) (power_for w (digits_for w)))
+found_if false w = None
 
 -- zero is 0e0
-abbrev pub form_if : Bool → ℕ → Form
-form_if true w = Number false 0 no_power
+abbrev pub form_if : Bool → ℕ → Option Decimal
+form_if true w = Some (decimal false 0 no_power)
 form_if false w = found_if (ltb (digits_for w) digits_end) w
 
-unfoldable pub form_of : ℕ → Form
+unfoldable pub form_of : ℕ → Option Decimal
 form_of w = form_if (eqb w 0) w

@@ -3,76 +3,61 @@
 #![tactic(auto)]
 
 ghost use Rattle.std.specs.Prelude.{◌≡◌, ◌<◌, ◌≤◌};
-ghost use Rattle.decimal.specs.Decimal.{powers_end, powers_of_ten};
+ghost use Rattle.decimal.specs.Decimal.{powers_end};
 ghost use Rattle.shortest.specs.Form.{form_of};
 ghost use Rattle.shortest.specs.inner.Search.{NoneAbove, Searched};
 
-use decimal::{Form, SIGN};
-use reaching::{DIGITS_END, NO_POWER};
+use decimal::{DIGITS_END, Decimal, NO_POWER, POWERS_END, PowersOfTen, SIGN};
 
-// Where powers end.
-const POWERS_END: u64 = 45;
-
-// The digits and the power of a size.
-#[derive(Clone, Copy)]
-pub enum Found {
-    At(u64, u64),
-    Nowhere,
-}
+// The first bit of an exponent in a word.
+const UNIT: u64 = 1 << 52;
 
 // A power from which on w has no form: one that the exponent suggests, where a test agrees, or the end.
-fn ceiling(tens: &[f64; 23], w: u64) -> u64
-    requires tens_value { tens.now ≡ powers_of_ten }
+fn ceiling(tens: &PowersOfTen, w: u64) -> u64
     requires w_nonzero { 0 < w }
     ensures { (result ≤ powers_end) × NoneAbove w result }
 {
-    let near = w / 4503599627370496 * 1233 / 4096;
-    if 284 <= near {
-        let q = near - 284;
-        if q < POWERS_END {
-            if w < decimal::size_bits(tens, 1, q) {
-                return q;
-            }
-        }
+    match (w / UNIT * 1233 / 4096).checked_sub(284) {
+        Some(q) if q < POWERS_END && w < decimal::size_bits(tens, 1, q) => q,
+        _ => POWERS_END,
     }
-    POWERS_END
 }
 
-// The shortest form of a size above zero. Where no fifteen digits come to w, none do at a lower power.
-fn search(tens: &[f64; 23], w: u64) -> Found
-    requires tens_value { tens.now ≡ powers_of_ten }
+// The shortest form of a size above zero, with a sign. Where no fifteen digits come to w, none do at a lower power.
+fn search(tens: &PowersOfTen, minus: bool, w: u64) -> Option<Decimal>
     requires w_nonzero { 0 < w }
-    ensures { Searched w result }
+    ensures { Searched minus w result }
 {
-    let mut q = ceiling(tens, w);
-    while 0 < q {
-        q -= 1;
-        let d = reaching::first_to(tens, w, q);
-        if DIGITS_END <= d {
-            return Found::Nowhere;
+    for power in (0..ceiling(tens, w)).rev() {
+        let digits = reaching::first_to(tens, w, power);
+        if DIGITS_END <= digits {
+            return None;
         }
-        if decimal::size_bits(tens, d, q) == w {
-            return Found::At(d, q);
+        if decimal::size_bits(tens, digits, power) == w {
+            return Some(Decimal {
+                minus,
+                digits,
+                power,
+            });
         }
     }
-    Found::Nowhere
+    None
 }
 
 // The shortest form of a word; nothing where it has none, as minus zero.
-pub fn form_of(tens: &[f64; 23], w: u64) -> Form
-    requires { tens.now ≡ powers_of_ten }
+pub fn form_of(tens: &PowersOfTen, w: u64) -> Option<Decimal>
     ensures { result ≡ form_of w }
 {
     if w == 0 {
-        return Form::Number(false, 0, NO_POWER);
+        return Some(Decimal {
+            minus: false,
+            digits: 0,
+            power: NO_POWER,
+        });
     }
     let size = w % SIGN;
     if size == 0 {
-        return Form::Nothing;
+        return None;
     }
-    let found = search(tens, size);
-    match found {
-        Found::At(d, q) => Form::Number(SIGN <= w, d, q),
-        Found::Nowhere => Form::Nothing,
-    }
+    search(tens, SIGN <= w, size)
 }

@@ -1,48 +1,23 @@
--- One record after the other, on plain values: whether it is changed, what it becomes, and what the buffer then holds.
+-- One record after the other, on plain values: what it becomes, and what the buffer then holds.
 use mathlib.Core.Path.{◌≡◌, refl, sym, ◌∙◌, ap, ap₂}
-use mathlib.Core.Bool.{Bool, true, false, cond, ◌&&◌}
-use mathlib.Core.List.{List, [], ◌++◌, append-nil, append_assoc}
-use Prim.Native.Nat.{ℕ, ◌+◌, ◌-◌, ◌<◌, ◌≤◌}
+use mathlib.Core.Bool.{Bool, true, false, cond}
+use mathlib.Core.List.{List, ◌++◌, append-nil, append_assoc}
+use Prim.Native.Nat.{ℕ, ◌+◌, ◌<◌, ◌≤◌}
 use native.Mathlib.Nat.{add_assoc}
 use native.Mathlib.Omega.{arith}
+use mir.Val.{bool_byte}
 use lib.ListN.{length, take, drop, replicate, length-append, length-drop, take-append-drop}
 use lib.Seq.{length-take-le, take-append-le, drop-append-le}
-use lib.Ieee.{Float, lt}
-use lib.Ieee.Scale.{finite}
-use Rattle.refusal.specs.Clash.{clash}
 use Rattle.bytes_le.specs.Buffer.{over}
-use Rattle.bytes_le.specs.Le.{Word, word_bytes}
-use Rattle.bytes_le.proofs.Laws.{rest}
-use Rattle.float.specs.declared.Number.{Number}
-use Rattle.float.specs.declared.Number.TheVariants.{Real, Nothing}
-use Rattle.float.specs.Word.{real_if, real_of}
-use Rattle.clip.specs.Numbers as number
-use Rattle.clip.specs.Limits.{zero}
-use Rattle.clip.specs.Record.{number_at}
+use Rattle.bytes_le.specs.Le.{word_bytes}
 use Rattle.roll.specs.Directory.{cut}
 use Rattle.roll.proofs.Names.{cut_none, cut_more}
+use Rattle.std.specs.List.{enumerate_from}
+use Rattle.std.proofs.Common.{subst, ◌*◌, ◌/◌, get_or, drop-drop}
+use native.Mathlib.Nat.{mul-le-mul_left, mul-suc}
+use Rattle.copying.proofs.WordsRead.{turn_below, turn_number, turn_piece, turns_all}
 use Rattle.copying.proofs.BytesWritten.{part_from, part_put, then_part}
 use Rattle.signals.specs.Records.{signals, icss_at, icss_end, cleared, mended_record, mended_all, signalling}
-
--- ---- whether I_CSs is a finite number below zero
-
-real_below : (b : Bool) (v x : Float) → real_if b v ≡ Real x → lt x zero ≡ (b && lt v zero)
-real_below true v x e = let h : x ≡ v = cc in ap (λ (y : Float). lt y zero) h
-real_below false v x e = clash cc
-
-none_below : (b : Bool) (v : Float) → real_if b v ≡ Nothing → false ≡ (b && lt v zero)
-none_below true v e = clash cc
-none_below false v e = refl
-
-module _ (r : List ℕ) {w : ℕ} (v : Word (drop icss_at r) w) {m : Number} (e : m ≡ real_of w) where
-  read_so : m ≡ real_if (finite (number_at r number.icss)) (number_at r number.icss)
-  read_so = e ∙ ap real_of v.value
-
-  pub signal_real : {x : Float} → m ≡ Real x → lt x zero ≡ signals r
-  signal_real {x} g = real_below (finite (number_at r number.icss)) (number_at r number.icss) x (sym read_so ∙ g)
-
-  pub signal_none : m ≡ Nothing → false ≡ signals r
-  signal_none g = none_below (finite (number_at r number.icss)) (number_at r number.icss) (sym read_so ∙ g)
 
 -- ---- one record
 
@@ -82,15 +57,6 @@ module _ (r : List ℕ) (h : icss_end ≤ length r) where
       ∙ sym (append_assoc (take icss_at r ++ z) (drop icss_end r) (drop (length r) d))
       ∙ ap (λ (n : ℕ). cleared r ++ drop n d) (sym length_cleared)
 
-  -- what the buffer holds then, by the test
-  pub put_changed : (d : List ℕ) {b : Bool} {z : List ℕ} → b ≡ signals r → b ≡ true → z ≡ over (cleared r) d
-      → (◌≡◌ {A = ℕ} 1 (cond (signals r) 1 0)) × (z ≡ over (mended_record r) d)
-  put_changed d e t g = let h = sym e ∙ t in rw h (refl, g)
-
-pub put_as_is : (r d : List ℕ) {b : Bool} {z : List ℕ} → b ≡ signals r → b ≡ false → z ≡ over r d
-    → (◌≡◌ {A = ℕ} 0 (cond (signals r) 1 0)) × (z ≡ over (mended_record r) d)
-put_as_is r d e t g = let h = sym e ∙ t in rw h (refl, g)
-
 -- ---- all records
 
 -- cur has the records of src mended that t does not have, which take up its first bytes, n of them changed
@@ -104,55 +70,31 @@ pub record Going (w : ℕ) (src old cur t : List ℕ) (at n : ℕ) : Type 0 wher
   pub room : length src ≤ length old
   pub few : n ≤ at
 
-pub go_first : (w : ℕ) (src : List ℕ) {old : List ℕ} → length src ≤ length old → Going w src old old src 0 0
-go_first w src h =
-    record {
-      done = [];
-      long = refl;
-      so_far = refl;
-      whole = refl;
-      told = omega arith;
-      within = omega arith;
-      room = h;
-      few = omega arith;
-    }
+-- a record that has to be mended counts as 1
+pub counted : {b t : Bool} {x : ℕ} → x ≡ bool_byte b → b ≡ t → x ≡ cond t 1 0
+counted {b = true} e h = e ∙ ap (λ (u : Bool). cond u 1 0) h
+counted {b = false} e h = e ∙ ap (λ (u : Bool). cond u 1 0) h
 
 at_most_one : (b : Bool) → cond b 1 0 ≤ 1
 at_most_one true = omega arith
 at_most_one false = omega arith
 
 module _ {w : ℕ} {src old cur t : List ℕ} {at n : ℕ} (v : Going w src old cur t at n) where
-  pub go_kept : length cur ≡ length old
-  go_kept =
-      let l = v.long in
-      let i = v.within in
-      let r = v.room in
-      ap length v.so_far ∙ length-append v.done (drop (length v.done) old)
-      ∙ omega (arith, length-drop (length v.done) old)
-
   module _ (hw : icss_end ≤ w) (h : w ≤ length t) where
     pub go_record : length (take w t) ≡ w
     go_record = length-take-le w t h
-
-    -- the record has room in the part from its place on
-    pub go_room : length (take w t) ≤ length (part_from at cur)
-    go_room =
-        let i = v.within in
-        let r = v.room in
-        rw (rest cur at, length-drop at cur) (omega (arith, go_kept, go_record))
 
     some : 0 < w
     some = omega arith
 
     pub go_more : {x : ℕ} {y : List ℕ} → x ≡ cond (signals (take w t)) 1 0
         → y ≡ over (mended_record (take w t)) (part_from at cur)
-        → Going w src old (part_put at cur y) (take (length t - w) (drop w t)) (at + w) (n + x)
+        → Going w src old (part_put at cur y) (drop w t) (at + w) (n + x)
     go_more {x} {y} ex ey =
         let q : List ℕ = take w t in
         let here = cut_more w t some h in
         let long-q : length (mended_record q) ≡ w = length_mended q (omega (arith, go_record)) ∙ go_record in
-        rw (rest t w)
-        (record {
+        record {
           done = v.done ++ mended_record q;
           long = length-append v.done (mended_record q) ∙ ap₂ ◌+◌ v.long long-q;
           so_far = then_part v.done (mended_record q) old cur at v.so_far v.long y ey;
@@ -166,17 +108,7 @@ module _ {w : ℕ} {src old cur t : List ℕ} {at n : ℕ} (v : Going w src old 
           within = let i = v.within in omega (arith, length-drop w t);
           room = v.room;
           few = let f = v.few in omega (arith, at_most_one (signals q));
-        })
-
-    -- the count stays below the bytes of all records
-    pub go_few : {x : ℕ} → x ≡ cond (signals (take w t)) 1 0 → n + x ≤ length src
-    go_few e =
-        let i = v.within in
-        let f = v.few in
-        omega (arith, at_most_one (signals (take w t)))
-
-    pub go_less : length (take (length t - w) (drop w t)) < length t
-    go_less = rw (rest t w, length-drop w t) (omega arith)
+        }
 
   module _ (h : length t < w) where
     pub go_told : n ≡ signalling (cut w src)
@@ -187,3 +119,30 @@ module _ {w : ℕ} {src old cur t : List ℕ} {at n : ℕ} (v : Going w src old 
         let e : mended_all (cut w src) ≡ v.done =
         v.whole ∙ ap (λ (l : List (List ℕ)). v.done ++ mended_all l) (cut_none w t h) ∙ append-nil v.done in
         v.so_far ∙ ap (λ (l : List ℕ). over l old) (sym e)
+
+-- turn k of the loop over the records, at which the number i comes with the record r
+module _ {w : ℕ} {src old cur : List ℕ} {k i n : ℕ} {r : List ℕ}
+    (v : Going w src old cur (drop (w * k) src) (w * k) n) (hw : icss_end ≤ w)
+    (t : (k < length (enumerate_from 0 (cut w src)))
+    × ◌≡◌ {A = ℕ × List ℕ} (i, r) (get_or (enumerate_from 0 (cut w src)) k (i, r))) where
+  there : w ≤ length (drop (w * k) src)
+  there =
+      let p : 0 < w = omega arith in
+      let b = turn_below w src t in
+      let m : w * (k + 1) ≤ w * (length src / w) = mul-le-mul_left w (omega arith) in
+      rw length-drop (omega (arith, m, mul-suc w k))
+
+  pub turn_more : {x : ℕ} → x ≡ cond (signals r) 1 0 → {y : List ℕ} → y ≡ over (mended_record r) (part_from (w * i) cur)
+      → {m : ℕ} → m ≡ k + 1 → Going w src old (part_put (w * i) cur y) (drop (w * m) src) (w * m) (n + x)
+  turn_more {x} ex {y} ey {m} em =
+      let e : w * k + w ≡ w * m = rw em (omega (arith, mul-suc w k)) in
+      rw (turn_number w src t)
+      (subst (λ (l : List ℕ). Going w src old (part_put (w * k) cur y) l (w * m) (n + x))
+      (drop-drop w (w * k) src ∙ ap (λ (z : ℕ). drop z src) e)
+      (rw e at
+      (go_more v hw there (rw (turn_piece w src t) at ex) (rw (turn_piece w src t, turn_number w src t) at ey))))
+
+-- after the last turn less than a record is left
+pub turns_end : (w : ℕ) (src : List ℕ) {k : ℕ} → 0 < w → k ≡ length (enumerate_from 0 (cut w src))
+    → length (drop (w * k) src) < w
+turns_end w src p e = let q = turns_all w src e in rw (q, length-drop) (omega arith)

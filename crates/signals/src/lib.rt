@@ -1,7 +1,7 @@
 // Records copied without their signals: I_CSs is +0 where it was a finite number below zero.
 #![tactic(auto)]
 
-ghost use Rattle.std.specs.Prelude.{◌≡◌, cond, ◌≤◌, length};
+ghost use Rattle.std.specs.Prelude.{◌≡◌, ◌≤◌, length};
 ghost use Rattle.bytes_le.specs.Buffer.{over};
 ghost use Rattle.roll.specs.Directory.{cut};
 ghost use Rattle.signals.specs.Records.{icss_end, signals, mended_record, mended_all, signalling};
@@ -9,7 +9,6 @@ ghost use Rattle.signals.specs.Records.{icss_end, signals, mended_record, mended
 use bytes_le::WORD_BYTES;
 use clip::numbers;
 use copying::copy;
-use float::Number;
 
 // Where I_CSs stands among the bytes of a record.
 const ICSS_AT: usize = WORD_BYTES * numbers::ICSS;
@@ -19,26 +18,22 @@ fn is_signal(bytes: &[u8]) -> bool
     ensures { result ≡ signals bytes.now }
 {
     let word = bytes_le::u64_at(bytes, ICSS_AT);
-    match float::read(word) {
-        Number::Real(x) => x < 0.0,
-        Number::Nothing => false,
-    }
+    float::read(word).is_some_and(|x| x < 0.0)
 }
 
-// Puts a record at the start of a buffer, with +0 for such an I_CSs: 1 where it had one, else 0.
-fn put_record(bytes: &[u8], dst: &mut [u8]) -> usize
+// Puts a record at the start of a buffer, with +0 for such an I_CSs; tells whether it had one.
+fn put_record(bytes: &[u8], dst: &mut [u8]) -> bool
     requires icss_end_in_bounds { icss_end ≤ length bytes.now }
     requires bytes_in_bounds { length bytes.now ≤ length dst.old }
-    ensures value { result ≡ cond (signals bytes.now) 1 0 }
+    ensures value { result ≡ signals bytes.now }
     ensures dst_after { dst.new ≡ over (mended_record bytes.now) dst.old }
 {
     copy(bytes, dst);
     if is_signal(bytes) {
-        let zero = [0u8; WORD_BYTES];
-        copy(&zero, &mut dst[ICSS_AT..]);
-        return 1;
+        copy(&[0u8; WORD_BYTES], &mut dst[ICSS_AT..]);
+        return true;
     }
-    0
+    false
 }
 
 // Puts records of a size, one after the other, at the start of a buffer, each mended; tells how many had to be.
@@ -48,13 +43,9 @@ pub fn put_records(records: &[u8], size: usize, dst: &mut [u8]) -> usize
     ensures value { (result ≡ signalling (cut size records.now)) × (result ≤ length records.now) }
     ensures dst_after { dst.new ≡ over (mended_all (cut size records.now)) dst.old }
 {
-    let mut t = records;
-    let mut at = 0;
     let mut n = 0;
-    while size <= t.len() {
-        n += put_record(&t[..size], &mut dst[at..]);
-        at += size;
-        t = &t[size..];
+    for (i, record) in records.chunks_exact(size).enumerate() {
+        n += usize::from(put_record(record, &mut dst[size * i..]));
     }
     n
 }

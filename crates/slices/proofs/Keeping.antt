@@ -1,19 +1,20 @@
 -- What the test of the slices tells: whether they are turned away, and where they are not, their lengths and their
 -- voltages as they are kept.
 use mathlib.Core.Path.{◌≡◌, refl, sym, ◌∙◌}
-use mathlib.Core.Bool.{Bool, true, false, not, ◌||◌}
+use mathlib.Core.Bool.{Bool, true, false, cond, not, ◌||◌}
 use mathlib.Core.List.{List, [], ◌∷◌, map}
 use Prim.Native.Nat.{ℕ, zero, suc, ◌≤◌, zero-le}
 use lib.Dec.{eqb}
 use lib.ListN.{length, get_or}
 use lib.IntN.{ℤ}
+use Rattle.std.specs.Prelude.{Option, Some, None}
 use borrow.Author.Tests.{eqb-true}
 use Rattle.refusal.specs.Clash.{clash}
 use Rattle.volts.specs.Volts.{off_volts, kept_as, given_back, span, AllNear}
 use Rattle.volts.specs.laws.Keeping.{kept}
 use Rattle.given.specs.OfTotals.Gives.{nodes_most}
 use Rattle.given.specs.Lists.{any_of}
-use Rattle.slices.specs.Slices.{other_length, off_slices}
+use Rattle.slices.specs.Slices.{other_length, off_slices, kept_slices}
 
 module _ (volts totals : List ℤ) {r : Bool} (e : r ≡ not (off_slices volts totals)) where
   pub slices_off : r ≡ false → off_slices volts totals ≡ true
@@ -29,6 +30,22 @@ module _ (volts totals : List ℤ) {r : Bool} (e : r ≡ not (off_slices volts t
       go : (t : Bool) → not t ≡ true → t ≡ false
       go true f = clash cc
       go false f = refl
+
+-- by what is kept of them
+module _ (volts totals : List ℤ) {r : Option (List ℕ)} (e : r ≡ kept_slices volts totals) where
+  pub not_kept : r ≡ None → off_slices volts totals ≡ true
+  not_kept h = go (off_slices volts totals) (sym e ∙ h)
+    where
+      go : (off : Bool) → cond off None (Some (map kept_as volts)) ≡ None → off ≡ true
+      go true f = refl
+      go false f = clash cc
+
+  pub kept_so : {kept : List ℕ} → r ≡ Some kept → (off_slices volts totals ≡ false) × (kept ≡ map kept_as volts)
+  kept_so {kept} h = go (off_slices volts totals) (sym e ∙ h)
+    where
+      go : (off : Bool) → cond off None (Some (map kept_as volts)) ≡ Some kept → (off ≡ false) × (kept ≡ map kept_as volts)
+      go true f = clash cc
+      go false f = (refl, cc)
 
 -- ---- slices that are not turned away
 

@@ -1,3 +1,3 @@
-pub mod Raised
+pub mod Fitting
 pub mod Passing
 pub mod Keeping

@@ -1,19 +1,9 @@
 -- What tells small numbers.
-use Rattle.std.proofs.Common.{◌≡◌, ℕ, ◌+◌, ◌-◌, ◌*◌, ◌%◌, ◌^◌, ◌<◌, ◌≤◌, ◌⊎◌, List, get_or, ℤ, pos, negsuc, subst, inl, inr, arith}
+use Rattle.std.proofs.Common.{◌≡◌, ℕ, ◌+◌, ◌*◌, ◌<◌, ◌≤◌, ◌⊎◌, List, get_or, ℤ, pos, subst, inl, inr, arith}
 use lib.Bits.{bit_or, or_add_and, and_le_l, and_le_r}
-use Rattle.whole.specs.Signed.{signed_span}
 use Rattle.whole.specs.laws.Biased.{below_or_not}
 use Rattle.slices.specs.OfTotals.Gives.{nodes_most}
 use Rattle.small.specs.inner.Small.{small_most, Small, EachSmall}
-
--- ---- a number raised around the end of 64 bits
-
-pub small_below : {v : ℤ} {n r : ℕ} → negsuc n ≡ v → n < signed_span → (r + n) % 2 ^ 64 ≡ small_most - 1 →
-    r < 2 * small_most → Small v
-small_below e h m l = subst Small e (record { size = omega arith })
-
-pub small_above : {v : ℤ} {n : ℕ} → pos n ≡ v → small_most + n < 2 * small_most → Small v
-small_above e l = subst Small e (record { size = omega arith })
 
 -- ---- the digits of the first k numbers
 

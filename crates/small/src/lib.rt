@@ -33,8 +33,8 @@ fn digits_of(numbers: &[i64]) -> u64
     ensures { result < 2 * small_most → EachSmall numbers.now }
 {
     let mut digits: u64 = 0;
-    for k in 0..NODES {
-        digits = digits | around(numbers[k]);
+    for &v in numbers {
+        digits |= around(v);
     }
     digits
 }

@@ -1,6 +1,6 @@
 -- Loops over the bytes of a word: what is left after i of them.
-use mathlib.Core.Path.{◌≡◌, sym, ap, ◌∙◌}
-use mathlib.Core.Bool.{Bool, true, false, ◌&&◌}
+use mathlib.Core.Path.{◌≡◌, refl, sym, ap, ◌∙◌}
+use mathlib.Core.Bool.{Bool, ◌&&◌}
 use mathlib.Core.List.{List, [], ◌∷◌}
 use Prim.Native.Nat.{ℕ, ◌+◌, ◌*◌, ◌<◌, ◌≤◌, min}
 use native.Mathlib.Decide.{dec_lt}
@@ -8,6 +8,7 @@ use native.Mathlib.Numerals.{add-one}
 use native.Mathlib.Omega.{arith}
 use lib.ListN.{length, drop, get_or, drop_of_length-le}
 use lib.Seq.{drop-cons}
+use Rattle.std.specs.List.{list_all}
 use Rattle.spelling.specs.Number.{is_digit, digit_of, all_digits, decimal_from, first_past}
 
 -- the byte at i and those after it
@@ -19,24 +20,10 @@ none_left s i h = drop_of_length-le s h
 
 -- ---- whether all are digits
 
-pub record Digits (s : List ℕ) (i : ℕ) : Type 0 where
-  pub within : i ≤ length s
-  pub so_far : all_digits s ≡ all_digits (drop i s)
-
-module _ {s : List ℕ} {i : ℕ} (v : Digits s i) where
-  step : i < length s → (d : Bool) → is_digit (get_or s i 0) ≡ d → all_digits s ≡ d && all_digits (drop (i + 1) s)
-  unfolding all_digits
-  step h d e = v.so_far ∙ ap all_digits (split s i h) ∙ ap (λ (b : Bool). b && all_digits (drop (i + 1) s)) e
-
-  pub digits_on : i < length s → is_digit (get_or s i 0) ≡ true → Digits s (i + 1)
-  digits_on h e = record { within = omega arith; so_far = step h true e }
-
-  pub digits_not : i < length s → is_digit (get_or s i 0) ≡ false → false ≡ all_digits s
-  digits_not h e = sym (step h false e)
-
-  pub digits_end_lem : length s ≤ i → true ≡ all_digits s
-  unfolding all_digits
-  digits_end_lem h = sym (v.so_far ∙ ap all_digits (none_left s i h))
+pub digits_all : (s : List ℕ) → list_all is_digit s ≡ all_digits s
+unfolding all_digits
+digits_all [] = refl
+digits_all (b ∷ s) = ap (λ (t : Bool). is_digit b && t) (digits_all s)
 
 -- ---- the value of digits, held at the first beyond 64 bits
 

@@ -1,7 +1,6 @@
 -- A number in a word: an optional minus sign and one or more decimal digits.
-use Rattle.std.specs.Prelude.{Bool, true, false, cond, ◌&&◌, List, [], ◌∷◌, ℕ, ◌+◌, ◌*◌, ◌-◌, ◌^◌, min, eqb, leb, ltb, ℤ, pos, neg_ℤ, length, drop, get_or}
-use Rattle.spelling.specs.declared.Parsed.{Parsed}
-use Rattle.spelling.specs.declared.Parsed.TheVariants.{Number, Nothing}
+use Rattle.std.specs.Prelude.{Bool, true, false, cond, ◌&&◌, List, [], ◌∷◌, Option, Some, None, ℕ, ◌+◌, ◌*◌, ◌-◌, ◌^◌, min, eqb}
+use Rattle.std.specs.Prelude.{leb, ltb, ℤ, pos, neg_ℤ, length, drop, get_or}
 
 abbrev pub is_digit : ℕ → Bool
 is_digit b = leb 48 b && leb b 57
@@ -41,19 +40,19 @@ abbrev pub nearest : Bool → ℕ → ℤ
 nearest false n = pos (min n (first_beyond - 1))
 nearest true n = neg_ℤ (pos (min n first_beyond))
 
-abbrev pub parsed_if : Bool → ℤ → Parsed
-parsed_if true z = Number z
-parsed_if false z = Nothing
+abbrev pub parsed_if : Bool → ℤ → Option ℤ
+parsed_if true z = Some z
+parsed_if false z = None
 
 -- digits, at least one, with or without a minus sign before them
-unfoldable pub parsed_with : Bool → List ℕ → Parsed
+unfoldable pub parsed_with : Bool → List ℕ → Option ℤ
 parsed_with below l = parsed_if (ltb 0 (length l) && all_digits l) (nearest below (decimal_value l))
 
-abbrev pub parsed_after : Bool → List ℕ → Parsed
+abbrev pub parsed_after : Bool → List ℕ → Option ℤ
 parsed_after true w = parsed_with true (drop 1 w)
 parsed_after false w = parsed_with false w
 
-unfoldable pub parsed_of : List ℕ → Parsed
+unfoldable pub parsed_of : List ℕ → Option ℤ
 parsed_of w = parsed_after (eqb (get_or w 0 0) 45) w
 
 -- the number that a word of digits spells is one of 64 bits

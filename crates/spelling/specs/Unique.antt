@@ -1,8 +1,7 @@
 -- One input has one result: any two that a contract permits are equal.
-use Rattle.std.specs.Prelude.{◌≡◌, List, ℕ}
+use Rattle.std.specs.Prelude.{◌≡◌, List, Option, ℕ, ℤ}
 use Rattle.refusal.specs.Unique.{unique_by_equation}
-use Rattle.spelling.specs.declared.Parsed.{Parsed}
 use Rattle.spelling.specs.Number.{parsed_of}
 
-pub unique_number : (w : List ℕ) {r r' : Parsed} → r ≡ parsed_of w → r' ≡ parsed_of w → r ≡ r'
+pub unique_number : (w : List ℕ) {r r' : Option ℤ} → r ≡ parsed_of w → r' ≡ parsed_of w → r ≡ r'
 unique_number w e f = unique_by_equation e f

@@ -1,49 +1,28 @@
 // A decimal numeral of any length.
 ghost use Rattle.std.specs.Prelude.{◌≡◌, ◌+◌, ◌*◌, ◌≤◌, min};
-ghost use Rattle.spelling.specs.Number.{first_past, within_ends, is_digit, digit_of, all_digits, decimal_value};
+ghost use Rattle.spelling.specs.Number.{first_past, within_ends, digit_of, all_digits, decimal_value};
 ghost use Rattle.spelling.specs.Number.{nearest, parsed_with};
 
-use crate::Parsed;
-use whole::Int;
-
-// The first size that no signed number of 64 bits above zero has, and the number before it.
+// The first size that no signed number of 64 bits above zero has.
 const BEYOND: u64 = 9223372036854775808;
 
 // The first size that no signed number of 64 bits has.
 const PAST: u64 = 9223372036854775809;
 
-const LAST: i64 = 9223372036854775807;
-
-fn is_digit(b: u8) -> bool
-    ensures { result ≡ is_digit b }
-{
-    match b {
-        48..=57 => true,
-        _ => false,
-    }
-}
-
 fn digit(b: u8) -> u64
     ensures { (result ≡ digit_of b) × (result ≤ 9) }
 {
-    match b {
-        48..=57 => (b - 48) as u64,
-        _ => 0,
+    if b.is_ascii_digit() {
+        u64::from(b - b'0')
+    } else {
+        0
     }
 }
 
 fn all_digits(s: &[u8]) -> bool
     ensures { result ≡ all_digits s.now }
 {
-    let mut i = 0;
-    while i < s.len() {
-        if is_digit(s[i]) {
-            i += 1;
-        } else {
-            return false;
-        }
-    }
-    true
+    s.iter().all(|b| b.is_ascii_digit())
 }
 
 // x with a digit after it, held at the first past both ends.
@@ -54,19 +33,16 @@ fn longer(x: u64, d: u64) -> u64
     if PAST / 10 < x {
         return PAST;
     }
-    let y = 10 * x + d;
-    if PAST < y { PAST } else { y }
+    (10 * x + d).min(PAST)
 }
 
 // The value of the digits, held there.
 fn value(s: &[u8]) -> u64
     ensures { result ≡ min (decimal_value s.now) first_past }
 {
-    let mut x: u64 = 0;
-    let mut i = 0;
-    while i < s.len() {
-        x = longer(x, digit(s[i]));
-        i += 1;
+    let mut x = 0;
+    for b in s {
+        x = longer(x, digit(*b));
     }
     x
 }
@@ -76,31 +52,22 @@ fn held(x: u64, below: bool) -> i64
     requires { x ≤ first_past }
     ensures { result ≡ nearest below x }
 {
-    if below {
-        if x == 0 {
-            0
-        } else if BEYOND < x {
-            whole::close(Int::NegSuc(BEYOND - 1))
-        } else {
-            whole::close(Int::NegSuc(x - 1))
-        }
-    } else if x < BEYOND {
-        whole::close(Int::Pos(x))
-    } else {
-        LAST
-    }
+    let size = i128::from(x);
+    let value = if below { -size } else { size };
+    value.clamp(i128::from(i64::MIN), i128::from(i64::MAX)) as i64
 }
 
-pub(crate) fn read(s: &[u8], below: bool) -> Parsed
+// The number of one digit or more, with that sign.
+pub(crate) fn read(s: &[u8], below: bool) -> Option<i64>
     ensures { result ≡ parsed_with below s.now }
 {
-    if s.len() == 0 {
-        return Parsed::Nothing;
+    if s.is_empty() {
+        return None;
     }
     if all_digits(s) {
-        Parsed::Number(held(value(s), below))
+        Some(held(value(s), below))
     } else {
-        Parsed::Nothing
+        None
     }
 }
 

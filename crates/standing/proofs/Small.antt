@@ -1,16 +1,18 @@
 -- What three small numbers are together.
-use mathlib.Core.Path.{◌≡◌, sym, ap, ap₂, subst, ◌∙◌}
+use mathlib.Core.Path.{◌≡◌, ap, ap₂, ◌∙◌}
 use mathlib.Core.Bool.{Bool, false, ◌||◌}
 use mathlib.Core.List.{List}
-use Prim.Native.Nat.{ℕ, ◌*◌, ◌-◌, ◌≤◌, ◌<◌}
+use Prim.Native.Nat.{ℕ, ◌+◌, ◌*◌, ◌-◌, ◌≤◌, ◌<◌}
 use native.Mathlib.Omega.{arith}
 use lib.ListN.{get_or}
-use lib.IntN.{ℤ, pos, negsuc, nat_abs, neg_ℤ, ◌+ℤ◌, ◌-ℤ◌}
 use mir.Syntax.{w64}
 use mir.Val.{SFits}
+use mathlib.Core.Logic.{◌⊎◌, inl, inr}
+use Rattle.whole.specs.laws.Biased.{below_or_not}
+use lib.IntN.{ℤ, pos, negsuc, nat_abs, neg_ℤ, ◌+ℤ◌, ◌-ℤ◌}
 use borrow.Author.Tests.{lt-leb, le-ltb}
 use Rattle.whole.specs.Signed.{signed_span}
-use Rattle.whole.specs.laws.Machine.{abs_neg, held, fits, held_is}
+use Rattle.whole.specs.laws.Machine.{abs_neg, held, held_is}
 use Rattle.totals.specs.Gives.{nodes_most}
 use Rattle.totals.proofs.Integers.{abs_add}
 use Rattle.small.specs.OfSlices.Slices.{outside64}
@@ -52,32 +54,22 @@ module _ {t i o : ℤ} (s : SmallNode t i o) where
   change : held i -ℤ held o ≡ i -ℤ o
   change = ap₂ ◌-ℤ◌ (small_held s.coming_small) (small_held s.going_small)
 
-  pub change_fits : SFits w64 (held i -ℤ held o)
-  change_fits = let b = change_near in subst (SFits w64) (sym change) (fits (i -ℤ o) (omega arith))
-
-  sum : held t +ℤ held (held i -ℤ held o) ≡ t +ℤ (i -ℤ o)
-  sum =
-      let b = change_near in
-      ap₂ ◌+ℤ◌ (small_held s.total_small) (ap held change ∙ held_is (i -ℤ o) (omega arith))
-
-  pub sum_fits : SFits w64 (held t +ℤ held (held i -ℤ held o))
-  sum_fits = subst (SFits w64) (sym sum) (fits (t +ℤ (i -ℤ o)) sum_near)
-
-  pub sum_is : held (held t +ℤ held (held i -ℤ held o)) ≡ t +ℤ (i -ℤ o)
-  sum_is = ap held sum ∙ held_is (t +ℤ (i -ℤ o)) sum_near
-
   pub sum_inside : outside64 (t +ℤ (i -ℤ o)) ≡ false
   sum_inside = inside (t +ℤ (i -ℤ o)) sum_near
 
-  -- the same of the numbers as they are read, and of their sum as it is written
-  pub node_held : SmallNode (held t) (held i) (held o)
-  node_held =
-      record {
-        total_small = subst Small (sym (small_held s.total_small)) s.total_small;
-        coming_small = subst Small (sym (small_held s.coming_small)) s.coming_small;
-        going_small = subst Small (sym (small_held s.going_small)) s.going_small;
-      }
-
+  -- and of the sum as it is written
   pub sum_held : {r : ℤ} → r ≡ held t +ℤ (held i -ℤ held o) → held r ≡ t +ℤ (i -ℤ o)
   sum_held e =
       ap held (e ∙ ap₂ ◌+ℤ◌ (small_held s.total_small) change) ∙ held_is (t +ℤ (i -ℤ o)) sum_near
+
+-- ---- the first k numbers were read, and are in their range
+
+abbrev pub Read : List ℤ → ℕ → Type 0
+Read totals k = (i : ℕ) → i < k → SFits w64 (get_or totals i (pos 0))
+
+pub one_more : (totals : List ℤ) (k : ℕ) → SFits w64 (get_or totals k (pos 0)) → Read totals k → Read totals (k + 1)
+one_more totals k f r i h = go (below_or_not i k)
+  where
+    go : (i < k) ⊎ (k ≤ i) → SFits w64 (get_or totals i (pos 0))
+    go (inl b) = r i b
+    go (inr b) = let same : i ≡ k = omega arith in rw same f

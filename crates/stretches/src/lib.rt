@@ -16,34 +16,21 @@ pub fn nodes_at(nodes: &[u8; ALL_NODES], i: usize) -> [u8; ROLES]
     requires { i < transistors_most }
     ensures { result ≡ stretch 0 nodes.now (roles * i) roles }
 {
-    let mut on = [0u8; ROLES];
-    let at = ROLES * i;
-    for k in 0..ROLES {
-        on[k] = nodes[at + k];
-    }
-    on
+    deck::stretch_at(nodes, i)
 }
 
 pub fn put_nodes(nodes: &mut [u8; ALL_NODES], i: usize, on: &[u8; ROLES])
     requires { i < transistors_most }
     ensures { nodes.new ≡ written 0 nodes.old (roles * i) on.now roles }
 {
-    let at = ROLES * i;
-    for k in 0..ROLES {
-        nodes[at + k] = on[k];
-    }
+    deck::put_stretch(nodes, i, on);
 }
 
 pub fn currents_at(currents: &[i64; ALL_CURRENTS], i: usize) -> [i64; BRANCHES]
     requires { i < transistors_most }
     ensures { result ≡ stretch (pos 0) currents.now (branches * i) branches }
 {
-    let mut own = [0i64; BRANCHES];
-    let at = BRANCHES * i;
-    for k in 0..BRANCHES {
-        own[k] = currents[at + k];
-    }
-    own
+    deck::stretch_at(currents, i)
 }
 
 pub fn put_currents(currents: &mut [i64; ALL_CURRENTS], i: usize, own: &[i64; BRANCHES])
@@ -51,10 +38,7 @@ pub fn put_currents(currents: &mut [i64; ALL_CURRENTS], i: usize, own: &[i64; BR
     ensures { currents.new ≡ written (pos 0) currents.old (branches * i) own.now
         branches }
 {
-    let at = BRANCHES * i;
-    for k in 0..BRANCHES {
-        currents[at + k] = own[k];
-    }
+    deck::put_stretch(currents, i, own);
 }
 
 pub fn put_name(names: &mut [u8; ALL_NAMES], i: usize, own: &[u8; name::LENGTH])
@@ -62,8 +46,5 @@ pub fn put_name(names: &mut [u8; ALL_NAMES], i: usize, own: &[u8; name::LENGTH])
     ensures { names.new ≡ written 0 names.old (name_length * i) own.now
         name_length }
 {
-    let at = name::LENGTH * i;
-    for k in 0..name::LENGTH {
-        names[at + k] = own[k];
-    }
+    deck::put_stretch(names, i, own);
 }

@@ -26,11 +26,6 @@ module _ {A : Type 0} (set : ℕ) (f : ℕ → ℕ) (g : List ℕ → A) where
       (a ≡ g (list_of (member set) f i) → b ≡ g (f i ∷ list_of (member set) f i)) → Walked j b
   walked_more w h n step = let m = walk_goes f w.at h n in record { at = m.0; is = step w.is ∙ ap g m.1 }
 
-  pub walked_all : {i : ℕ} {a : A} → Walked i a → transistors_most ≤ i → a ≡ g (list_of (member set) f transistors_most)
-  walked_all {i} w h =
-      let l = w.at.most in
-      let e : i ≡ transistors_most = omega arith in w.is ∙ ap (λ (k : ℕ). g (list_of (member set) f k)) e
-
 -- a place of the set is not passed over
 pub next_upto : {set from i j : ℕ} → NextIn set from j → from ≤ i → member set i ≡ true → j ≤ i
 next_upto {set} {from} {i} {j} n h e = go (leb j i) refl

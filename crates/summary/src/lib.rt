@@ -7,6 +7,7 @@ ghost use Rattle.given.specs.Lists.{any_of, larger, largest, different};
 ghost use Rattle.places.specs.Counts.{transistors_most};
 ghost use Rattle.places.specs.Sets.{member};
 ghost use Rattle.model.specs.Board.{Board};
+ghost use Rattle.model.specs.Answering.{answer_of};
 ghost use Rattle.model.specs.Largest.{size_at};
 ghost use Rattle.model.specs.Model.{summed_of};
 ghost use Rattle.summary.specs.inner.Told.{cards_below, sizes_below, LendsNode};
@@ -16,35 +17,16 @@ use places::{ALL_CURRENTS, ALL_NODES, TRANSISTORS};
 use refusal::Refusal;
 use terms::{BRANCHES, ROLES};
 use totals::NODES;
-use whole::Int;
-
-fn larger_of(a: u64, b: u64) -> u64
-    ensures { result ≡ larger a b }
-{
-    if a < b { b } else { a }
-}
-
-// How large a number is, whatever its sign.
-fn size(x: i64) -> u64
-    ensures { result ≡ nat_abs x }
-{
-    match whole::open(x) {
-        Int::Pos(n) => n,
-        Int::NegSuc(n) => n + 1,
-    }
-}
 
 // The size of a branch of x ticks between two nodes where one of them is n, else 0.
 fn size_there(x: i64, from: u8, to: u8, n: u8) -> u64
     ensures { result ≡ cond (eqb from n || eqb to n) (nat_abs x) 0 }
 {
-    if from == n {
-        return size(x);
+    if from == n || to == n {
+        x.unsigned_abs()
+    } else {
+        0
     }
-    if to == n {
-        return size(x);
-    }
-    0
 }
 
 // The largest size of a transistor's branches at the node n.
@@ -54,14 +36,10 @@ fn largest_at(on: &[u8; ROLES], own: &[i64; BRANCHES], n: u8) -> u64
     let from = ends::from_roles();
     let to = ends::to_roles();
     let mut most: u64 = 0;
-    let mut k = BRANCHES;
-    while 0 < k {
-        k -= 1;
+    for k in (0..BRANCHES).rev() {
         let f = from[k] as usize;
         let t = to[k] as usize;
-        let here = size_there(own[k], on[f], on[t], n);
-        let more = larger_of(here, most);
-        most = more;
+        most = size_there(own[k], on[f], on[t], n).max(most);
     }
     most
 }
@@ -75,19 +53,10 @@ fn largest_in(nodes: &[u8; ALL_NODES], currents: &[i64; ALL_CURRENTS], set: u64,
     while i < TRANSISTORS {
         let on = sets::nodes_at(nodes, i);
         let own = sets::currents_at(currents, i);
-        let here = largest_at(&on, &own, n);
-        let more = larger_of(here, most);
-        most = more;
-        let next = sets::next_in(set, i + 1);
-        i = next;
+        most = largest_at(&on, &own, n).max(most);
+        i = sets::next_in(set, i + 1);
     }
     most
-}
-
-fn either(a: bool, b: bool) -> bool
-    ensures { result ≡ a || b }
-{
-    if a { true } else { b }
 }
 
 // Whether the card at place i of the set stands at an earlier place of it too.
@@ -99,21 +68,10 @@ fn is_again(cards: &[u32; TRANSISTORS], set: u64, i: usize) -> bool
     let mut found = false;
     let mut j = sets::next_in(set, 0);
     while j < i {
-        let other = cards[j];
-        let more = either(card == other, found);
-        found = more;
-        let next = sets::next_in(set, j + 1);
-        j = next;
+        found = card == cards[j] || found;
+        j = sets::next_in(set, j + 1);
     }
     found
-}
-
-// One more, unless it was there already.
-fn one_more(count: u32, again: bool) -> u32
-    requires { count < transistors_most }
-    ensures { result ≡ cond again count (suc count) }
-{
-    if again { count } else { count + 1 }
 }
 
 // How many different cards stand at the places of the set.
@@ -123,11 +81,10 @@ fn cards_in(cards: &[u32; TRANSISTORS], set: u64) -> u32
     let mut count: u32 = 0;
     let mut i = sets::next_in(set, 0);
     while i < TRANSISTORS {
-        let again = is_again(cards, set, i);
-        let more = one_more(count, again);
-        count = more;
-        let next = sets::next_in(set, i + 1);
-        i = next;
+        if !is_again(cards, set, i) {
+            count += 1;
+        }
+        i = sets::next_in(set, i + 1);
     }
     count
 }
@@ -139,17 +96,17 @@ pub fn sum_up(
     naming: &[u64; NODES],
     currents: &[i64; ALL_CURRENTS],
     node: i64,
-) -> Answer
+) -> Result<Answer, Refusal>
     ensures { (b : Board) → LendsNode b cards.now nodes.now naming.now
-        currents.now → result ≡ (summed_of b node).answer }
+        currents.now → answer_of result ≡ (summed_of b node).answer }
 {
     let n = given::node_of(node);
     if NODES <= n as usize {
-        return Answer::Refused(Refusal::OutOfRange);
+        return Err(Refusal::OutOfRange);
     }
     let set = naming[n as usize];
     let count = sets::count(set);
     let kinds = cards_in(cards, set);
     let most = largest_in(nodes, currents, set, n);
-    Answer::Summed(count, kinds, most)
+    Ok(Answer::Summed(count, kinds, most))
 }

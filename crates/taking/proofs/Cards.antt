@@ -18,7 +18,7 @@ use Rattle.model.specs.Model.{cards_of, loaded_of, may_load}
 use Rattle.holding.specs.inner.Lent.{CardArrays, LeavesCards, Holds, card_of}
 use Rattle.holding.proofs.Cards.{cards_stay, cards_hold}
 use Rattle.taking.specs.declared.Loading.{Loading}
-use Rattle.taking.specs.declared.Loading.TheVariants.{Go, Stop}
+use Rattle.std.specs.Prelude.{Result, Ok, Err}
 use Rattle.taking.specs.inner.Loading.{loading}
 use Rattle.taking.proofs.Ways.{verdict, way_stops, way_goes}
 
@@ -29,7 +29,7 @@ free_of b = first_card _ _ _ _ _ _ 0
 
 module _ {b : Board} {numbers powers ticks : List ℕ} {switches : List Bool} {names held : List ℕ}
     (l : CardArrays b numbers powers ticks switches names held) where
-  module _ {next : ℕ} (p : next ≡ b.next) (name bytes : List ℕ) {w : Loading}
+  module _ {next : ℕ} (p : next ≡ b.next) (name bytes : List ℕ) {w : Result Loading Refusal}
       (way-is : w ≡ loading held next name bytes) where
     free_is : free_card (cards_of b) ≡ first_at cards_most 0 held
     free_is = rw l.held_are (free_of b)
@@ -37,12 +37,12 @@ module _ {b : Board} {numbers powers ticks : List ℕ} {switches : List Bool} {n
     may_is : may_load b name bytes ≡ verdict held next name bytes
     may_is = rw (free_is, p)
 
-    pub lent_stops : {f : Refusal} → w ≡ Stop f →
+    pub lent_stops : {f : Refusal} → w ≡ Err f →
         LeavesCards (loaded_of b name bytes) (Refused f) numbers powers ticks switches names held next
     unfolding loaded_of
     lent_stops e = cards_stay l (loaded_of b name bytes) p (rw (may_is, way_stops held next name bytes way-is e))
 
-    pub lent_loads : {i : ℕ} {c : WorkedCard} → w ≡ Go i c → {own : List ℕ} → own ≡ padded name → {ready : Ready} →
+    pub lent_loads : {i : ℕ} {c : WorkedCard} → w ≡ Ok (record { place = i; worked = c }) → {own : List ℕ} → own ≡ padded name → {ready : Ready} →
         ready ≡ ready_of c → {numbers' powers' ticks' : List ℕ} {switches' : List Bool} {names' held' : List ℕ} →
         Holds i (card_of next own ready) numbers powers ticks switches names held numbers' powers' ticks' switches'
         names' held' →

@@ -4,11 +4,12 @@
 
 ghost use Rattle.std.specs.Prelude.{◌≡◌};
 ghost use Rattle.model.specs.Board.{Board};
+ghost use Rattle.model.specs.Answering.{answer_of};
 ghost use Rattle.model.specs.Model.{loaded_of};
 ghost use Rattle.holding.specs.inner.Lent.{CardArrays, LeavesCards};
 ghost use Rattle.taking.specs.inner.Loading.{loading};
 
-use card::{Judged, WorkedCard};
+use card::WorkedCard;
 use deck::{ALL_NUMBERS, ALL_POWERS, ALL_SWITCHES, ALL_TICKS};
 use given::ISSUES;
 pub use holding;
@@ -16,37 +17,31 @@ use model::Answer;
 use places::{ALL_NAMES, CARDS};
 use refusal::Refusal;
 
-// The free place for a card and the card worked, or the refusal.
+// A card that may be loaded: the free place for it, and the card worked.
 #[derive(Clone, Copy)]
-enum Loading {
-    Go(usize, WorkedCard),
-    Stop(Refusal),
+struct Loading {
+    place: usize,
+    worked: WorkedCard,
 }
 
 // Loading's tests: 1, 2, 6, 7, 8, 19, 9, 10, 11, 17.
-fn may_load(held: &[u32; CARDS], next: u32, name: &[u8], bytes: &[u8]) -> Loading
+fn may_load(held: &[u32; CARDS], next: u32, name: &[u8], bytes: &[u8]) -> Result<Loading, Refusal>
     ensures { result ≡ loading held.now next name.now bytes.now }
 {
     if !card::right_length(bytes) {
-        return Loading::Stop(Refusal::Malformed);
+        return Err(Refusal::Malformed);
     }
     if !name::is_asked(name) {
-        return Loading::Stop(Refusal::BadName);
+        return Err(Refusal::BadName);
     }
-    let judged = card::judge(bytes);
-    match judged {
-        Judged::Refused(f) => Loading::Stop(f),
-        Judged::Card(worked) => {
-            let i = places::find_card(held, 0);
-            if CARDS <= i {
-                return Loading::Stop(Refusal::NoRoom);
-            }
-            if ISSUES < next {
-                return Loading::Stop(Refusal::NumbersUsedUp);
-            }
-            Loading::Go(i, worked)
-        }
+    let worked = card::judge(bytes)?;
+    let Some(place) = places::find(held, 0) else {
+        return Err(Refusal::NoRoom);
+    };
+    if ISSUES < next {
+        return Err(Refusal::NumbersUsedUp);
     }
+    Ok(Loading { place, worked })
 }
 
 // A card under a name, with the next issue number.
@@ -60,24 +55,28 @@ pub fn load(
     next: &mut u32,
     name: &[u8],
     bytes: &[u8],
-) -> Answer
+) -> Result<Answer, Refusal>
     ensures { (b : Board) → CardArrays b numbers.old powers.old ticks.old
         switches.old names.old held.old → next.old ≡ b.next →
-        LeavesCards (loaded_of b name.now bytes.now) result numbers.new powers.new
+        LeavesCards (loaded_of b name.now bytes.now) (answer_of result) numbers.new powers.new
         ticks.new switches.new names.new held.new next.new }
 {
     let issue = *next;
-    let way = may_load(held, issue, name, bytes);
-    match way {
-        Loading::Stop(f) => Answer::Refused(f),
-        Loading::Go(i, worked) => {
-            let own = name::pad(name);
-            let ready = ready::prepare(worked);
-            holding::hold(
-                numbers, powers, ticks, switches, names, held, i, issue, &own, ready,
-            );
-            *next = issue + 1;
-            Answer::Issue(issue)
-        }
-    }
+    let loading = may_load(held, issue, name, bytes)?;
+    let own = name::pad(name);
+    let ready = ready::prepare(loading.worked);
+    holding::hold(
+        numbers,
+        powers,
+        ticks,
+        switches,
+        names,
+        held,
+        loading.place,
+        issue,
+        &own,
+        ready,
+    );
+    *next = issue + 1;
+    Ok(Answer::Issue(issue))
 }

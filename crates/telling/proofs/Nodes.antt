@@ -1,19 +1,28 @@
--- The number of a node, by the half of the signed number that it is in.
-use mathlib.Core.Path.{◌≡◌}
-use Prim.Native.Nat.{ℕ, ◌<◌, ◌≤◌}
+-- The number of a node, by whether a number of 32 bits holds it.
+use Rattle.std.proofs.Common.{◌≡◌, ℕ, ◌^◌, ◌≤◌, min, inl, inr, ap, ◌∙◌, arith}
+use Rattle.std.proofs.lemmas.Bool.{cases_lt}
+use Rattle.std.specs.declared.result.Result.{Result}
+use Rattle.std.specs.declared.result.Result.TheVariants.{Ok, Err}
+use Rattle.std.specs.Result.{OkIff, result_unwrap_or}
+use Rattle.std.specs.Int.{FitsUnsignedBits}
 use borrow.Author.Tests.{lt-ltb, le-ltb}
-use lib.IntN.{ℤ, pos, negsuc}
+use lib.IntN.{ℤ, pos, negsuc, nat_abs}
 use Rattle.telling.specs.Said.{board_nodes, node_number}
 
-module _ {z : ℤ} {n : ℕ} where
-  pub node_there_lem : pos n ≡ z → n < board_nodes → n ≡ node_number z
-  unfolding node_number
-  node_there_lem e h = rw (← e, lt-ltb n board_nodes h)
+as_min : (n : ℕ) → min n board_nodes ≡ node_number (pos n)
+unfolding node_number
+as_min n = elim (cases_lt n board_nodes) [
+  | inl there ↦ rw (lt-ltb n board_nodes there) (omega arith)
+  | inr above ↦ rw (le-ltb n board_nodes above) (omega arith)
+]
 
-  pub node_above : pos n ≡ z → board_nodes ≤ n → board_nodes ≡ node_number z
-  unfolding node_number
-  node_above e h = rw (← e, le-ltb n board_nodes h)
-
-  pub node_below : negsuc n ≡ z → board_nodes ≡ node_number z
-  unfolding node_number
-  node_below e = rw (← e)
+pub number_is : {E : Type 0} (z : ℤ) (r : Result ℕ E) → OkIff r (FitsUnsignedBits 32 z) (nat_abs z)
+    → min (result_unwrap_or r board_nodes) board_nodes ≡ node_number z
+unfolding node_number
+number_is (pos n) (Ok x) p = ap (λ (m : ℕ). min m board_nodes) p.1 ∙ as_min n
+number_is (pos n) (Err e) p = elim (cases_lt n (2 ^ 32)) [
+  | inl fits ↦ absurd (p fits)
+  | inr above ↦ let over : board_nodes ≤ n = omega arith in rw (le-ltb n board_nodes over) (omega arith)
+]
+number_is (negsuc n) (Ok x) p = absurd p.0
+number_is (negsuc n) (Err e) p = omega arith

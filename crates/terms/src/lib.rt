@@ -17,7 +17,7 @@ pub const BRANCHES: usize = 13;
 
 // A card with what depends on it alone: the octaves' reciprocals, the exponential of V_Lr, and each T without an
 // exponential.
-#[derive(Clone, Copy)]
+#[derive(Clone, Copy, Default)]
 pub struct Ready {
     pub card: WorkedCard,
     pub plain: Reciprocal,

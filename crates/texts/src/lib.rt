@@ -1,19 +1,15 @@
-// A text written in a lent buffer after the bytes that are used.
+// A text written on a page.
 #![tactic(auto)]
 
 ghost use Rattle.page.specs.Page.{Writes};
 ghost use Rattle.sheet.specs.Text.{shown};
 
+use page::Page;
 use sheet::Text;
 
 // The bytes that a text shows; one with a count past its room shows them all.
-pub fn put_text(t: Text, out: &mut [u8], at: usize) -> usize
-    ensures { Writes (shown t) out.old at out.new result }
+pub fn put_text<const N: usize>(t: Text, page: &mut Page<N>)
+    ensures { Writes (shown t) page.old page.new }
 {
-    let n = t.len;
-    let bytes = t.bytes;
-    if n < sheet::ROOM {
-        return page::put(&bytes[0..n], out, at);
-    }
-    page::put(&bytes, out, at)
+    page.put(t.shown());
 }

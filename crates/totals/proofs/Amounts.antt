@@ -1,6 +1,6 @@
 -- Branches given to the roles, and the roles' amounts to the totals: each node gets what its definition says, and no
 -- sum leaves the machine's signed numbers.
-use mathlib.Core.Path.{◌≡◌, refl, sym, ap, ◌∙◌, subst}
+use mathlib.Core.Path.{◌≡◌, refl, sym, ap, ◌∙◌}
 use mathlib.Core.Bool.{Bool, true, false, cond}
 use mathlib.Core.List.{List, [], ◌∷◌}
 use mathlib.Core.Logic.{◌⊎◌, inl, inr}
@@ -13,15 +13,13 @@ use lib.ListN.{length, get_or, set, length-set, get_or-eq_default}
 use lib.Seq.{get_or-set_same, get_or-set_other}
 use lib.IntN.{ℤ, pos, nat_abs, neg_ℤ, ◌+ℤ◌, ◌-ℤ◌, +ℤ_idr, +ℤ_assoc}
 use borrow.Author.Tests.{eqb-true, eqb-false}
-use mir.Syntax.{w64}
-use mir.Val.{SFits}
 use Rattle.whole.specs.laws.Biased.{below_or_not}
 use Rattle.ends.specs.OfScaling.Scaled.{tick_limit}
 use Rattle.ends.specs.OfTerms.Rows.{Row, role_index, roles, branches}
 use Rattle.totals.specs.Gives.{nodes_most, at_node, rows_give}
 use Rattle.totals.specs.inner.Sums.{More, Within, Room, Wired, ends, ends_give, spread}
 use Rattle.totals.specs.inner.Sizes.{flow_most, room_most, handed_most}
-use Rattle.whole.specs.laws.Machine.{abs_neg, held, fits, held_is}
+use Rattle.whole.specs.laws.Machine.{abs_neg, held, held_is}
 use Rattle.totals.proofs.Integers.{abs_add, abs_ends, turned}
 
 -- ---- the sizes fit
@@ -29,10 +27,6 @@ use Rattle.totals.proofs.Integers.{abs_add, abs_ends, turned}
 -- a role's amount with a branch more at each of its ends
 branch_fits : flow_most + 2 * tick_limit < 2 ^ 63
 branch_fits = lit< tt
-
--- a total with a role's amount more
-amount_fits : handed_most + flow_most < 2 ^ 63
-amount_fits = lit< tt
 
 -- ---- more at one node
 
@@ -71,9 +65,6 @@ module _ (l : List ℤ) (f t : ℕ) (x : ℤ) (p : Fair l f t x) where
   small_sum : nat_abs (get_or l f (pos 0) +ℤ x) < 2 ^ 63
   small_sum = let a = p.2.within f in let b = p.3 in omega (arith, branch_fits, abs_add (get_or l f (pos 0)) x)
 
-  pub room_from : SFits w64 (held (get_or l f (pos 0)) +ℤ held x)
-  room_from = rw (from_is, x_is) (fits _ small_sum)
-
   -- the totals with x more at the first end
   abbrev once : List ℤ
   once = set l f (held (held (get_or l f (pos 0)) +ℤ held x))
@@ -98,11 +89,6 @@ module _ (l : List ℤ) (f t : ℕ) (x : ℤ) (p : Fair l f t x) where
       let a = small_once in
       let b = p.3 in
       let d = abs_neg x in omega (arith, branch_fits, abs_add (get_or once t (pos 0)) (neg_ℤ x))
-
-  pub room_to : SFits w64 (held (get_or once t (pos 0)) -ℤ held x)
-  room_to =
-      subst (λ (z : ℤ). SFits w64 (z -ℤ held x)) (sym to_is)
-      (subst (λ (z : ℤ). SFits w64 (get_or once t (pos 0) -ℤ z)) (sym x_is) (fits _ small_less))
 
   abbrev twice : List ℤ
   twice = set once t (held (held (get_or once t (pos 0)) -ℤ held x))
@@ -185,35 +171,6 @@ module _ (froms tos : List ℕ) (ticks : List ℤ) where
       (u.wired k, v.wired k, room_less (omega arith) (room_more w more (ends_small froms tos ticks s k)), rw e b)
 
 -- ---- a role's amount to its node
-
-nothing_more : (t : Bool) (y : ℤ) → y +ℤ cond t (pos 0) (pos 0) ≡ y
-nothing_more true y = +ℤ_idr y
-nothing_more false y = +ℤ_idr y
-
-module _ (l : List ℤ) (n : ℕ) (x : ℤ) (p : (n < nodes_most) × Room nodes_most handed_most l × (nat_abs x ≤ flow_most)) where
-  amount_is : held x ≡ x
-  amount_is = let b = p.2 in held_is x (omega (arith, amount_fits))
-
-  total_is : held (get_or l n (pos 0)) ≡ get_or l n (pos 0)
-  total_is = let b = p.1.within n in held_is (get_or l n (pos 0)) (omega (arith, amount_fits))
-
-  small_total : nat_abs (get_or l n (pos 0) +ℤ x) < 2 ^ 63
-  small_total = let a = p.1.within n in let b = p.2 in omega (arith, amount_fits, abs_add (get_or l n (pos 0)) x)
-
-  pub room_add : SFits w64 (held (get_or l n (pos 0)) +ℤ held x)
-  room_add = rw (total_is, amount_is) (fits _ small_total)
-
-  -- and nothing more where it is nothing
-  pub adds_nothing : held x ≡ pos 0 → More nodes_most l l (λ (m : ℕ). at_node n m x)
-  adds_nothing e =
-      record { long = p.1.long; at = λ m h. rw (sym amount_is ∙ e) (sym (nothing_more (eqb n m) (get_or l m (pos 0)))) }
-
-  pub adds : More nodes_most l (set l n (held (held (get_or l n (pos 0)) +ℤ held x))) (λ (m : ℕ). at_node n m x)
-  adds =
-      record {
-        long = length-set l n _ ∙ p.1.long;
-        at = λ m h. rw (total_is, amount_is, held_is _ small_total) (at_one l n x m (rw p.1.long p.0));
-      }
 
 spread_small : (nodes : List ℕ) (f : ℕ → ℤ) (most : ℕ) → ((r : ℕ) → nat_abs (f r) ≤ most) → (k n : ℕ) →
     nat_abs (spread nodes f k n) ≤ k * most

@@ -1,10 +1,10 @@
 -- What a transistor does at given voltages: whether it overloads, the currents of its branches, and what it adds to a
 -- node. And totals with more at each node.
-use Rattle.std.specs.Prelude.{Bool, false, List, [], ◌∷◌, map, ℕ, zero, suc, get_or, ℤ, pos, ◌+ℤ◌}
+use Rattle.std.specs.Prelude.{Bool, false, Option, List, [], ◌∷◌, map, ℕ, zero, suc, get_or, ℤ, pos, ◌+ℤ◌}
 use Rattle.ends.specs.OfCard.WorkedCard.{WorkedCard}
 use Rattle.polarity.specs.OfRowsTypes.Over.{Over}
 use Rattle.ends.specs.OfTerms.Rows.{rows_for}
-use Rattle.polarity.specs.OfRows.Outcome.{is_over}
+use Rattle.polarity.specs.OfRows.Outcome.{is_over, told_over, told_ticks}
 use Rattle.polarity.specs.Polarity.{outcome_of}
 use Rattle.polarity.specs.OfRows.inner.FromTerms.{list_up}
 use Rattle.totals.specs.Gives.{nodes_most, rows_give}
@@ -14,8 +14,8 @@ abbrev pub roles_at : List ℤ → List ℕ → List ℤ
 roles_at volts nodes = map (λ (n : ℕ). get_or volts n (pos 0)) nodes
 
 -- by which branch it overloads first, if by any
-unfoldable pub over_at : WorkedCard → List ℕ → List ℤ → Over
-over_at c nodes volts = (outcome_of c (roles_at volts nodes)).over
+unfoldable pub over_at : WorkedCard → List ℕ → List ℤ → Option Over
+over_at c nodes volts = told_over (outcome_of c (roles_at volts nodes))
 
 unfoldable pub overloads : WorkedCard → List ℕ → List ℤ → Bool
 unfolding over_at
@@ -23,7 +23,7 @@ overloads c nodes volts = is_over (over_at c nodes volts)
 
 -- the currents of its branches, one for each
 unfoldable pub ticks_at : WorkedCard → List ℕ → List ℤ → List ℤ
-ticks_at c nodes volts = (outcome_of c (roles_at volts nodes)).ticks
+ticks_at c nodes volts = told_ticks (outcome_of c (roles_at volts nodes))
 
 -- what branches of so many ticks give to node n, whatever card they are of: EXSUB moves no end of a branch
 unfoldable pub ticks_give : List ℕ → List ℤ → ℕ → ℤ

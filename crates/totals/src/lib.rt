@@ -21,12 +21,8 @@ fn branch(a: &mut [i64; ROLES], from: u8, to: u8, x: i64)
     requires { (from < roles) × (to < roles) × Room roles flow_most a.old × (nat_abs x ≤ tick_limit) }
     ensures { More roles a.old a.new (ends from to x) }
 {
-    let f = from as usize;
-    let t = to as usize;
-    let y = a[f] + x;
-    a[f] = y;
-    let z = a[t] - x;
-    a[t] = z;
+    a[from as usize] += x;
+    a[to as usize] -= x;
 }
 
 // All branches, each from its role to its role.
@@ -41,10 +37,7 @@ fn branches(
         (ends_give from.now to.now ticks.now branches) }
 {
     for k in 0..BRANCHES {
-        let f = from[k];
-        let t = to[k];
-        let x = ticks[k];
-        branch(a, f, t, x);
+        branch(a, from[k], to[k], ticks[k]);
     }
 }
 
@@ -53,12 +46,9 @@ fn add(l: &mut [i64; NODES], n: u8, x: i64)
     requires { (n < nodes_most) × Room nodes_most handed_most l.old × (nat_abs x ≤ flow_most) }
     ensures { More nodes_most l.old l.new (λ (m : ℕ). at_node n m x) }
 {
-    if x == 0 {
-        return;
+    if x != 0 {
+        l[n as usize] += x;
     }
-    let k = n as usize;
-    let y = l[k] + x;
-    l[k] = y;
 }
 
 // Each role's amount to its node.
@@ -68,9 +58,7 @@ fn hand_out(l: &mut [i64; NODES], nodes: &[u8; ROLES], a: &[i64; ROLES])
         (spread nodes.now (λ (k : ℕ). get_or a.now k (pos 0)) roles) }
 {
     for k in 0..ROLES {
-        let n = nodes[k];
-        let x = a[k];
-        add(l, n, x);
+        add(l, nodes[k], a[k]);
     }
 }
 

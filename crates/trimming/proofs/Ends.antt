@@ -1,5 +1,5 @@
 -- A line from either end, a byte at a time.
-use mathlib.Core.Path.{◌≡◌, refl, sym, ap, ◌∙◌}
+use mathlib.Core.Path.{◌≡◌, refl, sym, ap}
 use mathlib.Core.List.{List, [], ◌∷◌}
 use Prim.Native.Nat.{ℕ, zero, suc, ◌-◌, ◌<◌, ◌≤◌}
 use native.Mathlib.Omega.{arith}
@@ -61,7 +61,5 @@ pub last_kept : (t : List ℕ) → 0 < length t → (get_or t (length t - 1) 0 �
 last_kept t h k = sym (kept_at t (length t - 1) (omega arith) k)
 
 pub last_passed : (t : List ℕ) → 0 < length t → get_or t (length t - 1) 0 ≡ space
-    → to_last (take (length t - 1 - 0) (drop 0 t)) ≡ to_last t
-last_passed t h k =
-    let e : length t - 1 - 0 ≡ length t - 1 = omega arith in
-    ap (λ (n : ℕ). to_last (take n (drop 0 t))) e ∙ passed_at t (length t - 1) (omega arith) k
+    → to_last (take (length t - 1) t) ≡ to_last t
+last_passed t h k = passed_at t (length t - 1) (omega arith) k

@@ -9,11 +9,11 @@ fn from_first(line: &[u8]) -> &[u8]
     ensures { result.now ≡ from_first line.now }
 {
     let mut t = line;
-    while 0 < t.len() {
-        if t[0] != b' ' {
+    while let [first, rest @ ..] = t {
+        if *first != b' ' {
             return t;
         }
-        t = &t[1..];
+        t = rest;
     }
     t
 }
@@ -23,12 +23,11 @@ fn to_last(line: &[u8]) -> &[u8]
     ensures { result.now ≡ to_last line.now }
 {
     let mut t = line;
-    while 0 < t.len() {
-        let n = t.len() - 1;
-        if t[n] != b' ' {
+    while let [rest @ .., last] = t {
+        if *last != b' ' {
             return t;
         }
-        t = &t[0..n];
+        t = rest;
     }
     t
 }

@@ -3,10 +3,10 @@
 // Prints how many agree and how many differ.
 #![tactic(auto)]
 
-use branch::{Admission, BRANCHES, ROLES};
+use branch::{BRANCHES, ROLES};
 use refusal::Refusal;
-use std::io;
 use std::io::Read;
+use std::{array, io};
 
 // Where a row has its record, after how many bytes it has; the most that there are; where after them the row has its
 // voltages, what overloads first and its currents; the row's bytes.
@@ -26,9 +26,7 @@ const ROW: usize = TICKS_AT + 8 * BRANCHES;
 const TICKS_RAISED: u64 = 1152921504606846976;
 
 // The most rows that are read.
-const ROWS: u32 = 1000000;
-
-const COUNTED: u64 = ROWS as u64 + 1;
+const ROWS: u64 = 1000000;
 
 // The voltage of role k as the row keeps it.
 fn kept(row: &[u8], k: usize) -> u32 {
@@ -37,12 +35,7 @@ fn kept(row: &[u8], k: usize) -> u32 {
 
 // Those of all roles, in microvolts.
 fn microvolts(row: &[u8]) -> [i64; ROLES] {
-    let mut v = [0i64; ROLES];
-    for k in 0..ROLES {
-        let x = volts::give_back(kept(row, k));
-        v[k] = x;
-    }
-    v
+    array::from_fn(|k| volts::give_back(kept(row, k)))
 }
 
 // The number that tells which row overloads first, and how.
@@ -58,51 +51,24 @@ fn ticks(row: &[u8], k: usize) -> i64 {
 
 // The currents are those of the row.
 fn same_ticks(row: &[u8], got: [i64; BRANCHES]) -> bool {
-    for k in 0..BRANCHES {
-        if got[k] != ticks(row, k) {
-            return false;
-        }
-    }
-    true
+    got.iter().enumerate().all(|(k, x)| *x == ticks(row, k))
 }
 
-// The branch is that of the row, and so is the kind: 0 for a T, 1 for a ratio. The number is 0, as there is no
-// transistor.
-fn same_values(row: &[u8], issue: u32, branch: u32, kind: u32) -> bool {
-    if issue != 0 {
-        return false;
-    }
-    if branch != told(row) / 2 {
-        return false;
-    }
-    kind == told(row) % 2
-}
-
-// What overloads first is as the row says, which says 0 where nothing does.
+// What overloads first is as the row says, which says 0 where nothing does: the branch, and the kind, 0 for a T and 1 for
+// a ratio. The number is 0, as there is no transistor.
 fn same_over(row: &[u8], f: Refusal) -> bool {
-    if told(row) == 0 {
-        return false;
-    }
-    match f {
-        Refusal::Overload(issue, branch) => same_values(row, issue, branch, 0),
-        Refusal::Injection(issue, branch) => same_values(row, issue, branch, 1),
-        _ => false,
-    }
+    let (issue, branch, kind) = match f {
+        Refusal::Overload(issue, branch) => (issue, branch, 0),
+        Refusal::Injection(issue, branch) => (issue, branch, 1),
+        _ => return false,
+    };
+    told(row) != 0 && issue == 0 && branch == told(row) / 2 && kind == told(row) % 2
 }
 
 fn same_reply(row: &[u8], bytes: &[u8]) -> bool {
-    let r = branch::currents(bytes, &microvolts(row));
-    let a = r.admission;
-    match a {
-        Admission::Given => {
-            let got = r.ticks;
-            if told(row) == 0 {
-                same_ticks(row, got)
-            } else {
-                false
-            }
-        }
-        Admission::Refused(f) => same_over(row, f),
+    match branch::currents(bytes, &microvolts(row)) {
+        Ok(got) => told(row) == 0 && same_ticks(row, got),
+        Err(f) => same_over(row, f),
     }
 }
 
@@ -126,16 +92,15 @@ fn main(rt: HostRuntime) -> io::Result<()> {
     let mut rows = rt.stdin();
     let mut good: u64 = 0;
     let mut bad: u64 = 0;
-    let mut left = ROWS;
-    while 0 < left {
-        left -= 1;
+    for done in 0..ROWS {
         let mut row = [0u8; ROW];
         if rows.read_exact(&mut row).is_err() {
-            left = 0;
-        } else if agrees(&row) {
-            good = (good + 1) % COUNTED;
+            break;
+        }
+        if agrees(&row) {
+            good += 1;
         } else {
-            bad = (bad + 1) % COUNTED;
+            bad += 1;
         }
     }
     report(&rt, good, "agree")?;

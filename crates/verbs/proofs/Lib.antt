@@ -1,2 +1,2 @@
 -- Laws over plain values that the proofs of functions cite.
-pub mod Packs
+pub mod Found

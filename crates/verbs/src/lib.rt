@@ -2,7 +2,7 @@
 #![tactic(auto)]
 
 ghost use Rattle.std.specs.Prelude.{◌≡◌};
-ghost use Rattle.verbs.specs.Table.{row_at, place_in, table, row_named};
+ghost use Rattle.verbs.specs.Table.{row_named};
 
 #[derive(Clone, Copy)]
 pub enum Verb {
@@ -52,144 +52,44 @@ pub struct Row {
     pub wants: Wants,
 }
 
-// How many commands there are.
-const ROWS: usize = 20;
-
-// The words of the commands as numbers, in the table's order: the first byte is the lowest.
-const PACKED: [u64; ROWS] = [
-    0x7972617262696c,
-    0x646e6966,
-    0x70696c63,
-    0x64616f6c,
-    0x64726f636572,
-    0x6563616c70,
-    0x65766f6d,
-    0x7365766f6d,
-    0x7466696c,
-    0x7761726468746977,
-    0x70756b6f6f6c,
-    0x65646f6e,
-    0x7465656873,
-    0x73746e6572727563,
-    0x6f6877,
-    0x6d7573,
-    0x646e656d,
-    0x656b6f70,
-    0x6c65646f6d2e,
-    0x6c65646f6d,
+// The words of the commands, each with its row.
+const TABLE: [(&[u8], Verb, Wants); 20] = [
+    (b"library", Verb::Library, Wants::Texts(2)),
+    (b"find", Verb::Find, Wants::Texts(2)),
+    (b"clip", Verb::Clip, Wants::Texts(2)),
+    (b"load", Verb::Load, Wants::Texts(2)),
+    (b"record", Verb::Record, Wants::NameAndHex),
+    (b"place", Verb::Place, Wants::Either(9, 13)),
+    (b"move", Verb::Move, Wants::Numbers(3)),
+    (b"moves", Verb::Moves, Wants::Pairs),
+    (b"lift", Verb::Lift, Wants::Numbers(2)),
+    (b"withdraw", Verb::Withdraw, Wants::Numbers(2)),
+    (b"lookup", Verb::Lookup, Wants::Texts(2)),
+    (b"node", Verb::Node, Wants::Numbers(2)),
+    (b"sheet", Verb::Sheet, Wants::Texts(1)),
+    (b"currents", Verb::Currents, Wants::Numbers(2)),
+    (b"who", Verb::Who, Wants::Numbers(2)),
+    (b"sum", Verb::Sum, Wants::Numbers(2)),
+    (b"mend", Verb::Mend, Wants::Texts(1)),
+    (b"poke", Verb::Poke, Wants::Numbers(4)),
+    (b".model", Verb::ModelLine, Wants::Anything),
+    (b"model", Verb::Model, Wants::Texts(2)),
 ];
-
-// The place in the table of the command with that word; how many there are, where none has it.
-fn place_of(word: &[u8]) -> usize
-    ensures { result ≡ place_in word.now table }
-{
-    let x = packing::packed(word);
-    let words = PACKED;
-    let mut i = 0;
-    while i < ROWS {
-        if x == words[i] {
-            return i;
-        }
-        i += 1;
-    }
-    ROWS
-}
-
-// The row at a place of the table.
-fn row_at(i: usize) -> Row
-    ensures { result ≡ row_at i }
-{
-    match i {
-        0 => Row {
-            verb: Verb::Library,
-            wants: Wants::Texts(2),
-        },
-        1 => Row {
-            verb: Verb::Find,
-            wants: Wants::Texts(2),
-        },
-        2 => Row {
-            verb: Verb::Clip,
-            wants: Wants::Texts(2),
-        },
-        3 => Row {
-            verb: Verb::Load,
-            wants: Wants::Texts(2),
-        },
-        4 => Row {
-            verb: Verb::Record,
-            wants: Wants::NameAndHex,
-        },
-        5 => Row {
-            verb: Verb::Place,
-            wants: Wants::Either(9, 13),
-        },
-        6 => Row {
-            verb: Verb::Move,
-            wants: Wants::Numbers(3),
-        },
-        7 => Row {
-            verb: Verb::Moves,
-            wants: Wants::Pairs,
-        },
-        8 => Row {
-            verb: Verb::Lift,
-            wants: Wants::Numbers(2),
-        },
-        9 => Row {
-            verb: Verb::Withdraw,
-            wants: Wants::Numbers(2),
-        },
-        10 => Row {
-            verb: Verb::Lookup,
-            wants: Wants::Texts(2),
-        },
-        11 => Row {
-            verb: Verb::Node,
-            wants: Wants::Numbers(2),
-        },
-        12 => Row {
-            verb: Verb::Sheet,
-            wants: Wants::Texts(1),
-        },
-        13 => Row {
-            verb: Verb::Currents,
-            wants: Wants::Numbers(2),
-        },
-        14 => Row {
-            verb: Verb::Who,
-            wants: Wants::Numbers(2),
-        },
-        15 => Row {
-            verb: Verb::Sum,
-            wants: Wants::Numbers(2),
-        },
-        16 => Row {
-            verb: Verb::Mend,
-            wants: Wants::Texts(1),
-        },
-        17 => Row {
-            verb: Verb::Poke,
-            wants: Wants::Numbers(4),
-        },
-        18 => Row {
-            verb: Verb::ModelLine,
-            wants: Wants::Anything,
-        },
-        19 => Row {
-            verb: Verb::Model,
-            wants: Wants::Texts(2),
-        },
-        _ => Row {
-            verb: Verb::Error,
-            wants: Wants::Texts(0),
-        },
-    }
-}
 
 // The row that a word names.
 pub fn named(word: &[u8]) -> Row
     ensures { result ≡ row_named word.now }
 {
-    row_at(place_of(word))
+    for (text, verb, wants) in TABLE.iter() {
+        if word == *text {
+            return Row {
+                verb: *verb,
+                wants: *wants,
+            };
+        }
+    }
+    Row {
+        verb: Verb::Error,
+        wants: Wants::Texts(0),
+    }
 }

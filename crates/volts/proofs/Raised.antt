@@ -1,11 +1,11 @@
 -- How a voltage is kept: by two tests and one sum of numbers with a sign, w being the voltage as its bits are read.
-use mathlib.Core.Path.{◌≡◌, ap, sym, subst, ◌∙◌}
+use mathlib.Core.Path.{◌≡◌, ap, sym, subst}
 use mathlib.Core.Logic.{◌⊎◌, inl, inr}
-use Prim.Native.Nat.{ℕ, ◌-◌, ◌≤◌, ◌<◌}
+use Prim.Native.Nat.{ℕ, ◌≤◌, ◌<◌}
 use native.Mathlib.Omega.{arith}
 use lib.IntN.{ℤ, pos, ◌-ℤ◌}
 use mir.Syntax.{w32, w64}
-use mir.Val.{to_z, of_z, Fits, SFits}
+use mir.Val.{to_z, Fits, SFits}
 use mir.ValLaws.{to_z-of_z}
 use Rattle.whole.specs.laws.Biased.{sub_up, sub_down, below_or_not}
 use Rattle.volts.specs.Volts.{volts_most, given_back}
@@ -26,6 +26,3 @@ module _ {x : ℕ} (h : Fits w32 x) where
 
   pub down_fits : SFits w64 (to_z w64 x -ℤ pos volts_most)
   down_fits = subst (SFits w64) (sym lowered) given_fits
-
-  pub is_given : to_z w64 (of_z w64 (to_z w64 x -ℤ pos volts_most)) ≡ given_back x
-  is_given = to_z-of_z w64 (to_z w64 x -ℤ pos volts_most) down_fits ∙ lowered

@@ -1,9 +1,7 @@
 -- The range of voltages, in microvolts, and voltages as they are kept: raised so that none is negative.
-use Rattle.std.specs.Prelude.{Bool, false, cond, ◌||◌, List, [], ◌∷◌, ℕ, suc, ◌+◌, ◌-◌, ◌*◌, ◌≤◌, get_or, ℤ, pos, negsuc}
+use Rattle.std.specs.Prelude.{Bool, false, Option, Some, None, cond, ◌||◌, List, [], ◌∷◌, ℕ, suc, ◌+◌, ◌-◌, ◌*◌, ◌≤◌, get_or, ℤ, pos, negsuc}
 use Rattle.std.proofs.Math.IntN.{sub_ℕ}
 use Rattle.std.specs.Int.Signed.{lt_z}
-use Rattle.volts.specs.declared.Voltage.{Voltage}
-use Rattle.volts.specs.declared.Voltage.TheVariants.{Kept, Outside}
 
 -- the largest voltage of a node, of either sign: 2.5 V
 abbrev pub volts_most : ℕ
@@ -32,8 +30,8 @@ abbrev pub given_back : ℕ → ℤ
 given_back x = sub_ℕ x volts_most
 
 -- a voltage as it is kept, if it is in range
-abbrev pub keeping : ℤ → Voltage
-keeping v = cond (off_volts v) Outside (Kept (kept_as v))
+abbrev pub keeping : ℤ → Option ℕ
+keeping v = cond (off_volts v) None (Some (kept_as v))
 
 -- the difference of two kept voltages, raised by the span
 abbrev pub across_of : ℕ → ℕ → ℕ

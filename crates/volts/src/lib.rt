@@ -18,23 +18,17 @@ pub const SPAN: u64 = 2 * VOLTS_MOST;
 // No volts, kept.
 pub const ZERO: u32 = VOLTS_MOST as u32;
 
-// A voltage as it is kept, or word that it is outside the range.
-#[derive(Clone, Copy)]
-pub enum Voltage {
-    Kept(u32),
-    Outside,
-}
-
-pub fn keep(microvolts: i64) -> Voltage
+// A voltage as it is kept, where it is within the range.
+pub fn keep(microvolts: i64) -> Option<u32>
     ensures { result ≡ keeping microvolts }
 {
     if MOST < microvolts {
-        return Voltage::Outside;
+        return None;
     }
     if microvolts < LEAST {
-        return Voltage::Outside;
+        return None;
     }
-    Voltage::Kept((microvolts + MOST) as u32)
+    Some((microvolts + MOST) as u32)
 }
 
 // The voltage that is kept as x.

@@ -1,8 +1,7 @@
--- A signed number in its two halves: n itself, or -(n + 1).
+-- How large the numbers are whose difference has a place among the signed words; and a signed number in its two halves:
+-- n itself, or -(n + 1).
 use Rattle.std.specs.Prelude.{◌≡◌, refl, ℕ, ◌<◌, ◌^◌, ℤ, pos, negsuc}
 use Rattle.std.proofs.Common.{sym, ap, ◌∙◌, arith}
-use Rattle.whole.specs.declared.Int.{Int}
-use Rattle.whole.specs.declared.Int.TheVariants.{Pos, NegSuc}
 
 -- binary places of a signed word beside its sign, and the first number that they do not hold
 abbrev pub signed_places : ℕ
@@ -10,6 +9,11 @@ signed_places = 63
 
 abbrev pub signed_span : ℕ
 signed_span = 2 ^ signed_places
+
+-- a signed number in its halves
+pub data Int : Type 0 where
+  Pos : ℕ → Int
+  NegSuc : ℕ → Int
 
 -- the halves of a number
 abbrev pub int_of : ℤ → Int
@@ -34,7 +38,7 @@ signed_of_int (negsuc n) = refl
 pub opened : {v w : ℤ} {i j : Int} → w ≡ v → i ≡ int_of w → i ≡ j → signed_of j ≡ v
 opened {v} {w} p q r = ap signed_of (sym r ∙ q) ∙ signed_of_int w ∙ p
 
--- asked by `close`: the number has a place among the signed words
+-- the number has a place among the signed words
 pub record Closable (i : Int) : Type 0 where
   pub magnitude_small : magnitude_of i < signed_span
 

@@ -4,6 +4,5 @@ pub use Rattle.clip.specs.Limits
 pub use Rattle.clip.specs.Numbers
 pub use Rattle.clip.specs.Record
 pub use Rattle.clip.specs.laws
-pub use Rattle.clip.specs.declared.Answer
 pub use Rattle.clip.specs.declared.Clipping
 pub use Rattle.clip.specs.declared.limits

@@ -2,8 +2,7 @@
 #![tactic(auto)]
 
 ghost use Rattle.std.specs.Prelude.{◌≡◌};
-ghost use Rattle.std.specs.Float.Ieee.Scale.{finite};
-ghost use Rattle.working.specs.Work.{conductance_of, worked_of, values_of, all, all_finite};
+ghost use Rattle.working.specs.Work.{conductance_of, worked_of, values_of, all_finite};
 
 pub use clip;
 use clip::float;
@@ -99,23 +98,9 @@ fn values(w: Worked) -> [f64; VALUES]
     ]
 }
 
-fn each_finite(x: [f64; VALUES]) -> bool
-    ensures { result ≡ all finite x }
-{
-    let mut i: usize = 0;
-    while i < VALUES {
-        if float::is_finite(x[i]) {
-            i = i + 1;
-        } else {
-            return false;
-        }
-    }
-    true
-}
-
 // Whether all fifteen are finite.
 pub fn all_finite(w: Worked) -> bool
     ensures { result ≡ all_finite w }
 {
-    each_finite(values(w))
+    values(w).iter().all(|&x| float::is_finite(x))
 }

@@ -3,6 +3,8 @@ use mir.Syntax.{w64}
 use mir.ValLaws.{to_z-of_z}
 use borrow.Author.Rules.{rules}
 use Rattle.answers.specs.Answers.{answer_line}
+use Rattle.sheet.specs.laws.LinesFit.{node_whole}
+use Rattle.texts.proofs.Written.{text_written}
 use Rattle.answers.proofs.Written.{as_node}
 use Rattle.answers.proofs.answer_line.Goals as goal
 
@@ -38,7 +40,8 @@ pub returns-in-Reading : goal.returns-in-Reading
 unfolding answer_line
 returns-in-Reading c =
     rw c.in-Reading.is
-    (as_node _ (to_z-of_z w64 _ (search rules)) (to_z-of_z w64 _ (search rules)) c.reading.ensures)
+    (as_node _ (to_z-of_z w64 _ (search rules)) (to_z-of_z w64 _ (search rules))
+    (text_written c.node_line.ensures (node_whole _ _ _) c.put_text.ensures))
 
 pub returns-in-Sheet : goal.returns-in-Sheet
 unfolding answer_line

@@ -1,14 +1,16 @@
 -- Stretches of a list, read and written: what is written is read back, and other places' stretches stay.
 use Rattle.std.specs.Prelude.{◌≡◌, Bool, List, set, replicate}
 use Rattle.std.proofs.Math.Path.{refl}
-use Rattle.std.proofs.Common.{sym, ◌∙◌, add-one, get_or-set_same, ext_get_or}
+use Rattle.std.proofs.Common.{sym, ap, ◌∙◌, add-one, get_or-set_same, ext_get_or}
 use Rattle.std.proofs.Math.Bool.{true, false}
-use Prim.Native.Nat.{ℕ, zero, suc, ◌+◌, ◌*◌, ◌≤◌, ◌<◌}
+use Prim.Native.Nat.{ℕ, zero, suc, ◌+◌, ◌-◌, ◌*◌, ◌≤◌, ◌<◌}
 use Rattle.std.proofs.Math.Nat.{mul-le-mul_left}
 use native.Mathlib.Omega.{arith}
 use Rattle.std.proofs.Math.Dec.{eqb, ltb}
-use Rattle.std.proofs.Math.ListN.{length, get_or, length-set}
-use Rattle.std.proofs.Math.Seq.{get_or-set_other}
+use Rattle.std.proofs.Math.ListN.{length, get_or, take, drop, length-set, length-drop}
+use Rattle.std.proofs.Math.Seq.{get_or-set_other, paste, paste-zero, paste-suc, get_or-take, get_or-drop, length-take-le}
+use Rattle.std.proofs.lemmas.Slice.{put_mid-paste}
+use borrow.Rule.Slice.PartMut.{put_mid}
 use borrow.Author.Tests.{eqb-true, eqb-false, ltb-true, ltb-false}
 use Rattle.deck.specs.Stretch.{stretch, written}
 use Rattle.deck.specs.laws.Ups.{length_up, get_or_up, up_same, up_all}
@@ -63,6 +65,33 @@ module _ {A : Type 0} (d : A) where
   written_out l at xs (suc n) j off =
       get_or-set_other (written d l at xs n) (at + n) j (get_or xs n d) d (off n (omega arith))
       ∙ written_out l at xs n j (λ k h. off k (omega arith))
+
+  -- what is written at once
+  written_paste : (l : List A) (at : ℕ) (xs : List A) (n : ℕ) → n ≤ length xs → at + n ≤ length l →
+      paste l at xs n ≡ written d l at xs n
+  unfolding written
+  written_paste l at xs zero h m = sym (paste-zero l at xs)
+  written_paste l at xs (suc n) h m =
+      sym (paste-suc l at xs n d (omega arith) (omega arith))
+      ∙ ap (λ (w : List A). set w (at + n) (get_or xs n d)) (written_paste l at xs n (omega arith) (omega arith))
+
+  pub written_mid : (l : List A) (at n : ℕ) {ys xs : List A} → ys ≡ xs → length xs ≡ n → at + n ≤ length l →
+      put_mid at (at + n - at) l ys ≡ written d l at xs n
+  written_mid l at n {ys} {xs} e h m =
+      put_mid-paste at (at + n - at) l ys xs n e (omega arith) (sym h) ∙ written_paste l at xs n (omega arith) m
+
+  -- a part of a list is a stretch of it
+  pub part_stretch : (l : List A) (at n : ℕ) → at + n ≤ length l → take n (drop at l) ≡ stretch d l at n
+  part_stretch l at n h =
+      let room : n ≤ length (drop at l) = rw length-drop (omega arith) in
+      let long = length-take-le n (drop at l) room in
+      ext_get_or d (take n (drop at l)) (stretch d l at n) (long ∙ sym (length_stretch l at n))
+      (λ j q. get_or-take n (drop at l) j d (omega arith) ∙ get_or-drop at l j d
+      ∙ sym (get_or_stretch l at n j (omega arith)))
+
+  pub cut_stretch : (l : List A) (at n : ℕ) → at + n ≤ length l → take (at + n - at) (drop at l) ≡ stretch d l at n
+  cut_stretch l at n h =
+      let e : at + n - at ≡ n = omega arith in ap (λ (k : ℕ). take k (drop at l)) e ∙ part_stretch l at n h
 
   -- a stretch written is read back
   pub stretch_written : (l : List A) (at : ℕ) (xs : List A) (n : ℕ) → at + n ≤ length l → length xs ≡ n →

@@ -18,7 +18,7 @@ loop-n-init c = write_nothing
 pub loop-n-preserved : goal.loop-n-preserved
 loop-n-preserved c =
     let s = c.args in
-    let r = c.read_node-asked.ensures in
+    let r = c.read_node.ensures in
     let h : c.loop-n.n < 2 ^ 63 = omega arith in
     row_said (state_in s.board s.volts.now s.totals.now) c.loop-n.n (to_z_pos w64 c.loop-n.n h) c.loop-n.invariant
     (r.value, r.reached) c.put_row.ensures
@@ -26,4 +26,4 @@ loop-n-preserved c =
 pub returns : goal.returns
 unfolding rows_said
 returns c =
-    let e : c.loop-n.n ≡ sheet_nodes = omega arith in rw (sym e) (then c.put_answer.ensures c.loop-n.invariant)
+    let e : c.loop-n.n ≡ sheet_nodes = omega arith in rw (sym e) (then c.answer_line.ensures c.loop-n.invariant)

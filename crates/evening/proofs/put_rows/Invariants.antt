@@ -6,4 +6,4 @@ use Rattle.evening.proofs.put_rows.Given as goal
 
 abbrev pub invariant-loop-n : goal.invariant-loop-n
 invariant-loop-n l =
-    Writes (rows_to (state_in l.board l.volts l.totals) l.n) l.initial.out l.initial.at l.out l.at
+    Writes (rows_to (state_in l.board l.volts l.totals) l.n) l.initial.page l.page

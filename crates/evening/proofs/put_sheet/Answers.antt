@@ -12,7 +12,7 @@ pub returns-in-Refused : goal.returns-in-Refused
 unfolding sheet_said
 returns-in-Refused c =
     let s = c.args in
-    let e = ap (λ (x : Answered). x.answer) c.read_node-asked.ensures.value in
+    let e = ap (λ (x : Answered). x.answer) c.read_node.ensures.value in
     as_bytes (ap (λ (x : Answer). sheet_if x (state_in s.board s.volts.now s.totals.now)) (sym c.in-Refused.is ∙ e))
     c.put_refused.ensures
 
@@ -21,6 +21,6 @@ unfolding sheet_said
 returns-in_default c =
     let s = c.args in
     let b = state_in s.board s.volts.now s.totals.now in
-    let e = ap (λ (x : Answered). x.answer) c.read_node-asked.ensures.value in
-    as_bytes (sheet_taken b c.read_node-asked.result.answer c.in_default.not-Refused ∙ ap (λ (x : Answer). sheet_if x b) e)
+    let e = ap (λ (x : Answered). x.answer) c.read_node.ensures.value in
+    as_bytes (sheet_taken b c.read_node.result.answer c.in_default.not-Refused ∙ ap (λ (x : Answer). sheet_if x b) e)
     c.put_rows.ensures

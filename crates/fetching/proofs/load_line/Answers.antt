@@ -5,15 +5,15 @@ use Rattle.board.specs.Promise.{model_of, given_as}
 use Rattle.fetching.proofs.Laws.{taken_loads, refused_loads}
 use Rattle.fetching.proofs.load_line.Goals as goal
 
-pub returns-in-Taken-clause-value : goal.returns-in-Taken-clause-value
-returns-in-Taken-clause-value c =
+pub returns-clause-value : goal.returns-clause-value
+returns-clause-value c =
     let a = c.args in
     c.load.ensures.value
     ∙ ap given_as
-    (taken_loads (bare (model_of a.board)) a.line.now c.read_line.ensures c.in-Taken.is c.bare_name.ensures)
+    (taken_loads (bare (model_of a.board)) a.line.now c.read_line.ensures c.in_default.is c.bare_name.ensures)
 
-pub returns-in-Refused-clause-value : goal.returns-in-Refused-clause-value
-returns-in-Refused-clause-value c =
+pub returns-in-Err-clause-value : goal.returns-in-Err-clause-value
+returns-in-Err-clause-value c =
     let a = c.args in
     c.refused.ensures.value
-    ∙ ap given_as (refused_loads (bare (model_of a.board)) a.line.now c.read_line.ensures c.in-Refused.is)
+    ∙ ap given_as (refused_loads (bare (model_of a.board)) a.line.now c.read_line.ensures c.in-Err.is)

@@ -5,15 +5,15 @@ use Rattle.board.specs.Promise.{model_of, given_as}
 use Rattle.fetching.proofs.Laws.{found_loads, lost_loads}
 use Rattle.fetching.proofs.load_named.Goals as goal
 
-pub returns-in-Record-clause-value : goal.returns-in-Record-clause-value
-returns-in-Record-clause-value c =
+pub returns-in-Ok-clause-value : goal.returns-in-Ok-clause-value
+returns-in-Ok-clause-value c =
     let a = c.args in
     c.load.ensures.value
     ∙ ap given_as
-    (found_loads (bare (model_of a.board)) a.name.now a.library.now c.locate.ensures c.in-Record.is c.part.ensures)
+    (found_loads (bare (model_of a.board)) a.name.now a.library.now c.locate.ensures c.in-Ok.is c.part.ensures)
 
-pub returns-in-Refused-clause-value : goal.returns-in-Refused-clause-value
-returns-in-Refused-clause-value c =
+pub returns-in-Err-clause-value : goal.returns-in-Err-clause-value
+returns-in-Err-clause-value c =
     let a = c.args in
     c.refused.ensures.value
-    ∙ ap given_as (lost_loads (bare (model_of a.board)) a.name.now a.library.now c.locate.ensures c.in-Refused.is)
+    ∙ ap given_as (lost_loads (bare (model_of a.board)) a.name.now a.library.now c.locate.ensures c.in-Err.is)

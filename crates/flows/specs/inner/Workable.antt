@@ -5,7 +5,7 @@ use Rattle.octave.specs.Table.{entries}
 use Rattle.card.specs.declared.WorkedCard.{WorkedCard}
 use Rattle.totals.specs.OfTerms.inner.Ready.{IsReady}
 use Rattle.totals.specs.OfTerms.Rows.{roles}
-use Rattle.dealing.specs.OfRowsTypes.Outcome.{Outcome}
+use Rattle.dealing.specs.OfRows.Outcome.{Outcome, told_over, told_ticks}
 use Rattle.totals.specs.Gives.{nodes_most}
 use Rattle.totals.specs.Flow.{over_at, ticks_at}
 use Rattle.dealing.specs.OfDeck.Layout.{ready_at, cards_most}
@@ -49,5 +49,5 @@ pub record Workable (table : List ℕ) (d : Deck) (s : ℕ) (nodes volts : List 
 
 -- o is what a transistor of the card c on these nodes does at these voltages
 pub record Works (c : WorkedCard) (nodes : List ℕ) (volts : List ℤ) (o : Outcome) : Type 0 where
-  pub over : o.over ≡ over_at c nodes volts
-  pub ticks : o.ticks ≡ ticks_at c nodes volts
+  pub over : told_over o ≡ over_at c nodes volts
+  pub ticks : told_ticks o ≡ ticks_at c nodes volts

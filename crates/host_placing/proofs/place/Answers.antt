@@ -10,7 +10,7 @@ pub returns-then-is_list : goal.returns-then-is_list
 returns-then-is_list c =
     let a = c.args in
     let p = c.place-placed.ensures in
-    let t = c.tell_placed-code.ensures in
+    let t = c.tell_placed.ensures in
     places (state_in a.board a.volts.now a.totals.now) a.card a.nodes.now (sym c.is_list.ensures ∙ c.if-is_list.true)
     (to_z-of_z w64 a.card c.ranges.card) c.roles_of.ensures (p.value, (p.reached, p.totals_after))
     (t.value, (t.number_after, (t.who_after, t.branch_after)))

@@ -1,11 +1,9 @@
 -- Keys as they are put: one without and with its number, and all of them.
-use Rattle.std.specs.Prelude.{◌≡◌, true, false, List, [], ◌∷◌, ◌++◌, ℕ, ◌+◌, ◌*◌, ◌≤◌}
+use Rattle.std.specs.Prelude.{◌≡◌, true, false, List, [], ◌∷◌, ◌++◌, Option, Some, None, ℕ, ◌+◌, ◌*◌, ◌≤◌}
 use Rattle.spelling.specs.Bytes.{space}
 use Rattle.shortest.specs.Form.{form_of}
 use Rattle.decimal_write.specs.Added.{Added}
 use Rattle.keys.specs.Keys.{key_count, key_word}
-use Rattle.keyed.specs.declared.Put.{Put}
-use Rattle.keyed.specs.declared.Put.TheVariants.{To, Nothing}
 use Rattle.keyed.specs.Keyed.{is_form, forms_up, key_text, keys_up}
 
 abbrev pub key_start : ℕ → List ℕ
@@ -17,9 +15,9 @@ pub record KeyPut (old : List ℕ) (at : ℕ) (new : List ℕ) (k w to : ℕ) : 
   pub added : Added old at new to (key_text k w)
   pub form : is_form (form_of w) ≡ true
 
-abbrev pub PutKey : List ℕ → ℕ → List ℕ → ℕ → ℕ → Put → Type 0
-PutKey old at new k w (To to) = KeyPut old at new k w to
-PutKey old at new k w Nothing = is_form (form_of w) ≡ false
+abbrev pub PutKey : List ℕ → ℕ → List ℕ → ℕ → ℕ → Option ℕ → Type 0
+PutKey old at new k w (Some to) = KeyPut old at new k w to
+PutKey old at new k w None = is_form (form_of w) ≡ false
 
 -- the first n keys were
 pub record KeysPut (rec old : List ℕ) (from : ℕ) (new : List ℕ) (n to : ℕ) : Type 0 where
@@ -27,6 +25,6 @@ pub record KeysPut (rec old : List ℕ) (from : ℕ) (new : List ℕ) (n to : �
   pub added : Added old from new to (keys_up rec n)
   pub forms : forms_up rec n ≡ true
 
-abbrev pub PutKeys : List ℕ → List ℕ → ℕ → List ℕ → Put → Type 0
-PutKeys rec old from new (To to) = KeysPut rec old from new key_count to
-PutKeys rec old from new Nothing = forms_up rec key_count ≡ false
+abbrev pub PutKeys : List ℕ → List ℕ → ℕ → List ℕ → Option ℕ → Type 0
+PutKeys rec old from new (Some to) = KeysPut rec old from new key_count to
+PutKeys rec old from new None = forms_up rec key_count ≡ false

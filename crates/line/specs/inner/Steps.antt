@@ -1,46 +1,34 @@
 -- The head and the keys as the code has them, and what reading comes to from either on.
-use Rattle.std.specs.Prelude.{Bool, true, false, List, ℕ, ◌-◌, ◌≤◌, length, take, drop}
+use Rattle.std.specs.Prelude.{Result, Ok, Err, Bool, List, ℕ, ◌≤◌, length}
 use Rattle.refusal.specs.Order.{Verdict, no, yes, and_then}
-use Rattle.line.specs.declared.Answer as declared
-use Rattle.line.specs.declared.Answer.TheVariants as answer
+use Rattle.refusal.specs.declared.Refusal.{Refusal}
 use Rattle.line.specs.declared.Head as found
-use Rattle.line.specs.declared.Head.TheVariants as head
 use Rattle.line.specs.Line.{Head, Taken, Model, taken, words_from, closed}
 use Rattle.line.specs.Answers.{room_for}
+use Rattle.line.specs.Signs.{sign_of}
 
--- the head whose name stands from start to end, and whose type ends at a place
-abbrev pub head_at : List ℕ → ℕ → ℕ → ℕ → ℕ → Head
-head_at line start end at sign =
-    record { name = take (end - start) (drop start line); sign = sign; rest = words_from line at }
+-- the head with a name and a sign, whose type ends at a place
+abbrev pub head_at : List ℕ → List ℕ → ℕ → ℕ → Head
+head_at line name at sign = record { name = name; sign = sign; rest = words_from line at }
 
 -- what was found of the first words
-abbrev pub head_told : List ℕ → found.Head → Verdict Head
-head_told line (head.Words start end at sign) = yes (head_at line start end at sign)
-head_told line (head.Refused f) = no f
+abbrev pub head_told : List ℕ → Result found.Head Refusal → Verdict Head
+head_told line (Ok h) = yes (head_at line h.name.now h.at (sign_of h.polarity))
+head_told line (Err f) = no f
 
--- its places are in the line
-pub record IsIn (line : List ℕ) (start end at : ℕ) : Type 0 where
-  pub order : start ≤ end
-  pub most : end ≤ length line
-  pub after : at ≤ length line
-
-abbrev pub Within : List ℕ → found.Head → Type 0
-Within line (head.Words start end at sign) = IsIn line start end at
-Within line (head.Refused f) = Unit
+-- its place is in the line
+abbrev pub Within : List ℕ → Result found.Head Refusal → Type 0
+Within line (Ok h) = h.at ≤ length line
+Within line (Err f) = Unit
 
 -- what was taken: the lent arrays, where nothing was refused
-abbrev pub keys_told : declared.Answer → List ℕ → List Bool → Verdict Taken
-keys_told answer.Taken w g = yes (taken w g)
-keys_told (answer.Refused f) w g = no f
+abbrev pub keys_told : Result (Unit {0}) Refusal → List ℕ → List Bool → Verdict Taken
+keys_told (Ok t) w g = yes (taken w g)
+keys_told (Err f) w g = no f
 
 -- reading from the end of the line on
 abbrev pub after_keys : List ℕ → Head → Taken → List ℕ → List ℕ → Verdict Model
 after_keys line h s name rec = and_then (closed line h s) (room_for name rec)
-
--- whether the keys were refused
-abbrev pub is_refused : declared.Answer → Bool
-is_refused answer.Taken = false
-is_refused (answer.Refused f) = true
 
 -- reading from the keys on
 abbrev pub from_keys : List ℕ → Head → Verdict Taken → List ℕ → List ℕ → Verdict Model

@@ -5,12 +5,12 @@ use Rattle.line_write.proofs.Lines.{head_pnp, head_npn}
 use borrow.Author.Rules.{rules}
 use Rattle.line_write.proofs.put_head.Goals as goal
 
-pub returns-then-sign-eq-MINUS_ONE : goal.returns-then-sign-eq-MINUS_ONE
-returns-then-sign-eq-MINUS_ONE c =
+pub returns-then-pnp : goal.returns-then-pnp
+returns-then-pnp c =
     let a = c.args in (
       omega arith,
       made (then (then c.put_bytes-spaced.ensures.1 c.put_bytes-named.ensures.1) c.put_bytes.ensures.1)
-          (head_pnp a.name.now a.sign (search rules)),
+          (head_pnp a.name.now a.pnp (search rules)),
     )
 
 pub returns : goal.returns
@@ -18,5 +18,5 @@ returns c =
     let a = c.args in (
       omega arith,
       made (then (then c.put_bytes-spaced.ensures.1 c.put_bytes-named.ensures.1) c.put_bytes-2.ensures.1)
-          (head_npn a.name.now a.sign (search rules)),
+          (head_npn a.name.now a.pnp (search rules)),
     )

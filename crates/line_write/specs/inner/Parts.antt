@@ -1,15 +1,15 @@
 -- A line as it is put together: its head, and the line of a good card.
-use Rattle.std.specs.Prelude.{not, List, ◌++◌, ℕ}
+use Rattle.std.specs.Prelude.{Bool, not, List, ◌++◌, ℕ}
 use Rattle.refusal.specs.declared.Refusal.TheVariants.{BadNumber}
 use Rattle.refusal.specs.Order.{Verdict, yes, refuse_if, and_then}
 use Rattle.spelling.specs.Bytes.{bytes}
 use Rattle.keys.specs.Keys.{key_count}
 use Rattle.keyed.specs.Keyed.{forms_up}
-use Rattle.line_write.specs.Text.{type_text, line_text}
+use Rattle.line_write.specs.Text.{type_of, line_text}
 use Rattle.line_write.specs.Answers.{room_for}
 
-abbrev pub head_of : List ℕ → ℕ → List ℕ
-head_of name sign = bytes ".model " ++ (name ++ type_text sign)
+abbrev pub head_of : List ℕ → Bool → List ℕ
+head_of name pnp = bytes ".model " ++ (name ++ type_of pnp)
 
 -- a card of which nothing but a number without a form can be wrong
 abbrev pub good_text : List ℕ → List ℕ → List ℕ → Verdict (List ℕ)

@@ -1,5 +1,5 @@
--- A place or none as a number, the next place of a set, and what joining and leaving the sets of nodes asks.
-use Rattle.std.specs.Prelude.{◌≡◌, true, false, List, ℕ, ◌≤◌, ◌<◌, length}
+-- A place or none, also as a number, the next place of a set, and what joining and leaving the sets of nodes asks.
+use Rattle.std.specs.Prelude.{◌≡◌, Option, Some, None, true, false, List, ℕ, ◌≤◌, ◌<◌, length}
 use Rattle.deck.specs.OfTerms.Rows.{roles}
 use Rattle.given.specs.OfTotals.Gives.{nodes_most}
 use Rattle.given.specs.OfTotals.inner.Sums.{Wired}
@@ -11,6 +11,11 @@ use Rattle.places.specs.Sets.{member}
 abbrev pub place_or : ℕ → Found ℕ → ℕ
 place_or most none = most
 place_or most (some i) = i
+
+-- a place that was found, or none
+abbrev pub found : Option ℕ → Found ℕ
+found None = none
+found (Some i) = some i
 
 -- i is the first place of the set from the place `from` on, or the number of places where there is none
 pub record NextIn (set from i : ℕ) : Type 0 where

@@ -1,10 +1,10 @@
 -- Placing's tests but the last, on nodes as the board holds them.
-use Rattle.std.specs.Prelude.{Bool, not, ◌&&◌, ◌||◌, List, ℕ, eqb, leb, get_or}
+use Rattle.std.specs.Prelude.{Result, Ok, Err, Bool, not, ◌&&◌, ◌||◌, List, ℕ, eqb, leb, get_or}
+use Rattle.refusal.specs.declared.Refusal.{Refusal}
 use Rattle.refusal.specs.declared.Refusal.TheVariants.{NoRoom, OutOfRange, SplitCollector, NumbersUsedUp}
 use Rattle.refusal.specs.Order.{Verdict, no, yes, refuse_if, and_then}
 use Rattle.terms.specs.Rows.{Role, C1, C3, C4, role_index}
-use Rattle.placing.specs.declared.Way.{Way}
-use Rattle.placing.specs.declared.Way.TheVariants.{Go, Stop}
+use Rattle.placing.specs.declared.Spot.{Spot}
 use Rattle.totals.specs.Gives.{nodes_most}
 use Rattle.given.specs.Lists.{any_of}
 use Rattle.given.specs.Arguments.{Found, known, Ties}
@@ -25,7 +25,11 @@ placing {A} found ties on no_room used_up =
     (refuse_if no_room NoRoom
     (refuse_if used_up NumbersUsedUp (yes a)))))
 
+-- a card's place and a free one
+abbrev pub spot : ℕ → ℕ → Spot
+spot i free = record { card = i; free = free }
+
 -- the verdict with the free place beside it
-abbrev pub way_of : ℕ → Verdict ℕ → Way
-way_of free (no f) = Stop f
-way_of free (yes i) = Go i free
+abbrev pub way_of : ℕ → Verdict ℕ → Result Spot Refusal
+way_of free (no f) = Err f
+way_of free (yes i) = Ok (spot i free)

@@ -5,4 +5,4 @@ use Rattle.quoting.proofs.model_line.Goals as goal
 
 pub returns : goal.returns
 unfolding model_line
-returns c = then c.put-ended.ensures c.put.ensures
+returns g c = then c.put.ensures c.put-2.ensures

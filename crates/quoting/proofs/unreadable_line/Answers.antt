@@ -5,4 +5,4 @@ use Rattle.quoting.proofs.unreadable_line.Goals as goal
 
 pub returns : goal.returns
 unfolding unreadable_line
-returns c = then c.put-start.ensures (then c.put-named.ensures c.put.ensures)
+returns g c = then c.put.ensures (then c.put-2.ensures c.put-3.ensures)

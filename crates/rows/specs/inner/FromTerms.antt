@@ -1,15 +1,13 @@
 -- The code's way from the rows' terms to an outcome.
-use Rattle.std.specs.Prelude.{List, [], ◌∷◌, ℕ, zero, suc, ◌+◌, ◌≤◌, ◌<◌, get_or, ℤ}
+use Rattle.std.specs.Prelude.{Option, None, List, [], ◌∷◌, ℕ, zero, suc, ◌+◌, ◌≤◌, ◌<◌, get_or, ℤ}
 use Rattle.std.proofs.Math.IntN.{sub_ℕ}
 use Rattle.quotients.specs.Quotient.{quotient_of}
 use Rattle.terms.specs.declared.Terms.{Terms}
 use Rattle.terms.specs.Rows.{branches}
 use Rattle.terms.specs.OfScaling.Scaled.{tick_limit, ratio_limit}
 use Rattle.rows.specs.declared.Over.{Over}
-use Rattle.rows.specs.declared.Over.TheVariants.{Within}
-use Rattle.rows.specs.declared.Outcome.{Outcome}
 use Rattle.rows.specs.Ticks.{root_for, quotient_shift}
-use Rattle.rows.specs.Outcome.{some_above, over_at, outcome_at}
+use Rattle.rows.specs.Outcome.{some_above, over_at, Outcome, outcome_at}
 
 -- every number of two lists, one for each row in either, is at most this
 pub record Most (a b : List ℕ) (most : ℕ) : Type 0 where
@@ -17,7 +15,7 @@ pub record Most (a b : List ℕ) (most : ℕ) : Type 0 where
   pub second : (k : ℕ) → k < branches → get_or b k 0 ≤ most
 
 -- whether row k + 1 overloads, and if not what comes after it
-abbrev pub row_over : Terms → ℕ → Over → Over
+abbrev pub row_over : Terms → ℕ → Option Over → Option Over
 row_over x k next =
     over_at (some_above tick_limit (get_or x.plus k 0 ∷ get_or x.minus k 0 ∷ []))
     (some_above ratio_limit (get_or x.left k 0 ∷ get_or x.right k 0 ∷ []))
@@ -25,8 +23,8 @@ row_over x k next =
     next
 
 -- the first of n rows from place k on that overloads
-unfoldable pub over_up : Terms → ℕ → ℕ → Over
-over_up x zero k = Within
+unfoldable pub over_up : Terms → ℕ → ℕ → Option Over
+over_up x zero k = None
 over_up x (suc n) k = row_over x k (over_up x n (suc k))
 
 -- Q over the roots for two floors

@@ -1,11 +1,12 @@
 -- What going through a set of places asks and gives.
-use Rattle.std.specs.Prelude.{◌≡◌, Bool, true, false, cond, not, List, map, ℕ, ◌-◌, ◌*◌, ◌≤◌, ◌<◌, get_or, length, ℤ, pos}
+use Rattle.std.specs.Prelude.{◌≡◌, Option, Result, is_ok, true, cond, not}
+use Rattle.std.specs.Prelude.{List, map, ℕ, ◌-◌, ◌*◌, ◌≤◌, ◌<◌, get_or, length, ℤ, pos}
+use Rattle.refusal.specs.declared.Refusal.{Refusal}
 use Rattle.volts.specs.Volts.{given_back}
 use Rattle.octave.specs.Table.{entries}
 use Rattle.scaling.specs.Scaled.{tick_limit}
 use Rattle.card.specs.declared.WorkedCard.{WorkedCard}
 use Rattle.places.specs.OfRowsTypes.Over.{Over}
-use Rattle.places.specs.OfRows.Outcome.{is_over}
 use Rattle.flows.specs.OfTerms.Rows.{roles, branches}
 use Rattle.places.specs.OfTotals.Gives.{nodes_most}
 use Rattle.places.specs.OfTotals.Flow.{over_at, ticks_at, ticks_give, sum_below, with_more}
@@ -16,8 +17,7 @@ use Rattle.flows.specs.inner.Workable.{Volts, Deck, card_of, Able}
 use Rattle.places.specs.Counts.{transistors_most}
 use Rattle.places.specs.Sets.{member}
 use Rattle.settle.specs.declared.First.{First}
-use Rattle.settle.specs.declared.Judgement.{Judgement}
-use Rattle.settle.specs.First.{first_below}
+use Rattle.settle.specs.First.{first_below, judged}
 use Rattle.settle.specs.Change.{changes}
 use Rattle.settle.specs.Renewed.{renewed}
 
@@ -50,14 +50,14 @@ gained r currents k n =
     (map given_back r.will) k n
 
 -- by what a place overloads at the new voltages, and its currents there
-abbrev pub over_of : Round → ℕ → Over
+abbrev pub over_of : Round → ℕ → Option Over
 over_of r i = over_at (card_at r.deck r.seats i) (nodes_at r.nodes i) (map given_back r.will)
 
 abbrev pub new_at : Round → ℕ → List ℤ
 new_at r i = ticks_at (card_at r.deck r.seats i) (nodes_at r.nodes i) (map given_back r.will)
 
 -- the first of the places of the set below k that overloads
-abbrev pub first_so : Round → ℕ → First
+abbrev pub first_so : Round → ℕ → Option First
 first_so r k = first_below (member r.marked) (λ (j : ℕ). get_or r.issues j 0) (over_of r) k
 
 -- what is held once the places of the set from i on are worked anew
@@ -83,10 +83,6 @@ few_places = 16
 abbrev pub standing : Round → List ℤ → List ℤ → List ℤ
 standing r currents totals = with_more totals (gained r currents transistors_most)
 
--- nobody overloads, and every total stays in range
-abbrev pub is_taken : Judgement → Bool
-is_taken j = cond (is_over j.first.over) false j.fits
-
 -- every place of the set can be worked, and what it holds is small
 pub record Settling (r : Round) (currents totals : List ℤ) : Type 0 where
   pub will_are : Volts r.will
@@ -97,7 +93,7 @@ pub record Settling (r : Round) (currents totals : List ℤ) : Type 0 where
 
 -- the places of the set below i are passed, and i is one of the set or none is left: what those places will have comes
 -- in, what they hold goes out, and first is the first of them that overloads
-pub record Gone (r : Round) (currents : List ℤ) (i : ℕ) (coming going : List ℤ) (first : First) : Type 0 where
+pub record Gone (r : Round) (currents : List ℤ) (i : ℕ) (coming going : List ℤ) (first : Option First) : Type 0 where
   pub most : i ≤ transistors_most
   pub is : i < transistors_most → member r.marked i ≡ true
   pub comes : Sums r (new_at r) i coming
@@ -106,16 +102,15 @@ pub record Gone (r : Round) (currents : List ℤ) (i : ℕ) (coming going : List
 
 -- going on from there
 pub record Going (r : Round) (table : List ℕ) (currents totals : List ℤ) (i : ℕ) (coming going : List ℤ)
-    (first : First) : Type 0 where
+    (first : Option First) : Type 0 where
   pub table_is : table ≡ entries
   pub settling : Settling r currents totals
   pub gone : Gone r currents i coming going first
 
--- all places of the set are passed: the first that overloads; whether every total would stay in range, where nobody
--- does; the totals as they stand then, and what is held. It is held anew from the place i on, unless this is refused
-pub record Settled (r : Round) (currents totals : List ℤ) (i : ℕ) (told : Judgement) (totals' currents' : List ℤ) :
-    Type 0 where
-  pub first_is : told.first ≡ first_so r transistors_most
-  pub fits_is : is_over told.first.over ≡ false → told.fits ≡ not (some_outside (standing r currents totals))
-  pub totals_are : totals' ≡ cond (is_taken told) (standing r currents totals) totals
-  pub held : currents' ≡ cond (is_taken told) (held_from r currents i) currents
+-- all places of the set are passed: what is told, by the first that overloads and whether every total would stay in
+-- range; the totals as they stand then, and what is held. It is held anew from the place i on, unless this is refused
+pub record Settled (r : Round) (currents totals : List ℤ) (i : ℕ) (told : Result (Unit {0}) Refusal)
+    (totals' currents' : List ℤ) : Type 0 where
+  pub told_is : told ≡ judged (first_so r transistors_most) (not (some_outside (standing r currents totals)))
+  pub totals_are : totals' ≡ cond (is_ok told) (standing r currents totals) totals
+  pub held : currents' ≡ cond (is_ok told) (held_from r currents i) currents

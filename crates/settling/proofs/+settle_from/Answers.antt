@@ -1,34 +1,40 @@
 -- `settle_from` works the place i and goes on to the next of the set, and judges the totals after the last; on the way
 -- back it holds the new currents unless this is refused.
-use mathlib.Core.Path.{◌≡◌, refl, sym, ◌∙◌}
+use mathlib.Core.Path.{◌≡◌, refl, sym, ap, ◌∙◌}
+use lib.ListN.{get_or}
+use Rattle.std.specs.Prelude.{Option}
+use Rattle.polarity.specs.OfRowsTypes.Over.{Over}
+use Rattle.polarity.specs.OfRows.Outcome.{told_ticks}
+use Rattle.settle.specs.First.{earlier}
 use native.Mathlib.Omega.{arith}
 use borrow.Author.Rules.{rules}
 use borrow.Author.Tests.{ltb-true}
 use Rattle.slices.proofs.Passing.{in_long}
+use Rattle.settle.proofs.Going.{own_over}
 use Rattle.settle.proofs.Going.{gone_works, gone_goes, gone_comes, goes_on, gone_over, gone_all, back_left, back_held}
 use Rattle.settle.proofs.Going.{reach, gone_near, settled_long}
 use Rattle.settling.proofs.+settle_from.Goals as goal
+use Rattle.settling.proofs.+settle_from.Goals.{in-Ok, in-Err}
 
-pub returns-then-is_over : goal.returns-then-is_over
-returns-then-is_over t c =
-    gone_over _ _ c.requires.gone c.if-i-ge-TRANSISTORS.true (sym c.is_over.ensures ∙ c.if-is_over.true)
+pub returns-then-i-ge-TRANSISTORS : goal.returns-then-i-ge-TRANSISTORS
+returns-then-i-ge-TRANSISTORS t c =
+    rw c.refusal_of.ensures (gone_over _ _ c.requires.gone c.if-i-ge-TRANSISTORS.true c.in-Some.is)
 
-pub stand_in-fits-requires : goal.stand_in-fits-requires
-stand_in-fits-requires t c =
+pub stand_in-requires : goal.stand_in-requires
+stand_in-requires t c =
     let p = c.requires in
     record {
       totals_len = p.settling.long;
       near = λ f. gone_near _ _ p.gone c.if-i-ge-TRANSISTORS.true p.settling (ltb-true _ _ f);
     }
 
-pub shape_of-totals-then-i-ge-TRANSISTORS : goal.shape_of-totals-then-i-ge-TRANSISTORS
-shape_of-totals-then-i-ge-TRANSISTORS t c =
-    in_long c.args.totals.now c.args.coming.now c.args.going.now c.stand_in-fits.ensures c.requires.settling.long
+pub shape_of-totals-in_default : goal.shape_of-totals-in_default
+shape_of-totals-in_default t c =
+    in_long c.args.totals.now c.args.coming.now c.args.going.now c.stand_in.ensures c.requires.settling.long
 
-pub returns-then-i-ge-TRANSISTORS : goal.returns-then-i-ge-TRANSISTORS
-returns-then-i-ge-TRANSISTORS t c =
-    gone_all _ _ c.requires.gone c.if-i-ge-TRANSISTORS.true (sym c.is_over.ensures ∙ c.if-is_over.false)
-    c.stand_in-fits.ensures
+pub returns-in_default : goal.returns-in_default
+returns-in_default t c =
+    gone_all _ _ c.requires.gone c.if-i-ge-TRANSISTORS.true c.in_default.is c.stand_in.ensures
 
 pub overflow_cast-s : goal.overflow_cast-s
 overflow_cast-s t c =
@@ -54,35 +60,44 @@ put_out-requires t c =
 pub put_in-requires : goal.put_in-requires
 put_in-requires t c =
     let g = c.requires in
-    gone_comes _ _ g.settling g.gone c.if-i-ge-TRANSISTORS.false c.nodes_at-on.ensures c.work-o.ensures
+    let own : c.match-o.own.now ≡ told_ticks c.work-o.result =
+    elim c.match-o.branch [ in-Ok w ↦ rw (w.own-is, w.in-Ok.is) refl | in-Err w ↦ rw (w.own-is, w.in-Err.is) refl ] in
+    rw own (gone_comes _ _ g.settling g.gone c.if-i-ge-TRANSISTORS.false c.nodes_at-on.ensures c.work-o.ensures)
 
 pub settle_from-last-requires : goal.settle_from-last-requires
-settle_from-last-requires t c = (
-  let h = c.if-i-ge-TRANSISTORS.false in let k = reach (omega arith) c.next_in-after.ensures in omega arith,
-  goes_on _ _ c.requires c.if-i-ge-TRANSISTORS.false
-      c.nodes_at-on.ensures refl
-      c.put_out.ensures c.work-o.ensures c.put_in.ensures
-      c.earlier_of-found.ensures _ c.next_in-after.ensures,
-)
+settle_from-last-requires t c =
+    let own : c.match-o.own.now ≡ told_ticks c.work-o.result =
+    elim c.match-o.branch [ in-Ok w ↦ rw (w.own-is, w.in-Ok.is) refl | in-Err w ↦ rw (w.own-is, w.in-Err.is) refl ] in (
+      let h = c.if-i-ge-TRANSISTORS.false in let k = reach (omega arith) c.next_in-after.ensures in omega arith,
+      goes_on _ _ c.requires c.if-i-ge-TRANSISTORS.false
+          c.nodes_at-on.ensures refl
+          c.put_out.ensures c.work-o.ensures
+          (rw own at c.put_in.ensures)
+          (c.earlier_of-found.ensures
+          ∙ ap (λ (o : Option Over). earlier c.args.first (get_or c.args.issues.now c.args.i 0) o)
+          (c.err-over.ensures.value ∙ own_over c.work-o.result)) _ c.next_in-after.ensures,
+    )
 
 pub put_currents-requires : goal.put_currents-requires
 put_currents-requires t c = let h = c.if-i-ge-TRANSISTORS.false in search rules
 
 -- as many totals on the way back
-pub shape_of-totals-then-is_taken : goal.shape_of-totals-then-is_taken
-shape_of-totals-then-is_taken t c = settled_long _ _ c.requires.settling.long c.settle_from-last.ensures
+pub shape_of-totals-then-is_ok : goal.shape_of-totals-then-is_ok
+shape_of-totals-then-is_ok t c = settled_long _ _ c.requires.settling.long c.settle_from-last.ensures
 
-pub shape_of-totals-else-is_taken : goal.shape_of-totals-else-is_taken
-shape_of-totals-else-is_taken t c = settled_long _ _ c.requires.settling.long c.settle_from-last.ensures
+pub shape_of-totals-else-is_ok : goal.shape_of-totals-else-is_ok
+shape_of-totals-else-is_ok t c = settled_long _ _ c.requires.settling.long c.settle_from-last.ensures
 
-pub returns-then-is_taken : goal.returns-then-is_taken
-returns-then-is_taken t c =
-    rw c.put_currents.ensures
+pub returns-then-is_ok : goal.returns-then-is_ok
+returns-then-is_ok t c =
+    let own : c.match-o.own.now ≡ told_ticks c.work-o.result =
+    elim c.match-o.branch [ in-Ok w ↦ rw (w.own-is, w.in-Ok.is) refl | in-Err w ↦ rw (w.own-is, w.in-Err.is) refl ] in
+    rw (c.put_currents.ensures, own)
     (back_held _ _ c.if-i-ge-TRANSISTORS.false c.next_in-after.ensures c.settle_from-last.ensures
-    (sym c.is_taken.ensures ∙ c.if-is_taken.true) (c.requires.gone.is c.if-i-ge-TRANSISTORS.false)
+    (sym c.is_ok.ensures.value ∙ c.if-is_ok.true) (c.requires.gone.is c.if-i-ge-TRANSISTORS.false)
     c.nodes_at-on.ensures c.work-o.ensures)
 
-pub returns-else-is_taken : goal.returns-else-is_taken
-returns-else-is_taken t c =
+pub returns-else-is_ok : goal.returns-else-is_ok
+returns-else-is_ok t c =
     back_left _ _ c.if-i-ge-TRANSISTORS.false c.next_in-after.ensures c.settle_from-last.ensures
-    (sym c.is_taken.ensures ∙ c.if-is_taken.false)
+    (sym c.is_ok.ensures.value ∙ c.if-is_ok.false)

@@ -1,8 +1,7 @@
 -- The search for a size's shortest form, over the powers from the highest down.
-use Rattle.std.specs.Prelude.{◌≡◌, ℕ, ◌≤◌, ◌<◌}
+use Rattle.std.specs.Prelude.{◌≡◌, Bool, Option, Some, None, ℕ, ◌≤◌, ◌<◌}
+use Rattle.decimal.specs.declared.Decimal.{Decimal}
 use Rattle.decimal.specs.Decimal.{digits_end, powers_end, size_bits}
-use Rattle.shortest.specs.declared.Found.{Found}
-use Rattle.shortest.specs.declared.Found.TheVariants.{At, Nowhere}
 
 -- d with the power q is a form of the size w
 pub record Reads (w d q : ℕ) : Type 0 where
@@ -19,6 +18,7 @@ pub record Smallest (w d q : ℕ) : Type 0 where
 pub record NoneAbove (w q : ℕ) : Type 0 where
   pub none : (e p : ℕ) → q ≤ p → Reads w e p → ⊥
 
-abbrev pub Searched : ℕ → Found → Type 0
-Searched w (At d q) = Smallest w d q
-Searched w Nowhere = NoneAbove w 0
+-- the smallest form of w with its sign, or that w has none
+abbrev pub Searched : Bool → ℕ → Option Decimal → Type 0
+Searched minus w (Some x) = (x.minus ≡ minus) × Smallest w x.digits x.power
+Searched minus w None = NoneAbove w 0

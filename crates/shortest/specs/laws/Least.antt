@@ -1,8 +1,7 @@
 -- What a shortest form is, in the words of the rule: the fewest digits that read back to a word, and of those the
 -- smallest.
-use Rattle.std.specs.Prelude.{◌≡◌, Bool, false, ℕ, ◌^◌, ◌≤◌, ◌<◌}
-use Rattle.decimal.specs.declared.Form.{Form}
-use Rattle.decimal.specs.declared.Form.TheVariants.{Number, Nothing}
+use Rattle.std.specs.Prelude.{◌≡◌, Bool, false, Option, Some, None, ℕ, ◌^◌, ◌≤◌, ◌<◌}
+use Rattle.decimal.specs.declared.Decimal.{Decimal}
 use Rattle.decimal.specs.Decimal.{digits_end, no_power, powers_end, word_of}
 
 -- a number that a line can have, and that is read as the word w
@@ -21,6 +20,6 @@ pub record Shortest (w : ℕ) (minus : Bool) (d q : ℕ) : Type 0 where
   pub zero : d ≡ 0 → q ≡ no_power
 
 -- the shortest form, or none where nothing reads back to the word
-abbrev pub Formed : ℕ → Form → Type 0
-Formed w (Number minus d q) = Shortest w minus d q
-Formed w Nothing = (minus : Bool) (d q : ℕ) → ReadsBack w minus d q → ⊥
+abbrev pub Formed : ℕ → Option Decimal → Type 0
+Formed w (Some x) = Shortest w x.minus x.digits x.power
+Formed w None = (minus : Bool) (d q : ℕ) → ReadsBack w minus d q → ⊥

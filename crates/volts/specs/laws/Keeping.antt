@@ -1,9 +1,7 @@
 -- A voltage in range is kept as one number, from which it comes back; one that is not in range is outside.
-use Rattle.std.specs.Prelude.{◌≡◌, refl, Bool, true, false, cond, ◌||◌, List, [], ◌∷◌, map, ℕ, zero, suc, ◌+◌, ◌-◌, ◌≤◌, ◌<◌, ltb, get_or, set, replicate, length, ℤ, pos, negsuc}
+use Rattle.std.specs.Prelude.{◌≡◌, refl, Bool, true, false, Option, Some, None, cond, ◌||◌, List, [], ◌∷◌, map, ℕ, zero, suc, ◌+◌, ◌-◌, ◌≤◌, ◌<◌, ltb, get_or, set, replicate, length, ℤ, pos, negsuc}
 use Rattle.std.proofs.Common.{sym, ap, subst, ◌∙◌, zero-le, arith, ltb-false}
 use Rattle.whole.specs.laws.Biased.{sub_up, sub_down}
-use Rattle.volts.specs.declared.Voltage.{Voltage}
-use Rattle.volts.specs.declared.Voltage.TheVariants.{Kept, Outside}
 use Rattle.volts.specs.Volts.{volts_most, span, off_volts, kept_as, given_back, keeping, Near, AllNear}
 
 -- two different constructors are not equal
@@ -40,17 +38,17 @@ kept (negsuc n) e =
     }
 
 -- from what `keep` says
-pub kept_is : {v w : ℤ} {l : Voltage} {x : ℕ} → w ≡ v → l ≡ keeping w → l ≡ Kept x → KeptIs v x
+pub kept_is : {v w : ℤ} {l : Option ℕ} {x : ℕ} → w ≡ v → l ≡ keeping w → l ≡ Some x → KeptIs v x
 kept_is {v} {w} {l} {x} p q r = go (off_volts v) refl (sym (ap keeping p) ∙ sym q ∙ r)
   where
-    go : (t : Bool) → off_volts v ≡ t → cond t Outside (Kept (kept_as v)) ≡ Kept x → KeptIs v x
+    go : (t : Bool) → off_volts v ≡ t → cond t None (Some (kept_as v)) ≡ Some x → KeptIs v x
     go true e f = clash cc
     go false e f = let same : kept_as v ≡ x = cc in subst (KeptIs v) same (kept v e)
 
-pub outside_is : {v w : ℤ} {l : Voltage} → w ≡ v → l ≡ keeping w → l ≡ Outside → off_volts v ≡ true
+pub outside_is : {v w : ℤ} {l : Option ℕ} → w ≡ v → l ≡ keeping w → l ≡ None → off_volts v ≡ true
 outside_is {v} {w} {l} p q r = go (off_volts v) (sym (ap keeping p) ∙ sym q ∙ r)
   where
-    go : (t : Bool) → cond t Outside (Kept (kept_as v)) ≡ Outside → t ≡ true
+    go : (t : Bool) → cond t None (Some (kept_as v)) ≡ None → t ≡ true
     go true f = refl
     go false f = clash cc
 

@@ -1,7 +1,7 @@
--- What passing spaces, and passing a word, leaves of a line's words. Inner contracts of parting a line.
-use Rattle.std.specs.Prelude.{◌≡◌, true, false, List, [], ◌∷◌, ℕ, ◌+◌, ◌≤◌, ◌<◌, length, drop, get_or}
-use Rattle.spelling.specs.Bytes.{space}
-use Rattle.words.specs.Words.{Span, spans_from, span}
+-- The next word of a line, and what is left of the line after it. Inner contracts of parting a line.
+use Rattle.std.specs.Prelude.{◌≡◌, true, false, Option, Some, None, List, [], ◌∷◌, ℕ, ◌≤◌, ◌<◌, length, drop}
+use Rattle.words.specs.declared.Span.{Span}
+use Rattle.words.specs.Words.{spans_from}
 
 -- the words from a place on, that place in no word
 abbrev pub outside : List ℕ → ℕ → List Span
@@ -11,23 +11,14 @@ outside line at = spans_from false 0 at (drop at line)
 abbrev pub inside : List ℕ → ℕ → ℕ → List Span
 inside line start at = spans_from true start at (drop at line)
 
--- from `at` to r there are spaces alone, and none at r
-pub record PassesSpaces (line : List ℕ) (at r : ℕ) : Type 0 where
-  pub least : at ≤ r
-  pub most : r ≤ length line
-  pub same : outside line at ≡ outside line r
-  pub stops : r < length line → get_or line r 0 ≡ space → ⊥
+-- the first word from `at` on, with bytes of its own within the line, and what is left after it
+pub record FirstWord (line : List ℕ) (at : ℕ) (s : Span) : Type 0 where
+  pub later : at ≤ s.start
+  pub order : s.start < s.end
+  pub most : s.end ≤ length line
+  pub parted : outside line at ≡ s ∷ outside line s.end
 
--- the word that begins at `at` ends before r
-pub record PassesWord (line : List ℕ) (at r : ℕ) : Type 0 where
-  pub least : at < r
-  pub most : r ≤ length line
-  pub parted : inside line at (at + 1) ≡ span at r ∷ outside line r
-
--- the first word from `at` on begins at `start` and ends before `end`; the two are the line's end where there is none
-pub record NextWord (line : List ℕ) (at start end : ℕ) : Type 0 where
-  pub order : start ≤ end
-  pub most : end ≤ length line
-  pub later : start < end → at ≤ start
-  pub some : start < end → outside line at ≡ span start end ∷ outside line end
-  pub none : end ≤ start → (outside line at ≡ []) × (end ≡ length line)
+-- the first word from `at` on, where there is one
+abbrev pub NextWord : List ℕ → ℕ → Option Span → Type 0
+NextWord line at None = outside line at ≡ []
+NextWord line at (Some s) = FirstWord line at s

@@ -3,7 +3,8 @@
 use Rattle.std.specs.Prelude.{◌≡◌, refl, Bool, true, false, not, ◌&&◌, List, [], ◌∷◌, ◌++◌, ℕ, suc, ◌+◌, ◌<◌, eqb, length}
 use Rattle.std.proofs.Common.{append_assoc, add-one, arith, eqb-true, length-append}
 use Rattle.spelling.specs.Bytes.{space}
-use Rattle.words.specs.Words.{Span, span, spans_from, spans_of}
+use Rattle.words.specs.declared.Span.{Span}
+use Rattle.words.specs.Words.{span, spans_from, spans_of}
 
 abbrev pub spaceless : List ℕ → Bool
 spaceless [] = true

@@ -8,14 +8,15 @@ use Rattle.board.proofs.Reaches.{after_lift, reached_by}
 use Rattle.board.proofs.Whole.{own_standing}
 use Rattle.board.proofs.Board.lift.Goals as goal
 
-pub lift-answer-requires : goal.lift-answer-requires
-lift-answer-requires c = (model_of c.args.self, c.requires, own_standing (model_of c.args.self))
+pub lift-lifted-requires : goal.lift-lifted-requires
+lift-lifted-requires c = (model_of c.args.self, c.requires, own_standing (model_of c.args.self))
 
 pub returns-clause-value : goal.returns-clause-value
 returns-clause-value c =
+    rw c.answer_of.ensures
     (after_lift c.args.self c.requires c.args.volts.now c.args.totals.now c.args.transistor
     (to_z-of_z w64 c.args.transistor c.ranges.transistor)
-    (c.lift-answer.ensures (model_of c.args.self) c.requires (own_standing (model_of c.args.self)))).0
+    (c.lift-lifted.ensures (model_of c.args.self) c.requires (own_standing (model_of c.args.self)))).0
 
 pub returns-clause-reached : goal.returns-clause-reached
 unfolding lent_of

@@ -11,7 +11,8 @@ use Rattle.board.proofs.Board.list_node.Goals as goal
 pub returns-clause-value : goal.returns-clause-value
 returns-clause-value c =
     let b = bare (model_of c.args.self) in
-    let lent = c.list_node-answer.ensures b refl refl in
+    let lent = c.list_node-listed.ensures b refl refl in
     let told = rw (to_z-of_z w64 c.args.node c.ranges.node) at lent in
+    rw c.answer_of.ensures
     (after_list c.requires c.args.node c.args.list.now refl
     (listed_whole b c.args.node _ told.answer_is) told.list_is).0

@@ -15,8 +15,9 @@ overflow_cast-issue c = next_fits c.requires
 pub returns-clause-value : goal.returns-clause-value
 returns-clause-value c =
     let b = bare (model_of c.args.self) in
+    rw c.answer_of.ensures
     (after_load c.requires c.args.name.now c.args.bytes.now refl
-    (loaded_whole b c.args.name.now c.args.bytes.now (c.load-answer.ensures b (own_cards b) refl))).0
+    (loaded_whole b c.args.name.now c.args.bytes.now (c.load-loaded.ensures b (own_cards b) refl))).0
 
 pub returns-clause-reached : goal.returns-clause-reached
 unfolding lent_of

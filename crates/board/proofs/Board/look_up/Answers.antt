@@ -9,5 +9,6 @@ use Rattle.board.proofs.Board.look_up.Goals as goal
 pub returns-clause-value : goal.returns-clause-value
 returns-clause-value c =
     let b = bare (model_of c.args.self) in
+    rw c.answer_of.ensures
     (after_look c.requires c.args.name.now refl
-    (looked_whole b c.args.name.now (c.look_up-answer.ensures b refl refl))).0
+    (looked_whole b c.args.name.now (c.look_up-found.ensures b refl refl))).0

@@ -6,13 +6,14 @@ use Rattle.board.proofs.Reaches.{after_move, reached_by}
 use Rattle.board.proofs.Whole.{own_lends}
 use Rattle.board.proofs.Board.move_all.Goals as goal
 
-pub move_all-answer-requires : goal.move_all-answer-requires
-move_all-answer-requires c = (model_of c.args.self, c.requires, own_lends (model_of c.args.self))
+pub move_all-moved-requires : goal.move_all-moved-requires
+move_all-moved-requires c = (model_of c.args.self, c.requires, own_lends (model_of c.args.self))
 
 pub returns-clause-value : goal.returns-clause-value
 returns-clause-value c =
+    rw c.answer_of.ensures
     (after_move c.args.self c.requires c.args.volts.now c.args.totals.now c.args.pairs.now
-    (c.move_all-answer.ensures (model_of c.args.self) c.requires (own_lends (model_of c.args.self)))).0
+    (c.move_all-moved.ensures (model_of c.args.self) c.requires (own_lends (model_of c.args.self)))).0
 
 pub returns-clause-reached : goal.returns-clause-reached
 unfolding lent_of

@@ -15,15 +15,16 @@ use Rattle.board.proofs.Board.place.Goals as goal
 pub overflow_cast-next : goal.overflow_cast-next
 overflow_cast-next c = next_fits c.requires
 
-pub place-answer-requires : goal.place-answer-requires
-place-answer-requires c = (model_of c.args.self, c.requires, own_lends_places (model_of c.args.self))
+pub place-placed-requires : goal.place-placed-requires
+place-placed-requires c = (model_of c.args.self, c.requires, own_lends_places (model_of c.args.self))
 
 pub returns-clause-value : goal.returns-clause-value
 returns-clause-value c =
     let long : length c.args.nodes ≡ roles = search rules in
+    rw c.answer_of.ensures
     (after_place c.args.self c.requires c.args.volts.now c.args.totals.now c.args.card c.args.nodes
     long (to_z-of_z w64 c.args.card c.ranges.card)
-    (c.place-answer.ensures (model_of c.args.self) c.requires (own_lends_places (model_of c.args.self)))).0
+    (c.place-placed.ensures (model_of c.args.self) c.requires (own_lends_places (model_of c.args.self)))).0
 
 pub returns-clause-reached : goal.returns-clause-reached
 unfolding lent_of

@@ -11,6 +11,7 @@ use Rattle.board.proofs.Board.sum_up.Goals as goal
 pub returns-clause-value : goal.returns-clause-value
 returns-clause-value c =
     let b = bare (model_of c.args.self) in
-    let told = c.sum_up-answer.ensures b (own_node b) in
+    let told = c.sum_up-summed.ensures b (own_node b) in
+    rw c.answer_of.ensures
     (after_sum c.requires c.args.node refl
     (summed_whole b c.args.node (rw (to_z-of_z w64 c.args.node c.ranges.node) at told))).0

@@ -15,8 +15,9 @@ use Rattle.board.proofs.Board.withdraw.Goals as goal
 pub returns-clause-value : goal.returns-clause-value
 returns-clause-value c =
     let b = bare (model_of c.args.self) in
+    rw c.answer_of.ensures
     (after_withdraw c.requires c.args.card refl
-    (withdrawn_whole b _ (c.withdraw-answer.ensures b (own_cards b) refl refl)
+    (withdrawn_whole b _ (c.withdraw-withdrawn.ensures b (own_cards b) refl refl)
     ∙ ap (withdrawn_of b) (to_z-of_z w64 c.args.card c.ranges.card))).0
 
 pub returns-clause-reached : goal.returns-clause-reached

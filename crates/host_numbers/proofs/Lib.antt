@@ -1,2 +1,0 @@
--- Laws over plain values that the proofs of functions cite.
-mod Filling

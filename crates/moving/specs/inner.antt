@@ -1,2 +1,0 @@
--- Words of inner contracts: the answer to a move.
-pub mod Told

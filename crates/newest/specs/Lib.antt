@@ -1,0 +1,2 @@
+-- The highest issue number of a name: the words of the contract.
+pub mod Named
