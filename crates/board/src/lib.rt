@@ -121,6 +121,8 @@ impl Board {
 
     // A transistor on a card, by its issue number, and on the nodes of its roles: 13 for the slices, 12, 13, 14, 11,
     // 17, 15 or 18, 10.
+    // (written into its callers, as `load` is)
+    #[inline(always)]
     pub fn place(
         mut self,
         volts: &[i64],
@@ -217,6 +219,8 @@ impl Board {
     }
 
     // A transistor taken off, by its issue number: 13 for the slices, 12, 10. What it holds is taken out of the totals.
+    // (written into its callers, as `load` is)
+    #[inline(always)]
     pub fn lift(mut self, volts: &[i64], totals: &mut [i64], transistor: i64) -> Answered
         requires { Reached self }
         ensures value { result ≡ handed_as (lifted_lent (state_in self volts.now totals.old)
@@ -299,14 +303,15 @@ impl Board {
     }
 
     // The currents of a transistor's branches, by its issue number: 12.
+    // (this and the next two read copies of the arrays, which spares a host's call a copy of the whole board)
     pub fn read_currents(self, transistor: i64) -> Answered
         requires { Reached self }
         ensures value { result ≡ given_as (opened_of (bare (model_of self)) transistor) }
         ensures reached { Reached result.board }
     {
-        let standing = &self.issues;
-        let currents = &self.currents;
-        let read = reading::read_currents(standing, currents, transistor);
+        let standing = self.issues;
+        let currents = self.currents;
+        let read = reading::read_currents(&standing, &currents, transistor);
         Answered {
             board: self,
             answer: model::answer_of(read.and(Ok(Answer::Currents))),
@@ -323,9 +328,9 @@ impl Board {
         ensures list_after { list.new
             ≡ over (listed_of (bare (model_of self)) node (length list.old)).list list.old }
     {
-        let given = &self.issues;
-        let naming = &self.naming;
-        let listed = roster::list_node(given, naming, node, list);
+        let given = self.issues;
+        let naming = self.naming;
+        let listed = roster::list_node(&given, &naming, node, list);
         Answered {
             board: self,
             answer: model::answer_of(listed),
@@ -340,11 +345,11 @@ impl Board {
         ensures value { result ≡ given_as (summed_of (bare (model_of self)) node) }
         ensures reached { Reached result.board }
     {
-        let kinds = &self.cards;
-        let nodes = &self.nodes;
-        let naming = &self.naming;
-        let currents = &self.currents;
-        let summed = summary::sum_up(kinds, nodes, naming, currents, node);
+        let kinds = self.cards;
+        let nodes = self.nodes;
+        let naming = self.naming;
+        let currents = self.currents;
+        let summed = summary::sum_up(&kinds, &nodes, &naming, &currents, node);
         Answered {
             board: self,
             answer: model::answer_of(summed),

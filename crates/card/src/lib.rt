@@ -51,7 +51,25 @@ pub struct WorkedCard {
 pub fn no_card() -> WorkedCard
     ensures { result ≡ no_worked }
 {
-    WorkedCard::default()
+    let none = float::no_split();
+    WorkedCard {
+        sn: none,
+        bulk: none,
+        side: none,
+        nonideal: none,
+        ex: none,
+        sub: none,
+        sf: none,
+        rex: none,
+        rsub: none,
+        reverse: none,
+        ge: none,
+        gbc: none,
+        gcc: none,
+        gblx: none,
+        gbli: none,
+        ..WorkedCard::default()
+    }
 }
 
 // What loading says of a record, its name and its place apart: 1, 6, 7, 8, 19, 9, 10.

@@ -176,6 +176,8 @@ fn read<R: Read>(from: &mut R, bytes: &mut [u8; READ]) -> usize {
 
 // Reads all that can be read. Nothing says that the input ends: the turns are counted to a number that no run uses up.
 // A line end is put where the input ends, so that a last line that lacks its own is ended.
+// (kept out of its callers, so that the room of one reader does not stand below that of another)
+#[inline(never)]
 pub fn run<R: Read>(rt: &HostRuntime, from: &mut R) -> io::Result<()> {
     let mut bytes = [0u8; READ];
     let mut line = Line {

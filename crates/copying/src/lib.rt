@@ -14,7 +14,9 @@ pub fn copy(src: &[u8], dst: &mut [u8])
     requires { length src.now ≤ length dst.old }
     ensures { dst.new ≡ over src.now dst.old }
 {
-    dst[..src.len()].copy_from_slice(src);
+    for (i, b) in src.iter().enumerate() {
+        dst[i] = *b;
+    }
 }
 
 // Puts the words that bytes spell at the start of a buffer.

@@ -1,7 +1,7 @@
 // A transistor worked: its currents, and by what it overloads; and currents put into sums at its nodes.
 #![tactic(auto)]
 
-ghost use Rattle.std.specs.Prelude.{◌≡◌, Some, map, ◌<◌, length, get_or};
+ghost use Rattle.std.specs.Prelude.{◌≡◌, map, ◌<◌, length, get_or};
 ghost use Rattle.volts.specs.Volts.{given_back};
 ghost use Rattle.totals.specs.OfTerms.Rows.{roles, branches};
 ghost use Rattle.dealing.specs.OfRows.Outcome.{is_over, drawn_by};
@@ -75,11 +75,12 @@ pub fn is_over(o: Option<Over>) -> bool
 }
 
 // The refusal that an overload draws for the transistor of this number.
-pub fn refusal_of(issue: u32, o: Over) -> Refusal
-    ensures { result ≡ drawn_by issue (Some o) }
+pub fn refusal_of(issue: u32, o: Option<Over>) -> Refusal
+    ensures { result ≡ drawn_by issue o }
 {
     match o {
-        Over::Ticks(k) => Refusal::Overload(issue, k),
-        Over::Injection(k) => Refusal::Injection(issue, k),
+        None => Refusal::Overload(issue, 0),
+        Some(Over::Ticks(k)) => Refusal::Overload(issue, k),
+        Some(Over::Injection(k)) => Refusal::Injection(issue, k),
     }
 }

@@ -16,7 +16,7 @@ use Rattle.std.proofs.Math.Seq.{set-append_seam}
 use native.Mathlib.Omega.{arith}
 use Rattle.bytes_le.specs.Buffer.{over}
 use Rattle.page.specs.declared.Page.{Page}
-use Rattle.page.specs.Page.{page, byte_if, with_byte, with_bytes, Writes}
+use Rattle.page.specs.Page.{page, byte_if, with_byte, with_bytes, Writes, WritesAfter}
 
 -- the same bytes by another name
 pub as_bytes : {N : ℕ} {x y : List ℕ} {old new : Page N} → x ≡ y → Writes x old new → Writes y old new
@@ -30,6 +30,10 @@ write_two p (x ∷ a) b = write_two (with_byte p x) a b
 pub then : {N : ℕ} {a b : List ℕ} {old mid new : Page N} → Writes a old mid → Writes b mid new → Writes (a ++ b) old new
 then {N} {a} {b} {old} p q =
     record { written = q.written ∙ ap (λ (x : Page N). with_bytes x b) p.written ∙ sym (write_two old a b) }
+
+pub then_after : {a b old mid new : List ℕ} {at on end : ℕ} → WritesAfter a old at mid on → WritesAfter b mid on new end
+    → WritesAfter (a ++ b) old at new end
+then_after p q = record { on_page = λ n. then (p.on_page n) (q.on_page n) }
 
 pub write_nothing : {N : ℕ} {old : Page N} → Writes [] old old
 unfolding with_bytes

@@ -20,3 +20,7 @@ with_bytes p (b ∷ l) = with_bytes (with_byte p b) l
 -- l is written on the page old, after the bytes that are used there; it is then new
 pub record Writes {N : ℕ} (l : List ℕ) (old new : Page N) : Type 0 where
   pub written : new ≡ with_bytes old l
+
+-- l is written in a lent buffer after the first `at` bytes of old, which is then new, with `end` bytes used
+pub record WritesAfter (l old : List ℕ) (at : ℕ) (new : List ℕ) (end : ℕ) : Type 0 where
+  pub on_page : (n : ℕ) → Writes {N = n} l (page old at) (page new end)

@@ -1,7 +1,7 @@
 // The lines that quote what they were given: a line that is no command, a file that cannot be read, a model line.
 #![tactic(auto)]
 
-ghost use Rattle.page.specs.Page.{Writes};
+ghost use Rattle.page.specs.Page.{Writes, WritesAfter};
 ghost use Rattle.quoting.specs.Quotes.{error_line, unreadable_line, model_line};
 
 use page::Page;
@@ -22,15 +22,29 @@ pub fn error_line<const N: usize>(first: &[u8], page: &mut Page<N>)
 pub fn unreadable_line<const N: usize>(path: &[u8], page: &mut Page<N>)
     ensures { Writes (unreadable_line path.now) page.old page.new }
 {
-    page.put(b"error cannot read ");
-    page.put(path);
-    page.put(b"\n");
+    page.used = unreadable_after(path, &mut page.bytes, page.used);
+}
+
+// The same in a lent buffer after its first `at` bytes; gives how many bytes are used then.
+pub fn unreadable_after(path: &[u8], out: &mut [u8], at: usize) -> usize
+    ensures { WritesAfter (unreadable_line path.now) out.old at out.new result }
+{
+    let start = page::put(b"error cannot read ", out, at);
+    let named = page::put(path, out, start);
+    page::put(b"\n", out, named)
 }
 
 // The model line of a card; what the page has no room for is left out.
 pub fn model_line<const N: usize>(line: &[u8], page: &mut Page<N>)
     ensures { Writes (model_line line.now) page.old page.new }
 {
-    page.put(line);
-    page.put(b"\n");
+    page.used = model_after(line, &mut page.bytes, page.used);
+}
+
+// The same in a lent buffer after its first `at` bytes; gives how many bytes are used then.
+pub fn model_after(line: &[u8], out: &mut [u8], at: usize) -> usize
+    ensures { WritesAfter (model_line line.now) out.old at out.new result }
+{
+    let ended = page::put(line, out, at);
+    page::put(b"\n", out, ended)
 }

@@ -38,5 +38,12 @@ pub fn prepare(c: WorkedCard) -> Ready
 pub fn no_ready() -> Ready
     ensures { result ≡ no_ready }
 {
-    Ready::default()
+    let none = octave::no_reciprocal();
+    Ready {
+        card: card::no_card(),
+        plain: none,
+        second: none,
+        doubled: none,
+        ..Ready::default()
+    }
 }

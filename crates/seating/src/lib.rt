@@ -55,7 +55,7 @@ pub fn place(
     let table = octave::table();
     let own = match settle::work(&table, numbers, powers, ticks, switches, at, &on, &kept) {
         Ok(own) => own,
-        Err(over) => return Err(settle::refusal_of(issue, over)),
+        Err(over) => return Err(settle::refusal_of(issue, Some(over))),
     };
     let mut coming = [0i64; NODES];
     settle::put_in(&mut coming, &on, &own);

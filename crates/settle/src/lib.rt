@@ -19,13 +19,13 @@ pub struct First {
 pub fn earlier_of(a: Option<First>, issue: u32, over: Option<Over>) -> Option<First>
     ensures { result ≡ earlier a issue over }
 {
-    let Some(over) = over else {
+    if !is_over(over) {
         return a;
-    };
+    }
     if let Some(first) = a {
         if first.issue <= issue {
             return a;
         }
     }
-    Some(First { issue, over })
+    over.map(|over| First { issue, over })
 }

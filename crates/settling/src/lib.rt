@@ -71,7 +71,7 @@ fn settle_from(
         let Some(first) = first else {
             return standing::stand_in(totals, coming, going, set < FEW);
         };
-        return Err(settle::refusal_of(first.issue, first.over));
+        return Err(settle::refusal_of(first.issue, Some(first.over)));
     }
     let s = seats[i] as usize;
     let on = sets::nodes_at(nodes, i);

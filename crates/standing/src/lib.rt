@@ -48,7 +48,9 @@ pub fn put_totals(totals: &mut [i64], next: &[i64; NODES])
     requires next_len { length next.now ≡ nodes_most }
     ensures { totals.new ≡ next.now }
 {
-    totals.copy_from_slice(next);
+    for (k, total) in next.iter().enumerate() {
+        totals[k] = *total;
+    }
 }
 
 // Each of 32 totals with what comes in at its node and less what goes out there, in place: all are written, or none
